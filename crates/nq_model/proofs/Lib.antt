@@ -1,3 +1,5 @@
 pub mod Bags
 pub mod Sameness
 pub mod Orders
+pub mod Canonical
+pub mod Rows

@@ -1,12 +1,14 @@
 -- Laws of sorting by a comparison, and of labels in byte order.
-use Rattle.std.proofs.Common.{◌≡◌, ◌≢◌, ℕ, suc, ◌<◌, ◌≤◌, List, [], ◌∷◌, ◌++◌, map, refl, sym, ap, ◌∙◌, subst, Bool, true, false, cond, length, arith, true≢false, zip}
+use Rattle.std.proofs.Common.{◌≡◌, ◌≢◌, ℕ, suc, ◌<◌, ◌≤◌, List, [], ◌∷◌, ◌++◌, map, refl, sym, ap, ◌∙◌, subst, Bool, true, false, cond, length, arith, true≢false, zip, zero, get_or, insert, ap₂, ◌+◌, ◌-◌, All}
 use Rattle.std.specs.declared.cmp.Ordering.{Ordering}
 use Rattle.std.specs.declared.cmp.Ordering.TheVariants.{Less, Equal, Greater}
 use Rattle.std.specs.Ordering.{is_gt, is_lt, ordering_reverse, nat_cmp}
 use Rattle.std.specs.Cmp.{IsTotalOrder, upto, tied_itself}
-use Rattle.std.specs.List.{AllByRecursion as Each}
+use Rattle.std.specs.List.{AllByRecursion as Each, range_with_len}
+use Rattle.std.proofs.lemmas.List.Elements.{All-cons}
+use Rattle.std.proofs.lemmas.List.Sorted.{All-permutation, IsPermutation-insert}
 use Rattle.nq_model.specs.Bags.{Pick, here, there, Matched, Reordered}
-use Rattle.nq_model.specs.Orders.{put_by, sorted_by, label_cmp, by_label, AreDistinct, AreRising}
+use Rattle.nq_model.specs.Orders.{put_by, sorted_by, label_cmp, label_at, place_cmp, label_order, by_label}
 
 -- a comparison by which two elements tie only where they are one
 pub record IsStrictOrder {A : Type 0} (cmp : A → A → Ordering) : Type 0 where
@@ -131,3 +133,45 @@ pub sorted_mapped : {A B : Type 0} (f : A → B) (by : A → A → Ordering) (cm
 sorted_mapped f by cmp same [] = refl
 sorted_mapped f by cmp same (x ∷ xs) =
     ap (put_by cmp (f x)) (sorted_mapped f by cmp same xs) ∙ put_mapped f by cmp same x (sorted_by by xs)
+
+-- one more place, put where it belongs
+pub places_more : (cmp : ℕ → ℕ → Ordering) (p n at : ℕ) (order more : List ℕ) → 0 < p → p ≤ n → more ≡ insert order at (p - 1)
+    → insert order at (p - 1) ≡ put_by cmp (p - 1) order → order ≡ sorted_by cmp (range_with_len p (n - p))
+    → more ≡ sorted_by cmp (range_with_len (p - 1) (n - (p - 1)))
+places_more cmp p n at order more some within is put known =
+    let count : n - (p - 1) ≡ suc (n - p) = omega arith in
+    let next : (p - 1) + 1 ≡ p = omega arith in
+    rw (count, next) (is ∙ put ∙ ap (put_by cmp (p - 1)) known)
+
+-- a fact of each element stays with one more
+pub All-inserted : {A : Type 0} (P : A → Type 0) (xs more : List A) (at : ℕ) (x : A) → more ≡ insert xs at x → P x → All P xs → All P more
+All-inserted P xs more at x is holds all =
+    let Q : List _ → Type 0 = λ ys. All P ys in
+    subst Q (sym is) (All-permutation P (x ∷ xs) (insert xs at x) (IsPermutation-insert xs at x) (All-cons P x xs holds all))
+
+-- the label at a place, with what stands beside it
+abbrev pub pair_at : {X : Type 0} → X → List (List ℕ) → List X → ℕ → List ℕ × X
+pair_at d labels xs i = (label_at labels i, get_or xs i d)
+
+-- what stands beside labels, arranged by the order of their labels
+zip_places : {X : Type 0} (d : X) (labels : List (List ℕ)) (xs : List X) → length xs ≡ length labels
+    → zip labels xs ≡ map (pair_at d labels xs) (range_with_len 0 (length labels))
+zip_places d [] [] e = refl
+zip_places d [] (x ∷ xs) e = absurd (omega (arith, e))
+zip_places d (l ∷ labels) [] e = absurd (omega (arith, e))
+zip_places {X} d (l ∷ labels) (x ∷ xs) e =
+    ap (λ (ps : List (List ℕ × X)). (l, x) ∷ ps) (zip_places d labels xs (omega (arith, e)) ∙ later (length labels) 0)
+  where
+    later : (n k : ℕ) → map (pair_at d labels xs) (range_with_len k n) ≡ map (pair_at d (l ∷ labels) (x ∷ xs)) (range_with_len (k + 1) n)
+    later zero k = refl
+    later (suc n) k =
+        let same : k + 1 ≡ suc k = omega arith in
+        let P : ℕ → Type 0 = λ j. pair_at d labels xs k ≡ pair_at d (l ∷ labels) (x ∷ xs) j in
+        let first : P (k + 1) = subst P (sym same) refl in
+        ap₂ (λ p (ps : List (List ℕ × X)). p ∷ ps) first (later n (k + 1))
+
+pub by_label_arranged : {X : Type 0} (d : X) (labels : List (List ℕ)) (xs : List X) → length xs ≡ length labels
+    → by_label (zip labels xs) ≡ map (pair_at d labels xs) (label_order labels)
+by_label_arranged d labels xs e =
+    ap by_label (zip_places d labels xs e)
+    ∙ sorted_mapped (pair_at d labels xs) (place_cmp labels) (λ f g. label_cmp f.0 g.0) (λ i j. refl) (range_with_len 0 (length labels))

@@ -4,14 +4,16 @@
 mod laws;
 mod list;
 mod memory;
+mod order;
 mod table;
 mod text;
 mod ty;
 mod value;
 
-pub use laws::sameness_laws;
+pub use laws::{canonical_laws, sameness_laws};
 pub use list::List;
 pub use memory::{Memory, boxed};
+pub use order::label_order;
 pub use table::{Cell, ColumnType, Schema, Table, TableShape};
 pub use text::{Label, Text};
 pub use ty::Ty;
