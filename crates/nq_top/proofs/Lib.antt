@@ -1,0 +1,2 @@
+pub mod FirstForms
+pub mod Columns

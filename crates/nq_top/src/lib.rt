@@ -1,0 +1,5 @@
+//! The top call.
+#![tactic(auto)]
+
+mod first_form;
+mod pieces;
