@@ -1,0 +1,4 @@
+pub mod Edge
+pub mod HeldInputs
+pub mod HeldSink
+pub mod Lines
