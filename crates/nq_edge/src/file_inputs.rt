@@ -1,5 +1,7 @@
 // Inputs over files, which do not tell their content.
-ghost use Rattle.std.specs.Prelude.{◌≡◌, ◌≤◌, length, IfOk, None, refl};
+ghost use Rattle.std.specs.Prelude.{◌≡◌, ◌≤◌, ◌+◌, length, IfOk, IfSome, None, Some, refl};
+ghost use Rattle.nq_edge.specs.Edge.{FetchAnswers};
+ghost use Rattle.nq_edge.specs.Streams.{LosesAtMost};
 
 use crate::inputs::{FetchFault, Inputs};
 use nq_model::List;
@@ -32,6 +34,8 @@ impl<'a, R: Files> FileInputs<'a, R> {
 // Reads a source to its end, or to one byte more than the limit.
 fn read_up_to<F: Read>(alloc: Global, source: &mut F, limit: u64) -> Result<List<u8>, FetchFault>
     ensures bound { IfOk result (λ bytes. length bytes ≤ limit) }
+    ensures answers { IfSome (F.remaining source.old) (λ bytes. FetchAnswers (Some bytes) limit result) }
+    ensures takes { LosesAtMost (limit + 1) (F.remaining source.old) (F.remaining source.new) }
 {
     let mut bytes = List::new(alloc);
     let mut buffer = [0u8; CHUNK];
