@@ -1,4 +1,5 @@
 pub mod Edge
+pub mod FileInputs
 pub mod HeldInputs
 pub mod HeldSink
 pub mod Lines

@@ -31,7 +31,8 @@ impl<'a, R: Files> FileInputs<'a, R> {
     }
 }
 
-// Reads a source to its end, or to one byte more than the limit.
+// Reads a source to its end, or to one byte more than the limit. A read that is interrupted has
+// failed.
 fn read_up_to<F: Read>(alloc: Global, source: &mut F, limit: u64) -> Result<List<u8>, FetchFault>
     ensures bound { IfOk result (λ bytes. length bytes ≤ limit) }
     ensures answers { IfSome (F.remaining source.old) (λ bytes. FetchAnswers (Some bytes) limit result) }
@@ -58,11 +59,13 @@ fn read_up_to<F: Read>(alloc: Global, source: &mut F, limit: u64) -> Result<List
 }
 
 impl<R: Files> Inputs for FileInputs<'_, R> {
+    ghost use Rattle.nq_edge.specs.FileInputs.{file_faults};
+
     ghost held = { λ _. None };
 
     ghost fetched = { λ _. None };
 
-    ghost faults = { λ inputs. inputs.faults };
+    ghost faults = { file_faults };
 
     ghost both = { λ _. refl };
 

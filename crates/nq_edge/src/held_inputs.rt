@@ -91,7 +91,7 @@ fn bytes_under<'a>(files: &'a [(Text, List<u8>)], name: &str) -> Option<&'a List
 }
 
 impl Inputs for HeldInputs {
-    ghost use Rattle.nq_edge.specs.HeldInputs.{held_files, held_fetched, held_faults, fails_next, FailsWhere};
+    ghost use Rattle.nq_edge.specs.HeldInputs.{held_files, held_failing, held_fetched, held_faults, fails_next, FailsWhere};
 
     ghost held = { λ inputs. Some (held_files inputs) };
 
@@ -110,6 +110,7 @@ impl Inputs for HeldInputs {
 
         // Which calls fail, so that a test can tell.
         ensures failed { FailsWhere (fails_next self.old name.now) result }
+        ensures failing { held_failing self.new ≡ held_failing self.old }
     {
         match self.answer(alloc, name, limit) {
             Ok(bytes) => {

@@ -17,3 +17,6 @@ pub use inputs::{FetchFault, Inputs};
 pub use line::{put_five, put_four, put_one, put_three, put_two};
 pub use sink::{PutFault, Sink};
 pub use std_sink::StdSink;
+
+#[cfg(test)]
+mod tests;

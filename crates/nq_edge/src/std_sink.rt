@@ -6,7 +6,8 @@ ghost use Rattle.nq_edge.specs.Streams.{Writes};
 use crate::sink::{PutFault, Sink};
 use std::io::Write;
 
-/// A writer, to which all of each piece is written. Nothing is told of its content.
+/// A writer, to which all of each piece is written. Nothing is told of its content, and it is not
+/// flushed.
 #[derive(Drop)]
 pub struct StdSink<W: Write + Drop> {
     to: W,
@@ -14,8 +15,11 @@ pub struct StdSink<W: Write + Drop> {
 }
 
 impl<W: Write + Drop> StdSink<W> {
+    ghost use Rattle.nq_edge.specs.StdSink.{sink_writer};
+
     /// A sink over this writer.
     pub fn new(to: W) -> StdSink<W>
+        ensures writer { sink_writer result ≡ to }
         ensures written { ⟦<StdSink<W> as Sink>⟧.written result ≡ None }
         ensures faults { ⟦<StdSink<W> as Sink>⟧.faults result ≡ 0 }
     {
