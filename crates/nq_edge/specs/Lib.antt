@@ -1,0 +1,7 @@
+pub mod Edge
+pub mod FileInputs
+pub mod HeldInputs
+pub mod HeldSink
+pub mod Lines
+pub mod StdSink
+pub mod Streams
