@@ -1,11 +1,14 @@
 -- The pieces of a text, from the front.
-use Rattle.std.proofs.Common.{◌≡◌, ◌<◌, ◌≤◌, ◌+◌, ℕ, zero, suc, Bool, true, false, List, [], ◌∷◌, ◌++◌, length, take, drop, cond, refl, sym, ap, ◌∙◌, arith, ◌&&◌, nat_le, true≢false, slice_index, drop-cons}
-use Rattle.std.specs.List.{prefix_len}
+use Rattle.std.proofs.Common.{◌≡◌, ◌<◌, ◌≤◌, ◌+◌, ℕ, zero, suc, Bool, true, false, List, [], ◌∷◌, ◌++◌, length, take, drop, cond, refl, sym, ap, ◌∙◌, arith, ◌&&◌, nat_le, true≢false, slice_index, drop-cons, ◌≢◌, ◌||◌, not}
+use Rattle.std.specs.List.{prefix_len, list_any, AllByRecursion as Each}
+use Rattle.std.proofs.lemmas.Slice.Eq.{bytes_eq-Decides}
+use Rattle.nq_model.specs.Orders.{AreDistinct}
+use Rattle.nq_model.specs.Tables.{Columns, names_of}
 use Rattle.std.proofs.lemmas.Bool.Decides.{nat_tests}
 use Rattle.std.proofs.lemmas.List.{drop_all}
-use Rattle.std.specs.Str.{is_utf8, IsUtf8}
+use Rattle.std.specs.Str.{is_utf8, IsUtf8, bytes_eq}
 use Rattle.std.proofs.lemmas.Str.{IsUtf8-from_is_utf8, is_utf8-from_IsUtf8}
-use Rattle.nq_top.specs.FirstForm.{is_blank, is_word_start, is_word_byte, begins_in_word, with_byte, pieces}
+use Rattle.nq_top.specs.FirstForm.{is_blank, is_word_start, is_word_byte, begins_in_word, with_byte, pieces, differ, is_table}
 
 word_is_not_blank : (b : ℕ) → is_word_byte b ≡ true → is_blank b ≡ false
 word_is_not_blank b word = grind (arith, nat_tests)
@@ -68,3 +71,28 @@ pub not_utf8 : (bytes : List ℕ) → (IsUtf8 bytes → ⊥) → is_utf8 bytes �
 not_utf8 bytes never = not_utf8_by (is_utf8 bytes) (λ e. never (IsUtf8-from_is_utf8 bytes e))
 
 pub ruleset utf8_rules = (not_utf8, is_utf8-from_IsUtf8)
+
+both_true : (a b : Bool) → (a && b) ≡ true → (a ≡ true) × (b ≡ true)
+both_true true b h = (refl, h)
+both_true false b h = cc
+
+none_equal : (l : List ℕ) (ls : List (List ℕ)) → not (list_any (λ m. bytes_eq l m) ls) ≡ true → Each (λ m. l ≢ m) ls
+none_equal l [] h = tt
+none_equal l (m ∷ ls) h = go (bytes_eq l m) refl h (λ f. none_equal l ls f)
+  where
+    go : (b : Bool) → bytes_eq l m ≡ b → not (b || list_any (λ k. bytes_eq l k) ls) ≡ true
+        → (not (list_any (λ k. bytes_eq l k) ls) ≡ true → Each (λ k. l ≢ k) ls) → Each (λ k. l ≢ k) (m ∷ ls)
+    go true e f later = absurd (true≢false (sym f))
+    go false e f later =
+        let other : l ≢ m = λ same. true≢false (sym ((bytes_eq-Decides l m).1 same) ∙ e) in
+        (other, later f)
+
+-- names that differ by the test are distinct
+pub differ_distinct : (ls : List (List ℕ)) → differ ls ≡ true → AreDistinct ls
+differ_distinct [] h = tt
+differ_distinct (l ∷ ls) h =
+    let parts = both_true (not (list_any (λ m. bytes_eq l m) ls)) (differ ls) h in
+    (none_equal l ls parts.0, differ_distinct ls parts.1)
+
+pub table_distinct : (columns : Columns) → is_table columns ≡ true → AreDistinct (names_of columns)
+table_distinct columns h = differ_distinct (names_of columns) (both_true (nat_le (length columns) 64) (differ (names_of columns)) h).1

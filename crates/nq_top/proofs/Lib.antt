@@ -1,2 +1,3 @@
 pub mod FirstForms
 pub mod Columns
+pub mod Gathers

@@ -1,2 +1,9 @@
+pub mod Commands
 pub mod FirstForm
 pub mod FirstFormSteps
+pub mod Tables
+pub mod Words
+pub mod Refusals
+pub mod Judging
+pub mod Gathering
+pub mod Meanings

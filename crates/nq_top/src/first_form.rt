@@ -1,7 +1,8 @@
 // Schemas and queries of the first form: one table without a key or a comment, and `table NAME`.
-ghost use Rattle.std.specs.Prelude.{◌≡◌, ◌≤◌, ◌↔◌, ◌++◌, ◌∷◌, ◌&&◌, [], List, ℕ, Bool, true, false, IfOk, IsTrue, MatchOption, Some, None, map, option_map, codes, length, nat_le, cond};
+ghost use Rattle.std.specs.Prelude.{◌≡◌, ◌≤◌, ◌↔◌, ◌++◌, ◌∷◌, ◌&&◌, [], List, ℕ, Bool, true, false, IfOk, IfSome, IsTrue, MatchOption, Some, None, map, option_map, codes, length, nat_le, cond};
 ghost use Rattle.std.specs.List.{list_any};
 ghost use Rattle.std.specs.Str.{bytes_eq, is_utf8};
+ghost use Rattle.nq_model.specs.Orders.{AreDistinct};
 ghost use Rattle.nq_model.specs.Tables.{names_of};
 ghost use Rattle.nq_top.specs.FirstForm.{is_word, is_name, column_type, columns_of, columns_after, is_end, is_table_query, differ, first_schema, is_first_query, is_table, shape_of, with_columns, with_column, without_mark, pieces};
 ghost use Rattle.nq_top.specs.FirstFormSteps.{ReadsColumn};
@@ -144,15 +145,18 @@ fn columns_of(alloc: Global, pieces: &[&[u8]]) -> Result<Option<List<(Label, Col
 }
 
 // Whether columns make a table: at most 64 of them, which differ in name.
+#[tactic(auto, using(crate::proofs::FirstForms::table_distinct))]
 fn is_table(columns: &[(Label, ColumnType)]) -> bool
-    ensures { result ≡ is_table columns.now }
+    ensures same { result ≡ is_table columns.now }
+    ensures distinct { result ≡ true → AreDistinct (names_of columns.now) }
 {
     columns.len() <= LIMIT && differ(columns)
 }
 
 // The table that pieces make, if they make one.
 fn shape_of(alloc: Global, pieces: &[&[u8]]) -> Result<Option<TableShape>, Memory>
-    ensures { IfOk result (λ shape. shape ≡ shape_of (map (λ piece. piece.now) pieces.now)) }
+    ensures same { IfOk result (λ shape. shape ≡ shape_of (map (λ piece. piece.now) pieces.now)) }
+    ensures distinct { IfOk result (λ shape. IfSome shape (λ s. AreDistinct (names_of s.columns))) }
 {
     if pieces.len() < 3 {
         return Ok(None);
@@ -183,7 +187,8 @@ fn shape_of(alloc: Global, pieces: &[&[u8]]) -> Result<Option<TableShape>, Memor
 /// The table of a schema of the first form, if the text is one.
 #[tactic(auto, unfolding(crate::specs::FirstForm::first_schema))]
 pub fn first_schema(alloc: Global, text: &[u8]) -> Result<Option<TableShape>, Memory>
-    ensures { IfOk result (λ shape. shape ≡ first_schema text.now) }
+    ensures same { IfOk result (λ shape. shape ≡ first_schema text.now) }
+    ensures distinct { IfOk result (λ shape. IfSome shape (λ s. AreDistinct (names_of s.columns))) }
 {
     let found = pieces(alloc, text)?;
     shape_of(alloc, found.as_slice())

@@ -2,4 +2,9 @@
 #![tactic(auto)]
 
 mod first_form;
+mod gather;
 mod pieces;
+mod refusal;
+mod words;
+
+pub use refusal::{InputRefusal, Refusal, Refused, ServerRefusal};

@@ -1,0 +1,127 @@
+-- How the judgement of the inputs follows from the fetches.
+use Rattle.std.proofs.Common.{◌≡◌, ◌≢◌, ◌<◌, ◌≤◌, ◌+◌, ◌-◌, ℕ, suc, Bool, true, false, List, [], ◌∷◌, ◌++◌, length, map, Some, None, Option, Result, Ok, Err, arith, refl, sym, ap, subst, ◌∙◌, nat_lt, cond, append_assoc, append-nil, All, length-append}
+use Rattle.std.specs.Option.{option_map}
+use Rattle.std.specs.List.{AllByRecursion as Each}
+use Rattle.std.proofs.lemmas.List.Elements.{All-head, All-tail, All-push}
+use Rattle.std.proofs.lemmas.List.{map-append}
+use Rattle.nq_model.specs.Cells.{RowFits}
+use Rattle.nq_model.specs.Orders.{AreDistinct}
+use Rattle.nq_model.specs.Tables.{names_of, types_of}
+use Rattle.nq_model.specs.declared.table.Cell.{Cell}
+use Rattle.nq_model.specs.declared.table.TableShape.{TableShape}
+use Rattle.nq_edge.specs.Edge.{Files, bytes_at, IsLonger, TellsMore}
+use Rattle.sql_profile.specs.Servers.{table_names}
+use Rattle.sql_profile.specs.declared.server.Loaded.{Loaded}
+use Rattle.nq_top.specs.Judging.{Verdict, Judgement, refused, accepted, after, at_once, judged, fetched_then, built, loaded_as}
+use Rattle.nq_top.specs.Gathering.{Told, Judges, FetchedSome, FetchedUpTo, RefusalTells, GatherTells, FetchedWithin, FetchRefused, FetchNames, AreServable, CanGather}
+use Rattle.nq_top.specs.declared.gather.Gathered.{Gathered}
+use Rattle.nq_top.specs.declared.refusal.Refused.{Refused}
+use Rattle.nq_top.specs.declared.refusal.Refused.TheVariants.{TooLong, NotBuilt}
+use Rattle.nq_top.specs.declared.refusal.InputRefusal.{InputRefusal}
+use Rattle.nq_top.specs.declared.refusal.InputRefusal.TheVariants as input
+
+-- what is told grows by one list and then by another
+pub tells_then : {A : Type 0} (a b c : Option (List A)) (xs ys : List A) → TellsMore a b xs → TellsMore b c ys → TellsMore a c (xs ++ ys)
+tells_then None b c xs ys p q = record { told = q.told ∙ ap (option_map (λ (all : List _). all ++ ys)) p.told }
+tells_then (Some a) b c xs ys p q =
+    record { told = q.told ∙ ap (option_map (λ (all : List _). all ++ ys)) p.told ∙ ap (λ (all : List _). Some all) (append_assoc a xs ys) }
+
+-- nothing more is told
+pub tells_nothing : {A : Type 0} (a b : Option (List A)) → b ≡ a → TellsMore a b []
+tells_nothing None b same = record { told = same }
+tells_nothing (Some a) b same = record { told = same ∙ ap (λ (all : List _). Some all) (sym (append-nil a)) }
+
+-- what a refusal tells of what came after a fetch, it tells of the whole
+pub refusal_after : (name : List ℕ) (later : Judgement) (old mid new : Told) (r : InputRefusal) → TellsMore old mid (name ∷ [])
+    → RefusalTells later mid new r → RefusalTells (after name later) old new r
+refusal_after name later old mid new input.Memory here tells =
+    record { front = name ∷ tells.front; back = tells.back; all = ap (λ (ns : List (List ℕ)). name ∷ ns) tells.all; fetched = tells_then old mid new (name ∷ []) tells.front here tells.fetched }
+refusal_after name later old mid new (input.Refused r) first tells =
+    record { comes_to = tells.comes_to; fetched = tells_then old mid new (name ∷ []) later.names first tells.fetched }
+refusal_after name later old mid new (input.Failed failed) first tells =
+    record { front = name ∷ tells.front; back = tells.back; all = ap (λ (ns : List (List ℕ)). name ∷ ns) tells.all; fetched = tells_then old mid new (name ∷ []) (tells.front ++ failed ∷ []) first tells.fetched }
+
+pub gather_after : (name : List ℕ) (later : Judgement) (old mid new : Told) (result : Result Gathered InputRefusal) → TellsMore old mid (name ∷ [])
+    → GatherTells later mid new result → GatherTells (after name later) old new result
+gather_after name later old mid new (Ok gathered) first tells =
+    record { comes_to = tells.comes_to; fetched = tells_then old mid new (name ∷ []) later.names first tells.fetched }
+gather_after name later old mid new (Err r) first tells = refusal_after name later old mid new r first tells
+
+within_limit : (b : Bool) (x y : Judgement) → b ≡ false → cond b x y ≡ y
+within_limit true x y e = absurd (cc)
+within_limit false x y e = refl
+
+not_above : (m n : ℕ) → n ≤ m → nat_lt m n ≡ false
+not_above m n h = grind (arith, h)
+
+-- an input within its limit is judged by what comes next
+pub fetch_next : (files : Files) (name : List ℕ) (limit : ℕ) (next : List ℕ → Judgement) (bytes : List ℕ)
+    → FetchedWithin (bytes_at files name) limit bytes → fetched_then files name limit next ≡ after name (next bytes)
+unfolding fetched_then
+fetch_next files name limit next bytes h =
+    rw h.is (ap (after name) (within_limit (nat_lt limit (length bytes)) (at_once (refused (TooLong name limit))) (next bytes) (not_above limit (length bytes) h.within)))
+
+over_limit : (held : Option (List ℕ)) (name : List ℕ) (limit : ℕ) (next : List ℕ → Judgement)
+    → IsLonger limit held → judged name limit next held ≡ after name (at_once (refused (TooLong name limit)))
+over_limit None name limit next long = absurd long
+over_limit (Some bytes) name limit next long =
+    let longer : nat_lt limit (length bytes) ≡ true = grind (arith, long) in
+    rw longer refl
+
+-- the first name of what is judged is that of the input
+judged_names : (held : Option (List ℕ)) (name : List ℕ) (limit : ℕ) (next : List ℕ → Judgement)
+    → (back : List (List ℕ)) × ((judged name limit next held).names ≡ name ∷ back)
+judged_names None name limit next = ([], refl)
+judged_names (Some bytes) name limit next = ((cond (nat_lt limit (length bytes)) (at_once (refused (TooLong name limit))) (next bytes)).names, refl)
+
+-- a refused fetch is a refusal of the whole
+pub fetch_refused : (files : Files) (name : List ℕ) (limit : ℕ) (next : List ℕ → Judgement) (old new : Told) (r : InputRefusal)
+    → FetchRefused (bytes_at files name) name limit r → FetchNames {T = List ℕ} name old new (Err r)
+    → RefusalTells (fetched_then files name limit next) old new r
+unfolding fetched_then
+fetch_refused files name limit next old new input.Memory says fetched =
+    record { front = []; back = (judged name limit next (bytes_at files name)).names; all = refl; fetched = tells_nothing old new fetched }
+fetch_refused files name limit next old new (input.Refused r) says fetched =
+    let is = over_limit (bytes_at files name) name limit next says.1 in
+    record { comes_to = ap (λ (j : Judgement). j.verdict) is ∙ ap refused (sym says.0); fetched = rw is fetched }
+fetch_refused files name limit next old new (input.Failed failed) says fetched =
+    let names = judged_names (bytes_at files name) name limit next in
+    let P : List ℕ → Type 0 = λ n. TellsMore old new (n ∷ []) in
+    record { front = []; back = names.0; all = names.1 ∙ ap (λ (n : List ℕ). n ∷ names.0) (sym says); fetched = subst P (sym says) fetched }
+
+-- what is not of the form ends the judgement
+pub not_built : {T : Type 0} (o : Option T) (next : T → Judgement) → o ≡ None → built o next ≡ at_once (refused NotBuilt)
+not_built None next e = refl
+not_built (Some x) next e = absurd (cc)
+
+pub built_next : {T : Type 0} (o : Option T) (x : T) (next : T → Judgement) → o ≡ Some x → built o next ≡ next x
+built_next None x next e = absurd (cc)
+built_next (Some y) x next e = let same : y ≡ x = cc in ap next same
+
+-- one more table was read
+pub can_gather_more : (done : List Loaded) (shape : TableShape) (shapes : List TableShape) (asked : ℕ) (rows : List (List Cell))
+    → CanGather done (shape ∷ shapes) asked → All (RowFits (types_of shape.columns)) rows → CanGather (done ++ loaded_as shape rows ∷ []) shapes asked
+can_gather_more done shape shapes asked rows can fit =
+    let table : Loaded = loaded_as shape rows in
+    let P : List (List ℕ) → Type 0 = AreDistinct in
+    let names : table_names done ++ map (λ s. s.name) (shape ∷ shapes) ≡ table_names (done ++ table ∷ []) ++ map (λ s. s.name) shapes = sym (ap (λ (l : List (List ℕ)). l ++ map (λ s. s.name) shapes) (map-append (λ (t : Loaded). t.name) done (table ∷ [])) ∙ append_assoc (table_names done) (shape.name ∷ []) (map (λ s. s.name) shapes)) in
+    record {
+      among = let known = can.among in omega (arith, length-append done (table ∷ []), known);
+      names_differ = subst P names can.names_differ;
+      columns_differ = All-tail (λ (s : TableShape). AreDistinct (names_of s.columns)) shape shapes can.columns_differ;
+      done_differ = All-push (λ (t : Loaded). AreDistinct (names_of t.columns)) done table can.done_differ (All-head (λ (s : TableShape). AreDistinct (names_of s.columns)) shape shapes can.columns_differ);
+      done_fit = All-push (λ (t : Loaded). All (RowFits (types_of t.columns)) t.rows) done table can.done_fit fit;
+    }
+
+-- all tables were read
+pub can_gather_all : (done : List Loaded) (asked : ℕ) → CanGather done [] asked → AreServable done asked
+can_gather_all done asked can =
+    let P : List (List ℕ) → Type 0 = AreDistinct in
+    record {
+      among = let known = can.among in omega (arith, known);
+      names_differ = subst P (append-nil (table_names done)) can.names_differ;
+      columns_differ = can.done_differ;
+      fit = can.done_fit;
+    }
+
+pub ruleset gather_rules = (gather_after, refusal_after, fetch_next, fetch_refused, not_built, built_next, can_gather_more, can_gather_all, tells_nothing)

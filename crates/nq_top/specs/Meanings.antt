@@ -1,0 +1,36 @@
+-- What a query of a table means over tables, and the value that an answer stands for.
+use Rattle.std.specs.Prelude.{ℕ, Bool, true, false, ◌&&◌, List, [], ◌∷◌, map, filter, drop, zip, pos, slice_get, Option, Some, None}
+use Rattle.std.specs.Ordering.{int_eq}
+use Rattle.nq_model.specs.Orders.{by_label}
+use Rattle.nq_model.specs.Tables.{Columns, names_of, types_of, table_value}
+use Rattle.nq_model.specs.Values.{Nested, base, bag_of, rec_of}
+use Rattle.nq_model.specs.declared.table.Cell.{Cell}
+use Rattle.nq_model.specs.declared.table.Cell.TheVariants.{Int}
+use Rattle.nq_model.specs.declared.table.ColumnType.{ColumnType}
+use Rattle.nq_model.specs.declared.table.ColumnType.TheVariants as column
+use Rattle.sql_profile.specs.declared.server.Loaded.{Loaded}
+
+-- the meaning of `table t`, where t is the table at a place: the bag of its rows
+abbrev pub meaning_at : Option Loaded → Nested
+meaning_at None = bag_of []
+meaning_at (Some table) = table_value table.columns table.rows
+
+unfoldable pub query_meaning : List Loaded → ℕ → Nested
+query_meaning tables asked = meaning_at (slice_get tables asked)
+
+-- the types of the answer: those of the outer index, and those of the columns in byte order
+abbrev pub answer_types : Columns → List ColumnType
+answer_types columns = column.Int ∷ column.Int ∷ types_of (by_label columns)
+
+-- the outer index of a row is that of the top, tag 0 and number 1
+abbrev pub is_top : List Cell → Bool
+is_top (Int tag ∷ Int number ∷ cells) = int_eq tag (pos 0) && int_eq number (pos 1)
+is_top _ = false
+
+-- the element that a row stands for: its cells beside their labels
+abbrev pub element_of : List (List ℕ) → List Cell → Nested
+element_of labels row = rec_of (zip labels (map base (drop 2 row)))
+
+-- the bag that an answer stands for; rows of another index are not used
+unfoldable pub answer_value : List (List ℕ) → List (List Cell) → Nested
+answer_value labels rows = bag_of (map (element_of labels) (filter is_top rows))

@@ -1,0 +1,65 @@
+-- The status and the note line of a refusal.
+use Rattle.std.specs.Prelude.{ℕ, List, ◌++◌, codes, decimal, Result, Ok, Err}
+use Rattle.nq_top.specs.declared.refusal.Refused.{Refused}
+use Rattle.nq_top.specs.declared.refusal.Refused.TheVariants as refused
+use Rattle.nq_top.specs.declared.refusal.InputRefusal.{InputRefusal}
+use Rattle.nq_top.specs.declared.refusal.InputRefusal.TheVariants as input
+use Rattle.nq_top.specs.declared.refusal.ServerRefusal.{ServerRefusal}
+use Rattle.nq_top.specs.declared.refusal.ServerRefusal.TheVariants as server
+use Rattle.nq_top.specs.declared.refusal.Refusal.{Refusal}
+use Rattle.nq_top.specs.declared.refusal.Refusal.TheVariants as refusal
+
+abbrev pub refused_status : Refused → ℕ
+refused_status refused.Usage = 2
+refused_status (refused.TooLong name limit) = 10
+refused_status refused.NotBuilt = 13
+
+abbrev pub input_status : InputRefusal → ℕ
+input_status input.Memory = 1
+input_status (input.Refused r) = refused_status r
+input_status (input.Failed name) = 7
+
+abbrev pub server_status : ServerRefusal → ℕ
+server_status server.Memory = 1
+server_status (server.TableFailed name) = 9
+server_status (server.TextFailed text) = 9
+server_status (server.BadAnswer text row column) = 11
+
+abbrev pub refusal_status : Refusal → ℕ
+refusal_status (refusal.Input r) = input_status r
+refusal_status (refusal.Server r) = server_status r
+refusal_status refusal.OutputFailed = 8
+
+-- the status of an answer
+abbrev pub status_of : {T : Type 0} → Result T Refusal → ℕ
+status_of (Ok _) = 0
+status_of (Err r) = refusal_status r
+
+abbrev pub memory_note : List ℕ
+memory_note = codes "nq: want of memory\n"
+
+abbrev pub refused_note : Refused → List ℕ
+refused_note refused.Usage = codes "nq: usage\n"
+refused_note (refused.TooLong name limit) = codes "nq: input too long: " ++ (name ++ (codes " over " ++ (decimal limit ++ codes "\n")))
+refused_note refused.NotBuilt = codes "nq: not built\n"
+
+abbrev pub input_note : InputRefusal → List ℕ
+input_note input.Memory = memory_note
+input_note (input.Refused r) = refused_note r
+input_note (input.Failed name) = codes "nq: input failed: " ++ (name ++ codes "\n")
+
+-- the places of a bad answer
+abbrev pub misfit_note : ℕ → ℕ → List ℕ
+misfit_note row column = codes " row " ++ (decimal row ++ (codes " column " ++ (decimal column ++ codes "\n")))
+
+abbrev pub server_note : ServerRefusal → List ℕ
+server_note server.Memory = memory_note
+server_note (server.TableFailed name) = codes "nq: server failed: table " ++ (name ++ codes "\n")
+server_note (server.TextFailed text) = codes "nq: server failed: text " ++ (decimal text ++ codes "\n")
+server_note (server.BadAnswer text row column) = codes "nq: bad answer: text " ++ (decimal text ++ misfit_note row column)
+
+-- the note line of a refusal
+abbrev pub note_of : Refusal → List ℕ
+note_of (refusal.Input r) = input_note r
+note_of (refusal.Server r) = server_note r
+note_of refusal.OutputFailed = codes "nq: output failed\n"

@@ -1,0 +1,86 @@
+// Why a command gives no text.
+use nq_model::{Label, Memory, Text};
+
+/// What the words and the inputs are refused for.
+#[derive(Drop)]
+pub enum Refused {
+    /// The words are no listed form.
+    Usage,
+    /// The input of this name has more bytes than this limit.
+    TooLong(Text, u64),
+    /// The schema, the query or the table text is not of a form that is built.
+    NotBuilt,
+}
+
+/// Why no inputs were gathered.
+#[derive(Drop)]
+pub enum InputRefusal {
+    Memory,
+    Refused(Refused),
+    /// The input of this name was not read.
+    Failed(Text),
+}
+
+/// Why a server gave no answer that fits.
+#[derive(Drop)]
+pub enum ServerRefusal {
+    Memory,
+    /// The table of this name was not loaded.
+    TableFailed(Label),
+    /// The text of this number was not answered.
+    TextFailed(u64),
+    /// The answer to the text of this number does not fit, at this row and column.
+    BadAnswer { text: u64, row: u64, column: u64 },
+}
+
+/// Why a command gives no text.
+#[derive(Drop)]
+pub enum Refusal {
+    Input(InputRefusal),
+    Server(ServerRefusal),
+    OutputFailed,
+}
+
+impl From<Memory> for InputRefusal {
+    ghost use Rattle.std.specs.Prelude.{◌≡◌};
+    ghost use Rattle.nq_top.specs.declared.refusal.InputRefusal.TheVariants as refusal;
+
+    ghost from_gives = { λ _ e. e ≡ refusal.Memory };
+
+    fn from(_: Memory) -> InputRefusal {
+        InputRefusal::Memory
+    }
+}
+
+impl From<Memory> for ServerRefusal {
+    ghost use Rattle.std.specs.Prelude.{◌≡◌};
+    ghost use Rattle.nq_top.specs.declared.refusal.ServerRefusal.TheVariants as refusal;
+
+    ghost from_gives = { λ _ e. e ≡ refusal.Memory };
+
+    fn from(_: Memory) -> ServerRefusal {
+        ServerRefusal::Memory
+    }
+}
+
+impl From<InputRefusal> for Refusal {
+    ghost use Rattle.std.specs.Prelude.{◌≡◌};
+    ghost use Rattle.nq_top.specs.declared.refusal.Refusal.TheVariants as refusal;
+
+    ghost from_gives = { λ given e. e ≡ refusal.Input given };
+
+    fn from(given: InputRefusal) -> Refusal {
+        Refusal::Input(given)
+    }
+}
+
+impl From<ServerRefusal> for Refusal {
+    ghost use Rattle.std.specs.Prelude.{◌≡◌};
+    ghost use Rattle.nq_top.specs.declared.refusal.Refusal.TheVariants as refusal;
+
+    ghost from_gives = { λ given e. e ≡ refusal.Server given };
+
+    fn from(given: ServerRefusal) -> Refusal {
+        Refusal::Server(given)
+    }
+}
