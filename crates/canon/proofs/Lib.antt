@@ -1,1 +1,3 @@
 mod Shorter
+mod Sorting
+mod Canonical

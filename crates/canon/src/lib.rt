@@ -2,5 +2,7 @@
 #![tactic(auto)]
 
 mod order;
+mod sort;
 
 pub use order::compare;
+pub use sort::sort_deep;
