@@ -1,3 +1,4 @@
 mod Shorter
 mod Sorting
 mod Canonical
+mod Writing

@@ -3,6 +3,8 @@
 
 mod order;
 mod sort;
+mod text;
 
 pub use order::compare;
 pub use sort::sort_deep;
+pub use text::write;
