@@ -2,3 +2,4 @@ mod Shorter
 mod Sorting
 mod Canonical
 mod Writing
+mod Apart
