@@ -3,3 +3,5 @@ mod Sorting
 mod Canonical
 mod Writing
 mod Apart
+mod Sorted
+mod Typed

@@ -1,9 +1,10 @@
 // The canonical text.
 ghost use Rattle.std.specs.Prelude.{◌≡◌, ◌++◌, IfOk, OnOk, map, codes, string_bytes};
 ghost use Rattle.nq_model.specs.Values.{nested, rec_of, bag_of};
-ghost use Rattle.nq_model.specs.Canonical.{canonical, canonical_text, cell_text, written};
+ghost use Rattle.nq_model.specs.Canonical.{canonical_text, cell_text, written};
 ghost use Rattle.nq_model.specs.declared.table.Cell.TheVariants as cell;
 ghost use Rattle.canon.specs.Trees.{fields_view};
+ghost use Rattle.canon.specs.Sorted.{IsSortedDeep};
 ghost use Rattle.canon.specs.Texts.{separator};
 
 use nq_model::{Label, List, Memory, Value};
@@ -14,6 +15,7 @@ use std::alloc::Global;
 /// this is the canonical text.
 pub fn write(alloc: Global, value: &Value) -> Result<List<u8>, Memory>
     ensures text { IfOk result (λ text. text ≡ written (nested value.now) ++ codes "\n") }
+    ensures canonical { IfOk result (λ text. IsSortedDeep (nested value.now) → text ≡ canonical_text (nested value.now)) }
 {
     let mut text = String::new(alloc);
     write_value(&mut text, value)?;
