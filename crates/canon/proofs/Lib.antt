@@ -1,0 +1,7 @@
+mod Shorter
+mod Sorting
+mod Canonical
+mod Writing
+mod Apart
+mod Sorted
+mod Typed

@@ -1,0 +1,4 @@
+pub mod Trees
+pub mod Typed
+pub mod Sorted
+pub mod Texts

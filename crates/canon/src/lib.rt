@@ -1,0 +1,12 @@
+//! The canonical order of values, their canonical form and its text.
+#![tactic(auto)]
+
+mod laws;
+mod order;
+mod sort;
+mod text;
+
+pub use laws::{form_laws, text_laws};
+pub use order::compare;
+pub use sort::sort_deep;
+pub use text::write;
