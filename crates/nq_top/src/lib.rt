@@ -1,6 +1,7 @@
 //! The top call.
 #![tactic(auto)]
 
+mod answer;
 mod first_form;
 mod gather;
 mod pieces;
