@@ -108,3 +108,6 @@ impl SqlServer for ScanServer {
         Ok(Answer { rows })
     }
 }
+
+#[cfg(test)]
+mod tests;
