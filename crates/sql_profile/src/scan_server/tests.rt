@@ -1,10 +1,11 @@
 // A scan through a boxed server.
-ghost use Rattle.std.specs.Prelude.{◌≡◌, [], ◌∷◌, IfOk, All};
+ghost use Rattle.std.specs.Prelude.{◌≡◌, [], ◌∷◌, true, None, Err, IfOk, All, map};
+ghost use Rattle.nq_model.specs.Bags.{Reordered};
 ghost use Rattle.nq_model.specs.Cells.{RowFits};
 ghost use Rattle.nq_model.specs.Orders.{AreDistinct};
 ghost use Rattle.nq_model.specs.Tables.{names_of, types_of};
 ghost use Rattle.nq_model.specs.declared.table.ColumnType.TheVariants as column;
-ghost use Rattle.sql_profile.specs.Scans.{scan_text};
+ghost use Rattle.sql_profile.specs.Scans.{scan_row, scan_text};
 
 use super::*;
 use crate::server::{ask_text, load_table};
@@ -45,8 +46,8 @@ fn rows(alloc: Global) -> Result<List<List<Cell>>, Memory>
     Ok(rows)
 }
 
-// Loads the one table of a server, and asks a text.
-#[tactic(auto, using(crate::proofs::ScanLaws::scan_of_one))]
+// Loads a server as it is made with its one table, and asks the scan text: what a caller knows then.
+#[tactic(auto, using(crate::proofs::ScanLaws::scan_of_one, crate::proofs::ScanLaws::allowed_of_one))]
 fn scan(
     alloc: Global,
     mut server: Box<dyn SqlServer>,
@@ -57,6 +58,12 @@ fn scan(
     requires columns_differ { AreDistinct (names_of table.columns) }
     requires fits { All (RowFits (types_of table.columns)) table.rows }
     requires scan { text.now ≡ scan_text table.name table.columns }
+    requires honest { honest server ≡ true }
+    requires bound { bound server ≡ 0 }
+    requires untold { asks server ≡ None }
+    requires unfailed { failures server ≡ 0 }
+    ensures allowed { IfOk result (λ answer. Reordered (map (scan_row (names_of table.columns)) table.rows) answer.rows) }
+    ensures no_fault { result ≡ Err ServerFault.Failed → ⊥ }
 {
     load_table(alloc, &mut server, table)?;
     ask_text(alloc, &mut server, text)
@@ -81,7 +88,7 @@ fn answers_a_scan_with_every_duplicate(rt: HostRuntime) -> Result<(), Fail> {
             [Cell::Int(0), Cell::Int(1), Cell::Text(a), Cell::Int(7)] => {
                 assert_eq!(rt; a.as_str(), "x");
             }
-            _ => assert!(rt; false, "another row"),
+            _ => panic!(rt; "another row"),
         }
     }
     Ok(())
