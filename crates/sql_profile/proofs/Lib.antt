@@ -1,3 +1,4 @@
 pub mod Misfits
 pub mod ScanTexts
 pub mod ScanRows
+pub mod ScanLaws

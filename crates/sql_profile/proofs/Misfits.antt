@@ -1,6 +1,5 @@
 -- Laws of the first place where rows do not fit their types.
-use Rattle.std.proofs.Common.{◌≡◌, ◌≢◌, ◌⊎◌, ℕ, zero, suc, ◌+◌, ◌-◌, ◌<◌, ◌≤◌, List, [], ◌∷◌, Option, Some, None, map, take, length, slice_get, get_or, All, refl, sym, ap, ap₂, ◌∙◌, subst, arith, add-one, inl, inr}
-use Rattle.std.proofs.lemmas.List.{take_all, length-take, get_or-take}
+use Rattle.std.proofs.Common.{◌≡◌, ◌⊎◌, ℕ, zero, suc, ◌+◌, ◌-◌, ◌<◌, List, [], ◌∷◌, Some, map, take, length, slice_get, get_or, All, refl, sym, ap, ap₂, ◌∙◌, subst, arith, add-one, inl, inr}
 use Rattle.std.proofs.lemmas.Option.{slice_get_read, slice_get_within, get_or_from_slice_get}
 use Rattle.std.proofs.lemmas.Bool.{cases_order}
 use Rattle.nq_model.specs.Cells.{column_type_of, RowFits}

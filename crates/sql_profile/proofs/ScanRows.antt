@@ -5,7 +5,7 @@ use Rattle.std.proofs.lemmas.List.Elements.{All-weaker, All-same, All-push}
 use Rattle.std.proofs.lemmas.Simd.{map-map}
 use Rattle.nq_model.specs.Bags.{Reordered}
 use Rattle.nq_model.specs.Cells.{RowFits, column_type_of}
-use Rattle.nq_model.specs.Orders.{by_label, label_order}
+use Rattle.nq_model.specs.Orders.{label_order}
 use Rattle.nq_model.specs.Tables.{names_of, types_of}
 use Rattle.nq_model.specs.declared.memory.Memory.{Memory}
 use Rattle.nq_model.specs.declared.table.Cell.{Cell}
@@ -20,8 +20,8 @@ pub scan_row_arranged : (names : List (List ℕ)) (row : List Cell) → length r
     → scan_row names row ≡ Int (pos 0) ∷ Int (pos 1) ∷ map (λ place. get_or row place (Int (pos 0))) (label_order names)
 scan_row_arranged names row full =
     ap (λ (cells : List Cell). Int (pos 0) ∷ Int (pos 1) ∷ cells)
-        (ap (λ (fields : List (List ℕ × Cell)). map (λ field. field.1) fields) (by_label_arranged (Int (pos 0)) names row full)
-        ∙ map-map (λ field. field.1) (pair_at (Int (pos 0)) names row) (label_order names))
+    (ap (λ (fields : List (List ℕ × Cell)). map (λ field. field.1) fields) (by_label_arranged (Int (pos 0)) names row full)
+    ∙ map-map (λ field. field.1) (pair_at (Int (pos 0)) names row) (label_order names))
 
 -- one more row of the answer
 pub scan_rows_more : (names : List (List ℕ)) (rows : List (List Cell)) (i : ℕ) (row made : List Cell) (made_rows more : List (List Cell)) (places : List ℕ)
@@ -31,7 +31,7 @@ pub scan_rows_more : (names : List (List ℕ)) (rows : List (List Cell)) (i : �
     → more ≡ map (scan_row names) (take (i + 1) rows)
 scan_rows_more names rows i row made made_rows more places within is full order by_places known pushed =
     let arranged : made ≡ scan_row names row =
-        by_places ∙ ap (λ (l : List ℕ). Int (pos 0) ∷ Int (pos 1) ∷ map (λ place. get_or row place (Int (pos 0))) l) order ∙ sym (scan_row_arranged names row full) in
+    by_places ∙ ap (λ (l : List ℕ). Int (pos 0) ∷ Int (pos 1) ∷ map (λ place. get_or row place (Int (pos 0))) l) order ∙ sym (scan_row_arranged names row full) in
     pushed ∙ ap₂ (λ (l : List (List Cell)) (r : List Cell). l ++ r ∷ []) known (arranged ∙ ap (scan_row names) is)
     ∙ sym (map_more (scan_row names) rows i row within)
 
@@ -52,7 +52,7 @@ scan_allowed held text i table rows within is scan made =
 full_rows : (table : Loaded) → All (RowFits (types_of table.columns)) table.rows → HasFullRows table
 full_rows table fit =
     All-weaker (RowFits (types_of table.columns)) (λ row. length row ≡ length table.columns)
-        (λ row fits. sym (length-map row column_type_of) ∙ ap length fits ∙ length-map table.columns (λ column. column.1)) table.rows fit
+    (λ row fits. sym (length-map row column_type_of) ∙ ap length fits ∙ length-map table.columns (λ column. column.1)) table.rows fit
 
 -- all rows are full after a load, whatever it answers
 pub full_loaded : (held now : List Loaded) (table : Loaded) (result : Result (Unit {0}) Memory) → All HasFullRows held

@@ -10,7 +10,7 @@ use Rattle.nq_model.specs.declared.table.ColumnType.TheVariants as column
 use Rattle.sql_profile.specs.Scans.{joined, items_from, scan_items}
 
 -- columns are their names beside their types
-zip_columns : (columns : Columns) → zip (names_of columns) (types_of columns) ≡ columns
+pub zip_columns : (columns : Columns) → zip (names_of columns) (types_of columns) ≡ columns
 zip_columns [] = refl
 zip_columns (c ∷ cs) = ap (λ (l : Columns). c ∷ l) (zip_columns cs)
 
@@ -41,16 +41,16 @@ joined_onto x (y ∷ ys) =
 pub items_written : (columns : Columns) (places text : List ℕ) (index : ℕ)
     → length places ≤ index → places ≡ label_order (names_of columns)
     → text ++ flat_map behind (items_from (index + 1) (map (label_at (names_of columns)) (drop index places)))
-      ≡ codes "SELECT 0 AS \"ot\", 1 AS \"on\"" ++ flat_map behind (items_from 1 (map (label_at (names_of columns)) places))
+    ≡ codes "SELECT 0 AS \"ot\", 1 AS \"on\"" ++ flat_map behind (items_from 1 (map (label_at (names_of columns)) places))
     → text ≡ codes "SELECT " ++ joined (codes ", ") (scan_items columns)
 items_written columns places text index all order written =
     let names = names_of columns in
     let items : List (List ℕ) = items_from 1 (names_of (by_label columns)) in
     let head : List ℕ = codes "SELECT 0 AS \"ot\", 1 AS \"on\"" in
     let none : text ++ flat_map behind (items_from (index + 1) (map (label_at names) (drop index places))) ≡ text =
-        ap (λ (l : List ℕ). text ++ flat_map behind (items_from (index + 1) (map (label_at names) l))) (drop_all index places all) ∙ append-nil text in
+    ap (λ (l : List ℕ). text ++ flat_map behind (items_from (index + 1) (map (label_at names) l))) (drop_all index places all) ∙ append-nil text in
     let by_places : names_of (by_label columns) ≡ map (label_at names) places =
-        names_by_label columns ∙ ap (λ (l : List ℕ). map (label_at names) l) (sym order) in
+    names_by_label columns ∙ ap (λ (l : List ℕ). map (label_at names) l) (sym order) in
     sym none ∙ written
     ∙ ap (λ (l : List (List ℕ)). head ++ flat_map behind (items_from 1 l)) (sym by_places)
     ∙ ap (λ (l : List ℕ). codes "SELECT 0 AS \"ot\", " ++ l) (sym (joined_onto (codes "1 AS \"on\"") items))

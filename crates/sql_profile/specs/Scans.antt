@@ -4,9 +4,11 @@ use Rattle.std.specs.Fmt.{decimal}
 use Rattle.std.specs.List.{zip}
 use Rattle.nq_model.specs.Bags.{Reordered}
 use Rattle.nq_model.specs.Orders.{by_label}
-use Rattle.nq_model.specs.Tables.{Columns, names_of}
+use Rattle.nq_model.specs.Tables.{Columns, names_of, types_of}
 use Rattle.nq_model.specs.declared.table.Cell.{Cell}
 use Rattle.nq_model.specs.declared.table.Cell.TheVariants.{Int}
+use Rattle.nq_model.specs.declared.table.ColumnType.{ColumnType}
+use Rattle.nq_model.specs.declared.table.ColumnType.TheVariants as column
 use Rattle.sql_profile.specs.declared.server.Loaded.{Loaded}
 
 -- the item of the k-th column
@@ -37,6 +39,10 @@ scan_text name columns =
 -- columns
 abbrev pub scan_row : List (List ℕ) → List Cell → List Cell
 scan_row names row = Int (pos 0) ∷ Int (pos 1) ∷ map (λ field. field.1) (by_label (zip names row))
+
+-- the types of that row's cells
+abbrev pub scan_types : Columns → List ColumnType
+scan_types columns = column.Int ∷ column.Int ∷ types_of (by_label columns)
 
 -- the text asks for all rows of a table that is held
 pub record IsScan (held : List Loaded) (text : List ℕ) : Type 0 where

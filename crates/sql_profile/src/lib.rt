@@ -8,6 +8,6 @@ mod scan_server;
 mod server;
 
 pub use answer::{Answer, Misfit, fits, misfit_laws};
-pub use scan::scan_text;
+pub use scan::{scan_laws, scan_text};
 pub use scan_server::ScanServer;
 pub use server::{Loaded, ServerFault, SqlServer, ask_text, load_table};

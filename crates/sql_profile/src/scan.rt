@@ -1,6 +1,11 @@
 // The text that asks for all rows of a table.
-ghost use Rattle.std.specs.Prelude.{◌≡◌, ◌++◌, OnOk, IfOk, codes};
-ghost use Rattle.sql_profile.specs.Scans.{item_of, joined, scan_items, scan_text};
+ghost use Rattle.std.specs.Prelude.{◌≡◌, [], ◌∷◌, ◌++◌, ℕ, List, All, OnOk, IfOk, codes, map};
+ghost use Rattle.nq_model.specs.Bags.{Reordered};
+ghost use Rattle.nq_model.specs.Cells.{RowFits};
+ghost use Rattle.nq_model.specs.Tables.{names_of, types_of};
+ghost use Rattle.nq_model.specs.declared.table.Cell.{Cell};
+ghost use Rattle.sql_profile.specs.Scans.{Allows, IsScan, item_of, joined, scan_items, scan_row, scan_text, scan_types};
+ghost use Rattle.sql_profile.specs.declared.server.Loaded.{Loaded};
 
 use nq_model::{ColumnType, Label, List, Memory, label_order};
 use std::alloc::Global;
@@ -20,7 +25,8 @@ fn select_items(alloc: Global, columns: &[(Label, ColumnType)]) -> Result<List<u
     let order = label_order(alloc, columns)?;
     let mut text = List::from_slice(alloc, b"SELECT 0 AS \"ot\", 1 AS \"on\"")?;
     for (index, place) in order.as_slice().iter().enumerate() {
-        push_item(alloc, &mut text, index as u64 + 1, columns[*place].0.as_str())?;
+        let name = columns[*place].0.as_str();
+        push_item(alloc, &mut text, index as u64 + 1, name)?;
     }
     Ok(text)
 }
@@ -40,3 +46,13 @@ pub fn scan_text(
     text.extend_from_slice(source.as_bytes())?;
     Ok(text)
 }
+
+/// Over the one table that is held, its scan text may be asked, the answers that SQL allows are its rows,
+/// and they fit the columns of the answer.
+pub fn scan_laws()
+    ensures asked { (table : Loaded) → IsScan (table ∷ []) (scan_text table.name table.columns) }
+    ensures answered { (table : Loaded) (text : List ℕ) (rows : List (List Cell))
+        → Allows (table ∷ []) text rows → Reordered (map (scan_row (names_of table.columns)) table.rows) rows }
+    ensures fitting { (table : Loaded) (rows : List (List Cell)) → All (RowFits (types_of table.columns)) table.rows
+        → Reordered (map (scan_row (names_of table.columns)) table.rows) rows → All (RowFits (scan_types table.columns)) rows }
+{}

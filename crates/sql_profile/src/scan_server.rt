@@ -1,5 +1,5 @@
 // A server that answers the scan texts of its tables.
-ghost use Rattle.std.specs.Prelude.{◌≡◌, ◌↔◌, ◌<◌, [], ◌∷◌, List, true, None, IsTrue, IfOk, OnOk, All, length, map, pos, slice_index_or};
+ghost use Rattle.std.specs.Prelude.{◌≡◌, ◌↔◌, ◌<◌, [], ◌∷◌, true, None, IsTrue, IfOk, All, length, map, pos, slice_index_or};
 ghost use Rattle.std.proofs.Common.{lit≤};
 ghost use Rattle.nq_model.specs.declared.table.Cell.TheVariants.{Int};
 ghost use Rattle.nq_model.specs.Tables.{names_of};
@@ -40,7 +40,7 @@ fn scan_row(alloc: Global, order: &[usize], row: &[Cell]) -> Result<List<Cell>, 
     ensures { IfOk result (λ made. made
         ≡ Int (pos 0) ∷ Int (pos 1) ∷ map (λ place. slice_index_or row.now place (Int (pos 0))) order.now) }
 {
-    let mut made = List::with_capacity(alloc, 2)?;
+    let mut made = List::new(alloc);
     made.push(Cell::Int(0))?;
     made.push(Cell::Int(1))?;
     for place in order {
@@ -108,3 +108,6 @@ impl SqlServer for ScanServer {
         Ok(Answer { rows })
     }
 }
+
+#[cfg(test)]
+mod tests;

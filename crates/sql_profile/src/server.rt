@@ -19,7 +19,8 @@ pub struct Loaded {
     pub rows: List<List<Cell>>,
 }
 
-/// Why a server did not do what it was called for.
+/// Why a server did not do what it was called for: it found too little memory, or it failed, which it
+/// counts.
 #[derive(Clone, Copy, Debug, PartialEq, Eq)]
 pub enum ServerFault {
     Memory,

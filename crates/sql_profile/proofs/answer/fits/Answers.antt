@@ -1,6 +1,6 @@
-use Rattle.std.proofs.Common.{rules, ◌≡◌, ◌<◌, All, take, subst, get_or, arith, sym}
+use Rattle.std.proofs.Common.{rules, get_or}
 use Rattle.std.proofs.lemmas.List.{take_all}
-use Rattle.std.proofs.lemmas.List.Elements.{All-more, All-same}
+use Rattle.std.proofs.lemmas.List.Elements.{All-more}
 use Rattle.nq_model.specs.Cells.{RowFits}
 use Rattle.sql_profile.proofs.answer.fits.Goals as goal
 

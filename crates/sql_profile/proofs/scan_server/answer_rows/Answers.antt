@@ -1,4 +1,4 @@
-use Rattle.std.proofs.Common.{rules, ◌≡◌, ◌<◌, ℕ, List, length, All, Contains, take, get_or, arith, subst}
+use Rattle.std.proofs.Common.{rules, ◌≡◌, ℕ, List, get_or, subst}
 use Rattle.std.proofs.lemmas.List.{take_all}
 use Rattle.std.proofs.lemmas.List.Elements.{All-contains, All-more}
 use Rattle.sql_profile.specs.Scans.{scan_text}
