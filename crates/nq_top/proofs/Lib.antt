@@ -3,3 +3,4 @@ pub mod Columns
 pub mod Gathers
 pub mod Records
 pub mod Meaning
+pub mod Loads

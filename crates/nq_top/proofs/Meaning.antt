@@ -141,3 +141,11 @@ fit_wide columns rows fit =
     wide : (row : List Cell) → RowFits (answer_types columns) row → length row ≡ length (names_of (by_label columns)) + 2
     wide row f =
         two (length row) (length (names_of (by_label columns))) (sym (length-map row column_type_of) ∙ ap length f ∙ ap (λ n. suc (suc n)) (length-map (by_label columns) (λ c. c.1) ∙ sym (length-map (by_label columns) (λ c. c.0))))
+
+-- the label of a column that is there
+pub label_there : (columns : Columns) (place : ℕ) (c : List ℕ × ColumnType) → place < length columns → c ≡ get_or columns place c → label_at (names_of columns) place ≡ c.0
+label_there [] place c within e = absurd (omega (arith, within))
+label_there (d ∷ columns) zero c within e = ap (λ (p : List ℕ × ColumnType). p.0) (sym e)
+label_there (d ∷ columns) (suc place) c within e = label_there columns place c (omega (arith, within)) e
+
+pub ruleset question_rules = (labels_arranged, types_arranged)

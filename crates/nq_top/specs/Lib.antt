@@ -7,3 +7,5 @@ pub mod Refusals
 pub mod Judging
 pub mod Gathering
 pub mod Meanings
+pub mod Serving
+pub mod Loading

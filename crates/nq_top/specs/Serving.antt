@@ -1,0 +1,94 @@
+-- What a run says of its server: the tables that it was loaded with, the text that it was asked, and its
+-- answer.
+use Rattle.std.specs.Prelude.{◌≡◌, ℕ, Bool, true, ⊤, List, [], ◌∷◌, ◌++◌, All, Option, Some, None, is_some, slice_get, Result, Ok, Err}
+use Rattle.nq_model.specs.Cells.{RowFits}
+use Rattle.nq_model.specs.Canonical.{canonical_text}
+use Rattle.nq_model.specs.Orders.{by_label}
+use Rattle.nq_model.specs.Tables.{names_of}
+use Rattle.nq_model.specs.declared.table.Cell.{Cell}
+use Rattle.sql_profile.specs.Fits.{IsFirstMisfit}
+use Rattle.sql_profile.specs.Scans.{scan_text}
+use Rattle.sql_profile.specs.Servers.{Asks, with_ask, RoseBelow}
+use Rattle.sql_profile.specs.declared.answer.Answer.{Answer}
+use Rattle.sql_profile.specs.declared.server.Loaded.{Loaded}
+use Rattle.nq_top.specs.Meanings.{answer_types, answer_value, query_meaning}
+use Rattle.nq_top.specs.declared.refusal.ServerRefusal.{ServerRefusal}
+use Rattle.nq_top.specs.declared.refusal.ServerRefusal.TheVariants as server
+
+-- what a server holds, and the asks that it tells
+pub record ServerState : Type 0 where
+  pub loaded : List Loaded
+  pub asks : Option Asks
+
+-- the count of faults rose where the server failed, and else stayed
+abbrev pub RefusalCounts : ℕ → ℕ → ℕ → ServerRefusal → Type 0
+RefusalCounts bound before now server.Memory = now ≡ before
+RefusalCounts bound before now (server.TableFailed name) = RoseBelow bound before now
+RefusalCounts bound before now (server.TextFailed text) = RoseBelow bound before now
+RefusalCounts bound before now (server.BadAnswer text row column) = now ≡ before
+
+abbrev pub ServerCounts : {T : Type 0} → ℕ → ℕ → ℕ → Result T ServerRefusal → Type 0
+ServerCounts bound before now (Ok _) = now ≡ before
+ServerCounts bound before now (Err r) = RefusalCounts bound before now r
+
+-- the server holds exactly these tables; it was asked the scan text of this one of them alone, and
+-- answered these rows
+pub record WasAsked (tables : List Loaded) (asked : ℕ) (old new : ServerState) (table : Loaded) (rows : List (List Cell)) : Type 0 where
+  pub is : slice_get tables asked ≡ Some table
+  pub holds : new.loaded ≡ tables
+  pub told : new.asks ≡ with_ask (scan_text table.name table.columns) (record { rows = rows }) old.asks
+
+-- the text is that of the answer, which fits; and of an honest server, that of what the query means
+pub record ServesText (tables : List Loaded) (asked : ℕ) (old new : ServerState) (honest : Bool) (text : List ℕ) : Type 0 where
+  pub table : Loaded
+  pub rows : List (List Cell)
+  pub was_asked : WasAsked tables asked old new table rows
+  pub fits : All (RowFits (answer_types table.columns)) rows
+  pub of_answer : text ≡ canonical_text (answer_value (names_of (by_label table.columns)) rows)
+  pub of_meaning : honest ≡ true → text ≡ canonical_text (query_meaning tables asked)
+
+-- the server holds the tables before the named one, and was not asked
+pub record FailsTable (tables : List Loaded) (old new : ServerState) (name : List ℕ) : Type 0 where
+  pub table : Loaded
+  pub later : List Loaded
+  pub all : tables ≡ new.loaded ++ table ∷ later
+  pub named : name ≡ table.name
+  pub untold : new.asks ≡ old.asks
+
+-- the server holds all tables, and gave no answer before the first
+pub record FailsText (tables : List Loaded) (old new : ServerState) (text : ℕ) : Type 0 where
+  pub first : text ≡ 1
+  pub holds : new.loaded ≡ tables
+  pub untold : new.asks ≡ old.asks
+
+-- the one answer does not fit, first at this row and column; and the server is not honest
+pub record AnswersBadly (tables : List Loaded) (asked : ℕ) (old new : ServerState) (honest : Bool) (text row column : ℕ) : Type 0 where
+  pub first : text ≡ 1
+  pub table : Loaded
+  pub rows : List (List Cell)
+  pub was_asked : WasAsked tables asked old new table rows
+  pub misfit : IsFirstMisfit rows (answer_types table.columns) (record { row = row; column = column })
+  pub blamed : honest ≡ true → ⊥
+
+abbrev pub RefusalServes : List Loaded → ℕ → ServerState → ServerState → Bool → ServerRefusal → Type 0
+RefusalServes tables asked old new honest server.Memory = ⊤
+RefusalServes tables asked old new honest (server.TableFailed name) = FailsTable tables old new name
+RefusalServes tables asked old new honest (server.TextFailed text) = FailsText tables old new text
+RefusalServes tables asked old new honest (server.BadAnswer text row column) = AnswersBadly tables asked old new honest text row column
+
+abbrev pub ServeTells : List Loaded → ℕ → ServerState → ServerState → Bool → Result (List ℕ) ServerRefusal → Type 0
+ServeTells tables asked old new honest (Ok text) = ServesText tables asked old new honest text
+ServeTells tables asked old new honest (Err r) = RefusalServes tables asked old new honest r
+
+-- an answer that does not fit comes of no honest server
+abbrev pub RefusalBlames : Bool → ServerRefusal → Type 0
+RefusalBlames honest server.Memory = ⊤
+RefusalBlames honest (server.TableFailed name) = ⊤
+RefusalBlames honest (server.TextFailed text) = ⊤
+RefusalBlames honest (server.BadAnswer text row column) = honest ≡ true → ⊥
+
+-- honesty, the bound of the faults, and whether the asks are told, as they were
+pub record StaysHonest (old_honest new_honest : Bool) (old_bound new_bound : ℕ) (old new : Option Asks) : Type 0 where
+  pub honesty : new_honest ≡ old_honest
+  pub bound : new_bound ≡ old_bound
+  pub telling : is_some new ≡ is_some old
