@@ -35,7 +35,8 @@ impl<'a, R: Files> FileInputs<'a, R> {
 // failed.
 fn read_up_to<F: Read>(alloc: Global, source: &mut F, limit: u64) -> Result<List<u8>, FetchFault>
     ensures bound { IfOk result (λ bytes. length bytes ≤ limit) }
-    ensures answers { IfSome (F.remaining source.old) (λ bytes. FetchAnswers (Some bytes) limit result) }
+    ensures answers { IfSome (F.remaining source.old)
+        (λ bytes. FetchAnswers (Some bytes) limit result) }
     ensures takes { LosesAtMost (limit + 1) (F.remaining source.old) (F.remaining source.new) }
 {
     let mut bytes = List::new(alloc);

@@ -72,7 +72,8 @@ impl HeldInputs {
 
     // Notes the name of a call.
     fn note(&mut self, alloc: Global, name: &str) -> Result<(), Memory>
-        ensures ok { OnOk result (self.new ≡ record self.old { fetched = self.old.fetched ++ name.now ∷ [] }) }
+        ensures ok { OnOk result
+            (self.new ≡ record self.old { fetched = self.old.fetched ++ name.now ∷ [] }) }
         ensures err { OnErr result (self.new ≡ self.old) }
     {
         let copy = Text::from_str(alloc, name)?;
@@ -104,7 +105,8 @@ impl Inputs for HeldInputs {
     fn fetch(&mut self, alloc: Global, name: &str, limit: u64) -> Result<List<u8>, FetchFault>
         ensures bound { IfOk result (λ bytes. length bytes ≤ limit) }
         ensures answers { FetchAnswers (bytes_at (held_files self.old) name.now) limit result }
-        ensures tells { FetchTells (Some (held_fetched self.old)) (Some (held_fetched self.new)) name.now result }
+        ensures tells { FetchTells (Some (held_fetched self.old)) (Some (held_fetched self.new))
+            name.now result }
         ensures counts { FetchCounts (held_faults self.old) (held_faults self.new) result }
         ensures same { held_files self.new ≡ held_files self.old }
 

@@ -61,12 +61,14 @@ impl Sink for HeldSink {
     ghost faults = { sink_faults };
 
     fn put(&mut self, bytes: &[u8]) -> Result<(), PutFault>
-        ensures appends { PutAppends (Some (sink_bytes self.old)) (Some (sink_bytes self.new)) bytes.now result }
+        ensures appends { PutAppends (Some (sink_bytes self.old)) (Some (sink_bytes self.new))
+            bytes.now result }
         ensures counts { PutCounts (sink_faults self.old) (sink_faults self.new) result }
         ensures nothing { bytes.now ≡ [] → IsOk result }
 
         // It is Ok exactly where the bytes fit, and else appends what fits.
-        ensures fits { IsOk result ↔ (length (sink_bytes self.old) + length bytes.now ≤ sink_room self.old) }
+        ensures fits { IsOk result
+            ↔ (length (sink_bytes self.old) + length bytes.now ≤ sink_room self.old) }
         ensures full { OnErr result (length (sink_bytes self.new) ≡ sink_room self.old) }
         ensures room { sink_room self.new ≡ sink_room self.old }
     {

@@ -43,7 +43,8 @@ pub trait Inputs {
     /// among the told names.
     fn fetch(&mut self, alloc: Global, name: &str, limit: u64) -> Result<List<u8>, FetchFault>
         ensures bound { IfOk result (λ bytes. length bytes ≤ limit) }
-        ensures answers { IfSome (held self.old) (λ files. FetchAnswers (bytes_at files name.now) limit result) }
+        ensures answers { IfSome (held self.old)
+            (λ files. FetchAnswers (bytes_at files name.now) limit result) }
         ensures tells { FetchTells (fetched self.old) (fetched self.new) name.now result }
         ensures counts { FetchCounts (faults self.old) (faults self.new) result }
         ensures same { held self.new ≡ held self.old };

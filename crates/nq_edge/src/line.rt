@@ -4,16 +4,18 @@ ghost use Rattle.nq_edge.specs.Lines.{PutsLine};
 
 use crate::sink::Sink;
 
-/// Puts a line of one piece.
+/// Puts a line of one piece, or a prefix of it where the put fails.
 pub fn put_one<N: Sink>(notes: &mut N, piece: &[u8])
-    ensures { PutsLine (N.written notes.old) (N.written notes.new) (N.faults notes.old) (N.faults notes.new) piece.now }
+    ensures { PutsLine (N.written notes.old) (N.written notes.new)
+        (N.faults notes.old) (N.faults notes.new) piece.now }
 {
     let _ = notes.put(piece);
 }
 
 /// Puts a line of two pieces, the second only where the first was put whole.
 pub fn put_two<N: Sink>(notes: &mut N, first: &[u8], second: &[u8])
-    ensures { PutsLine (N.written notes.old) (N.written notes.new) (N.faults notes.old) (N.faults notes.new)
+    ensures { PutsLine (N.written notes.old) (N.written notes.new)
+        (N.faults notes.old) (N.faults notes.new)
         (first.now ++ second.now) }
 {
     match notes.put(first) {
@@ -24,7 +26,8 @@ pub fn put_two<N: Sink>(notes: &mut N, first: &[u8], second: &[u8])
 
 /// Puts a line of three pieces, each only where those before it were put whole.
 pub fn put_three<N: Sink>(notes: &mut N, first: &[u8], second: &[u8], third: &[u8])
-    ensures { PutsLine (N.written notes.old) (N.written notes.new) (N.faults notes.old) (N.faults notes.new)
+    ensures { PutsLine (N.written notes.old) (N.written notes.new)
+        (N.faults notes.old) (N.faults notes.new)
         (first.now ++ (second.now ++ third.now)) }
 {
     match notes.put(first) {
@@ -35,7 +38,8 @@ pub fn put_three<N: Sink>(notes: &mut N, first: &[u8], second: &[u8], third: &[u
 
 /// Puts a line of four pieces, each only where those before it were put whole.
 pub fn put_four<N: Sink>(notes: &mut N, first: &[u8], second: &[u8], third: &[u8], fourth: &[u8])
-    ensures { PutsLine (N.written notes.old) (N.written notes.new) (N.faults notes.old) (N.faults notes.new)
+    ensures { PutsLine (N.written notes.old) (N.written notes.new)
+        (N.faults notes.old) (N.faults notes.new)
         (first.now ++ (second.now ++ (third.now ++ fourth.now))) }
 {
     match notes.put(first) {
@@ -53,7 +57,8 @@ pub fn put_five<N: Sink>(
     fourth: &[u8],
     fifth: &[u8],
 )
-    ensures { PutsLine (N.written notes.old) (N.written notes.new) (N.faults notes.old) (N.faults notes.new)
+    ensures { PutsLine (N.written notes.old) (N.written notes.new)
+        (N.faults notes.old) (N.faults notes.new)
         (first.now ++ (second.now ++ (third.now ++ (fourth.now ++ fifth.now)))) }
 {
     match notes.put(first) {

@@ -55,7 +55,8 @@ impl<W: Write + Drop> Sink for StdSink<W> {
         ensures nothing { bytes.now ≡ [] → IsOk result }
 
         // What the writer took, where it tells that.
-        ensures writes { Writes (W.contents (sink_writer self.old)) (W.contents (sink_writer self.new)) bytes.now result }
+        ensures writes { Writes (W.contents (sink_writer self.old))
+            (W.contents (sink_writer self.new)) bytes.now result }
     {
         let result = write_whole(&mut self.to, bytes);
         if result.is_err() {
