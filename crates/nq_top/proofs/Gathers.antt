@@ -106,6 +106,7 @@ can_gather_more done shape shapes asked rows can fit =
     let P : List (List ℕ) → Type 0 = AreDistinct in
     let names : table_names done ++ map (λ s. s.name) (shape ∷ shapes) ≡ table_names (done ++ table ∷ []) ++ map (λ s. s.name) shapes = sym (ap (λ (l : List (List ℕ)). l ++ map (λ s. s.name) shapes) (map-append (λ (t : Loaded). t.name) done (table ∷ [])) ∙ append_assoc (table_names done) (shape.name ∷ []) (map (λ s. s.name) shapes)) in
     record {
+      alone = let known = can.alone in omega (arith, length-append done (table ∷ []), known);
       among = let known = can.among in omega (arith, length-append done (table ∷ []), known);
       names_differ = subst P names can.names_differ;
       columns_differ = All-tail (λ (s : TableShape). AreDistinct (names_of s.columns)) shape shapes can.columns_differ;
@@ -118,6 +119,7 @@ pub can_gather_all : (done : List Loaded) (asked : ℕ) → CanGather done [] as
 can_gather_all done asked can =
     let P : List (List ℕ) → Type 0 = AreDistinct in
     record {
+      alone = let known = can.alone in omega (arith, known);
       among = let known = can.among in omega (arith, known);
       names_differ = subst P (append-nil (table_names done)) can.names_differ;
       columns_differ = can.done_differ;

@@ -4,3 +4,4 @@ pub mod Gathers
 pub mod Records
 pub mod Meaning
 pub mod Loads
+pub mod Serves

@@ -1,10 +1,9 @@
 -- What an honest answer to a scan text stands for.
 use Rattle.std.proofs.Common.{◌≡◌, ◌<◌, ◌≤◌, ◌+◌, ℕ, zero, suc, Bool, true, false, List, [], ◌∷◌, ◌++◌, length, map, filter, drop, get_or, zip, pos, refl, sym, ap, ap₂, ◌∙◌, subst, arith, cond, All}
-use Rattle.std.specs.List.{AllByRecursion as Each}
 use Rattle.std.proofs.lemmas.List.{length-map}
-use Rattle.std.proofs.lemmas.List.Elements.{All-head, All-tail, All-weaker, All-nil, All-cons, All-from_recursion}
+use Rattle.std.proofs.lemmas.List.Elements.{All-head, All-tail, All-weaker}
 use Rattle.std.proofs.lemmas.Simd.{map-map}
-use Rattle.nq_model.specs.Bags.{Pick, here, there, Matched, Reordered}
+use Rattle.nq_model.specs.Bags.{Reordered}
 use Rattle.nq_model.specs.Cells.{column_type_of, RowFits}
 use Rattle.nq_model.specs.Orders.{by_label, label_at, label_order}
 use Rattle.nq_model.specs.Tables.{Columns, names_of, types_of, row_record, table_value}
@@ -18,8 +17,8 @@ use Rattle.nq_model.proofs.Bags.{matched_map, matched_filter}
 use Rattle.nq_model.proofs.Canonical.{canonical_same}
 use Rattle.nq_model.proofs.Orders.{by_label_arranged, pair_at}
 use Rattle.nq_model.proofs.Sameness.{same_bag, same_refl}
-use Rattle.sql_profile.specs.Scans.{scan_row}
-use Rattle.nq_top.specs.Meanings.{answer_types, is_top, element_of, answer_value}
+use Rattle.sql_profile.specs.Scans.{scan_row, scan_types}
+use Rattle.nq_top.specs.Meanings.{is_top, element_of, answer_value}
 
 got_map : {A B : Type 0} (f : A → B) (xs : List A) (i : ℕ) (d : A) → get_or (map f xs) i (f d) ≡ f (get_or xs i d)
 got_map f [] i d = refl
@@ -30,10 +29,6 @@ zip_maps : {A B C : Type 0} (f : A → B) (g : A → C) (h : A → B × C) → (
 zip_maps f g h same [] = refl
 zip_maps {A} {B} {C} f g h same (x ∷ xs) =
     ap₂ (λ (p : B × C) (ps : List (B × C)). p ∷ ps) (same x) (zip_maps f g h same xs)
-
-same_maps : {A B : Type 0} (f g : A → B) → ((x : A) → f x ≡ g x) → (xs : List A) → map f xs ≡ map g xs
-same_maps f g same [] = refl
-same_maps {A} {B} f g same (x ∷ xs) = ap₂ (λ (y : B) (ys : List B). y ∷ ys) (same x) (same_maps f g same xs)
 
 columns_zip : (columns : Columns) → zip (names_of columns) (types_of columns) ≡ columns
 columns_zip [] = refl
@@ -102,43 +97,16 @@ allowed_value columns rows answer fit m =
     sym (canonical_same (answer_value (names_of (by_label columns)) (map (scan_row (names_of columns)) rows)) (answer_value (names_of (by_label columns)) answer) (reordered_value (names_of (by_label columns)) (map (scan_row (names_of columns)) rows) answer m))
     ∙ ap (λ (vs : List Nested). canonical (bag_of vs)) (elements_are columns rows fit)
 
--- such an answer fits
-scan_row_fits : (columns : Columns) (row : List Cell) → RowFits (types_of columns) row → RowFits (answer_types columns) (scan_row (names_of columns) row)
-scan_row_fits columns row fit =
-    let names = names_of columns in
-    let order = label_order names in
-    let zero_cell : Cell = Int (pos 0) in
-    let cells : map column_type_of (map (λ f. f.1) (by_label (zip names row))) ≡ types_of (by_label columns) = ap (map column_type_of) (cells_arranged zero_cell names row (fit_long columns row fit)) ∙ map-map column_type_of (λ i. get_or row i zero_cell) order ∙ same_maps (λ i. column_type_of (get_or row i zero_cell)) (λ i. get_or (types_of columns) i column.Int) (λ i. sym (got_map column_type_of row i zero_cell) ∙ ap (λ (ts : List ColumnType). get_or ts i column.Int) fit) order ∙ sym (types_arranged columns) in
-    ap (λ (ts : List ColumnType). column.Int ∷ column.Int ∷ ts) cells
-
-scan_rows_fit : (columns : Columns) (rows : List (List Cell)) → All (RowFits (types_of columns)) rows → Each (RowFits (answer_types columns)) (map (scan_row (names_of columns)) rows)
-scan_rows_fit columns [] fit = tt
-scan_rows_fit columns (row ∷ rows) fit =
-    (scan_row_fits columns row (All-head (RowFits (types_of columns)) row rows fit), scan_rows_fit columns rows (All-tail (RowFits (types_of columns)) row rows fit))
-
-each_put : {A : Type 0} (P : A → Type 0) {y : A} {ys rest : List A} → Pick y ys rest → P y → Each P rest → Each P ys
-each_put P here h e = (h, e)
-each_put P (there p) h e = (e.0, each_put P p h e.1)
-
-each_reordered : {A : Type 0} (P : A → Type 0) (xs ys : List A) → Reordered xs ys → Each P xs → Each P ys
-each_reordered P [] ys m e = subst (λ (l : List _). Each P l) (sym m) tt
-each_reordered P (x ∷ xs) ys m e = each_put P m.2 (subst P m.3 e.0) (each_reordered P xs m.1 m.4 e.1)
-
-pub allowed_fits : (columns : Columns) (rows answer : List (List Cell)) → All (RowFits (types_of columns)) rows
-    → Reordered (map (scan_row (names_of columns)) rows) answer → All (RowFits (answer_types columns)) answer
-allowed_fits columns rows answer fit m =
-    All-from_recursion (RowFits (answer_types columns)) answer (each_reordered (RowFits (answer_types columns)) (map (scan_row (names_of columns)) rows) answer m (scan_rows_fit columns rows fit))
-
 -- rows that fit have two cells more than there are labels
-pub fit_wide : (columns : Columns) (rows : List (List Cell)) → All (RowFits (answer_types columns)) rows
+pub fit_wide : (columns : Columns) (rows : List (List Cell)) → All (RowFits (scan_types columns)) rows
     → All (λ row. length row ≡ length (names_of (by_label columns)) + 2) rows
 fit_wide columns rows fit =
-    All-weaker (RowFits (answer_types columns)) (λ row. length row ≡ length (names_of (by_label columns)) + 2) (λ row f. wide row f) rows fit
+    All-weaker (RowFits (scan_types columns)) (λ row. length row ≡ length (names_of (by_label columns)) + 2) (λ row f. wide row f) rows fit
   where
     two : (n m : ℕ) → n ≡ suc (suc m) → n ≡ m + 2
     two n m e = omega arith
 
-    wide : (row : List Cell) → RowFits (answer_types columns) row → length row ≡ length (names_of (by_label columns)) + 2
+    wide : (row : List Cell) → RowFits (scan_types columns) row → length row ≡ length (names_of (by_label columns)) + 2
     wide row f =
         two (length row) (length (names_of (by_label columns))) (sym (length-map row column_type_of) ∙ ap length f ∙ ap (λ n. suc (suc n)) (length-map (by_label columns) (λ c. c.1) ∙ sym (length-map (by_label columns) (λ c. c.0))))
 

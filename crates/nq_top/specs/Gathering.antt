@@ -75,8 +75,9 @@ FetchNames name old new (Err input.Memory) = new ≡ old
 FetchNames name old new (Err (input.Refused r)) = TellsMore old new (name ∷ [])
 FetchNames name old new (Err (input.Failed failed)) = TellsMore old new (name ∷ [])
 
--- the tables may be loaded one after the other, and one of them is asked for
+-- the tables, of which there is one, may be loaded one after the other, and one of them is asked for
 pub record AreServable (tables : List Loaded) (asked : ℕ) : Type 0 where
+  pub alone : length tables ≡ 1
   pub among : asked < length tables
   pub names_differ : AreDistinct (table_names tables)
   pub columns_differ : All (λ table. AreDistinct (names_of table.columns)) tables
@@ -84,6 +85,7 @@ pub record AreServable (tables : List Loaded) (asked : ℕ) : Type 0 where
 
 -- tables that were read and shapes that are still to be read make tables that may be loaded
 pub record CanGather (done : List Loaded) (shapes : List TableShape) (asked : ℕ) : Type 0 where
+  pub alone : length done + length shapes ≡ 1
   pub among : asked < length done + length shapes
   pub names_differ : AreDistinct (table_names done ++ map (λ shape. shape.name) shapes)
   pub columns_differ : All (λ shape. AreDistinct (names_of shape.columns)) shapes

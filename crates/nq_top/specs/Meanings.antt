@@ -1,13 +1,10 @@
 -- What a query of a table means over tables, and the value that an answer stands for.
 use Rattle.std.specs.Prelude.{ℕ, Bool, true, false, ◌&&◌, List, [], ◌∷◌, map, filter, drop, zip, pos, slice_get, Option, Some, None}
 use Rattle.std.specs.Ordering.{int_eq}
-use Rattle.nq_model.specs.Orders.{by_label}
-use Rattle.nq_model.specs.Tables.{Columns, names_of, types_of, table_value}
+use Rattle.nq_model.specs.Tables.{table_value}
 use Rattle.nq_model.specs.Values.{Nested, base, bag_of, rec_of}
 use Rattle.nq_model.specs.declared.table.Cell.{Cell}
 use Rattle.nq_model.specs.declared.table.Cell.TheVariants.{Int}
-use Rattle.nq_model.specs.declared.table.ColumnType.{ColumnType}
-use Rattle.nq_model.specs.declared.table.ColumnType.TheVariants as column
 use Rattle.sql_profile.specs.declared.server.Loaded.{Loaded}
 
 -- the meaning of `table t`, where t is the table at a place: the bag of its rows
@@ -17,10 +14,6 @@ meaning_at (Some table) = table_value table.columns table.rows
 
 unfoldable pub query_meaning : List Loaded → ℕ → Nested
 query_meaning tables asked = meaning_at (slice_get tables asked)
-
--- the types of the answer: those of the outer index, and those of the columns in byte order
-abbrev pub answer_types : Columns → List ColumnType
-answer_types columns = column.Int ∷ column.Int ∷ types_of (by_label columns)
 
 -- the outer index of a row is that of the top, tag 0 and number 1
 abbrev pub is_top : List Cell → Bool

@@ -6,12 +6,13 @@ use Rattle.nq_model.specs.Canonical.{canonical_text}
 use Rattle.nq_model.specs.Orders.{by_label}
 use Rattle.nq_model.specs.Tables.{names_of}
 use Rattle.nq_model.specs.declared.table.Cell.{Cell}
+use Rattle.nq_model.specs.declared.table.ColumnType.{ColumnType}
 use Rattle.sql_profile.specs.Fits.{IsFirstMisfit}
-use Rattle.sql_profile.specs.Scans.{scan_text}
+use Rattle.sql_profile.specs.Scans.{scan_text, scan_types}
 use Rattle.sql_profile.specs.Servers.{Asks, with_ask, RoseBelow}
 use Rattle.sql_profile.specs.declared.answer.Answer.{Answer}
 use Rattle.sql_profile.specs.declared.server.Loaded.{Loaded}
-use Rattle.nq_top.specs.Meanings.{answer_types, answer_value, query_meaning}
+use Rattle.nq_top.specs.Meanings.{answer_value, query_meaning}
 use Rattle.nq_top.specs.declared.refusal.ServerRefusal.{ServerRefusal}
 use Rattle.nq_top.specs.declared.refusal.ServerRefusal.TheVariants as server
 
@@ -43,7 +44,7 @@ pub record ServesText (tables : List Loaded) (asked : ℕ) (old new : ServerStat
   pub table : Loaded
   pub rows : List (List Cell)
   pub was_asked : WasAsked tables asked old new table rows
-  pub fits : All (RowFits (answer_types table.columns)) rows
+  pub fits : All (RowFits (scan_types table.columns)) rows
   pub of_answer : text ≡ canonical_text (answer_value (names_of (by_label table.columns)) rows)
   pub of_meaning : honest ≡ true → text ≡ canonical_text (query_meaning tables asked)
 
@@ -67,8 +68,23 @@ pub record AnswersBadly (tables : List Loaded) (asked : ℕ) (old new : ServerSt
   pub table : Loaded
   pub rows : List (List Cell)
   pub was_asked : WasAsked tables asked old new table rows
-  pub misfit : IsFirstMisfit rows (answer_types table.columns) (record { row = row; column = column })
+  pub misfit : IsFirstMisfit rows (scan_types table.columns) (record { row = row; column = column })
   pub blamed : honest ≡ true → ⊥
+
+-- why there is no answer
+abbrev pub AnswerFails : List Loaded → ServerState → ServerState → ServerRefusal → Type 0
+AnswerFails tables old new server.Memory = ⊤
+AnswerFails tables old new (server.TableFailed name) = FailsTable tables old new name
+AnswerFails tables old new (server.TextFailed text) = FailsText tables old new text
+AnswerFails tables old new (server.BadAnswer text row column) = ⊥
+
+-- the text of rows that fit, or the first misfit
+abbrev pub AnswerTells : List (List ℕ) → List ColumnType → List (List Cell) → Result (List ℕ) ServerRefusal → Type 0
+AnswerTells labels types rows (Ok text) = All (RowFits types) rows × (text ≡ canonical_text (answer_value labels rows))
+AnswerTells labels types rows (Err server.Memory) = ⊤
+AnswerTells labels types rows (Err (server.BadAnswer text row column)) = (text ≡ 1) × IsFirstMisfit rows types (record { row = row; column = column })
+AnswerTells labels types rows (Err (server.TableFailed name)) = ⊥
+AnswerTells labels types rows (Err (server.TextFailed text)) = ⊥
 
 abbrev pub RefusalServes : List Loaded → ℕ → ServerState → ServerState → Bool → ServerRefusal → Type 0
 RefusalServes tables asked old new honest server.Memory = ⊤

@@ -183,6 +183,7 @@ fn gather_query<I: Inputs>(
     folder: &str,
     shapes: &[TableShape],
 ) -> Result<Gathered, InputRefusal>
+    requires alone { length shapes.now ≡ 1 }
     requires differ { AreDistinct (map (λ shape. shape.name) shapes.now) }
     requires columns_differ { All (λ shape. AreDistinct (names_of shape.columns)) shapes.now }
     ensures counts { InputCounts (I.faults inputs.old) (I.faults inputs.new) result }

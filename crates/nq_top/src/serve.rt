@@ -1,19 +1,21 @@
 // Loads tables into a server, asks for the rows of one, and writes the answer.
-ghost use Rattle.std.specs.Prelude.{◌≡◌, ◌<◌, ◌∷◌, ◌++◌, [], List, ℕ, All, IfOk, IfErr, OnOk, length, map};
+ghost use Rattle.std.specs.Prelude.{◌≡◌, ◌<◌, ◌+◌, ◌∷◌, ◌++◌, [], List, ℕ, true, All, IfOk, IfErr, OnOk, OnErr, is_some, length, map};
 ghost use Rattle.nq_model.specs.Orders.{by_label, label_at, label_order};
 ghost use Rattle.nq_model.specs.Tables.{names_of, types_of};
-ghost use Rattle.sql_profile.specs.Scans.{scan_text};
+ghost use Rattle.sql_profile.specs.Scans.{IsScan, Allows, scan_text, scan_types};
+ghost use Rattle.sql_profile.specs.Servers.{with_ask};
+ghost use Rattle.nq_top.specs.Loading.{CanLoad};
 ghost use Rattle.nq_top.specs.Gathering.{AreServable};
-ghost use Rattle.nq_top.specs.Meanings.{answer_types};
-ghost use Rattle.nq_top.specs.Serving.{ServerCounts, ServeTells, StaysHonest, RefusalBlames};
+ghost use Rattle.nq_top.specs.Serving.{ServerCounts, AnswerFails, AnswerTells, ServeTells};
 ghost use Rattle.std.proofs.Common.{get_or};
 ghost use Rattle.nq_model.specs.declared.table.ColumnType.TheVariants as column;
 
 use crate::answer::answer_text;
 use crate::gather::Gathered;
+use crate::load::load_tables;
 use crate::refusal::ServerRefusal;
 use nq_model::{ColumnType, Label, List, Memory, label_order};
-use sql_profile::{Answer, Loaded, ServerFault, SqlServer, ask_text, fits, load_table, scan_text};
+use sql_profile::{Answer, Loaded, ServerFault, SqlServer, ask_text, fits, scan_text};
 use std::alloc::Global;
 
 // The text that asks for the rows of a table, and the labels and types of its answer.
@@ -75,7 +77,7 @@ fn types_at(
 fn question_of(alloc: Global, table: &Loaded) -> Result<Question, Memory>
     ensures text { IfOk result (λ question. question.text ≡ scan_text table.now.name table.now.columns) }
     ensures labels { IfOk result (λ question. question.labels ≡ names_of (by_label table.now.columns)) }
-    ensures types { IfOk result (λ question. question.types ≡ answer_types table.now.columns) }
+    ensures types { IfOk result (λ question. question.types ≡ scan_types table.now.columns) }
 {
     let columns = table.columns.as_slice();
     let order = label_order(alloc, columns)?;
@@ -84,4 +86,49 @@ fn question_of(alloc: Global, table: &Loaded) -> Result<Question, Memory>
         labels: labels_at(alloc, columns, order.as_slice())?,
         types: types_at(alloc, columns, order.as_slice())?,
     })
+}
+
+// Loads the tables into the server, and asks it the one text of the query.
+#[tactic(auto, using(crate::proofs::Serves::load_refused))]
+fn answer_of(
+    alloc: Global,
+    server: &mut Box<dyn SqlServer>,
+    tables: List<Loaded>,
+    text: &[u8],
+) -> Result<Answer, ServerRefusal>
+    requires empty { loaded server.old ≡ [] }
+    requires can { CanLoad [] tables }
+    requires scan { IsScan tables text.now }
+    ensures counts { ServerCounts (bound server.old) (failures server.old) (failures server.new) result }
+    ensures honesty_stays { honest server.new ≡ honest server.old }
+    ensures bound_stays { bound server.new ≡ bound server.old }
+    ensures holds { OnOk result (loaded server.new ≡ tables) }
+    ensures allowed { IfOk result (λ answer. honest server.old ≡ true → Allows tables text.now answer.rows) }
+    ensures told { IfOk result (λ answer. asks server.new ≡ with_ask text.now answer (asks server.old)) }
+    ensures err { IfErr result (AnswerFails tables
+        (record { loaded = loaded server.old; asks = asks server.old }) (record { loaded = loaded server.new; asks = asks server.new })) }
+    ensures telling { OnErr result (is_some (asks server.new) ≡ is_some (asks server.old)) }
+{
+    load_tables(alloc, server, tables)?;
+    match ask_text(alloc, server, text) {
+        Ok(answer) => Ok(answer),
+        Err(ServerFault::Memory) => Err(ServerRefusal::Memory),
+        Err(ServerFault::Failed) => Err(ServerRefusal::TextFailed(1)),
+    }
+}
+
+// The text of an answer, if it fits the question.
+#[tactic(auto, using(crate::proofs::Serves::wide_rows))]
+fn text_of(alloc: Global, question: &Question, answer: &Answer) -> Result<List<u8>, ServerRefusal>
+    requires { length question.now.types ≡ length question.now.labels + 2 }
+    ensures { AnswerTells question.now.labels question.now.types answer.now.rows result }
+{
+    match fits(answer, question.types.as_slice()) {
+        Ok(()) => Ok(answer_text(alloc, question.labels.as_slice(), answer.rows.as_slice())?),
+        Err(misfit) => Err(ServerRefusal::BadAnswer {
+            text: 1,
+            row: misfit.row,
+            column: misfit.column,
+        }),
+    }
 }
