@@ -132,3 +132,27 @@ fn text_of(alloc: Global, question: &Question, answer: &Answer) -> Result<List<u
         }),
     }
 }
+
+/// Loads the tables into the server, asks it for the rows of the one that the query names, and writes
+/// the canonical text of the bag that the answer stands for.
+#[tactic(auto, using(crate::proofs::Serves::serve_rules))]
+pub fn serve(
+    alloc: Global,
+    gathered: Gathered,
+    server: &mut Box<dyn SqlServer>,
+) -> Result<List<u8>, ServerRefusal>
+    requires empty { loaded server.old ≡ [] }
+    requires servable { AreServable gathered.tables gathered.asked }
+    ensures counts { ServerCounts (bound server.old) (failures server.old) (failures server.new) result }
+    ensures honesty_stays { honest server.new ≡ honest server.old }
+    ensures bound_stays { bound server.new ≡ bound server.old }
+    ensures telling { is_some (asks server.new) ≡ is_some (asks server.old) }
+    ensures tells { ServeTells gathered.tables gathered.asked
+        (record { loaded = loaded server.old; asks = asks server.old }) (record { loaded = loaded server.new; asks = asks server.new })
+        (honest server.old) result }
+{
+    let Gathered { tables, asked } = gathered;
+    let question = question_of(alloc, &tables.as_slice()[asked])?;
+    let answer = answer_of(alloc, server, tables, question.text.as_slice())?;
+    text_of(alloc, &question, &answer)
+}
