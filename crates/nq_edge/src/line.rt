@@ -66,3 +66,44 @@ pub fn put_five<N: Sink>(
         Err(_) => {}
     }
 }
+
+/// Puts a line of six pieces, each only where those before it were put whole.
+pub fn put_six<N: Sink>(
+    notes: &mut N,
+    first: &[u8],
+    second: &[u8],
+    third: &[u8],
+    fourth: &[u8],
+    fifth: &[u8],
+    sixth: &[u8],
+)
+    ensures { PutsLine (N.written notes.old) (N.written notes.new)
+        (N.faults notes.old) (N.faults notes.new)
+        (first.now ++ (second.now ++ (third.now ++ (fourth.now ++ (fifth.now ++ sixth.now))))) }
+{
+    match notes.put(first) {
+        Ok(()) => put_five(notes, second, third, fourth, fifth, sixth),
+        Err(_) => {}
+    }
+}
+
+/// Puts a line of seven pieces, each only where those before it were put whole.
+pub fn put_seven<N: Sink>(
+    notes: &mut N,
+    first: &[u8],
+    second: &[u8],
+    third: &[u8],
+    fourth: &[u8],
+    fifth: &[u8],
+    sixth: &[u8],
+    seventh: &[u8],
+)
+    ensures { PutsLine (N.written notes.old) (N.written notes.new)
+        (N.faults notes.old) (N.faults notes.new)
+        (first.now ++ (second.now ++ (third.now ++ (fourth.now ++ (fifth.now ++ (sixth.now ++ seventh.now)))))) }
+{
+    match notes.put(first) {
+        Ok(()) => put_six(notes, second, third, fourth, fifth, sixth, seventh),
+        Err(_) => {}
+    }
+}

@@ -5,3 +5,5 @@ pub mod Records
 pub mod Meaning
 pub mod Loads
 pub mod Serves
+pub mod Runs
+pub mod Statuses

@@ -34,7 +34,6 @@ columns_zip : (columns : Columns) → zip (names_of columns) (types_of columns) 
 columns_zip [] = refl
 columns_zip (c ∷ columns) = ap (λ (cs : Columns). c ∷ cs) (columns_zip columns)
 
-
 -- columns in byte order, by their places
 pub columns_arranged : (columns : Columns) → by_label columns ≡ map (pair_at column.Int (names_of columns) (types_of columns)) (label_order (names_of columns))
 columns_arranged columns =
@@ -85,8 +84,8 @@ unfolding answer_value
 reordered_value labels xs ys m =
     same_bag (map (element_of labels) (filter is_top xs)) (map (element_of labels) (filter is_top ys))
     (matched_map (λ x y. x ≡ y) Same (element_of labels) (element_of labels) (λ x y e. subst (λ z. Same (element_of labels x) (element_of labels z)) e (same_refl (element_of labels x)))
-      (filter is_top xs) (filter is_top ys)
-      (matched_filter (λ x y. x ≡ y) is_top is_top (λ x y e. ap is_top e) xs ys m))
+    (filter is_top xs) (filter is_top ys)
+    (matched_filter (λ x y. x ≡ y) is_top is_top (λ x y e. ap is_top e) xs ys m))
 
 -- what SQL allows as an answer stands for the meaning of the table
 pub allowed_value : (columns : Columns) (rows answer : List (List Cell)) → All (RowFits (types_of columns)) rows

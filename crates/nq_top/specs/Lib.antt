@@ -9,3 +9,5 @@ pub mod Gathering
 pub mod Meanings
 pub mod Serving
 pub mod Loading
+pub mod Noting
+pub mod Running

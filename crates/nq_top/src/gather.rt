@@ -158,11 +158,7 @@ fn gather_tables<I: Inputs>(
 
 // The place of the table that a query of the first form names.
 #[tactic(auto, unfolding(crate::specs::Judging::asked_place))]
-fn asked_place(
-    alloc: Global,
-    shapes: &[TableShape],
-    text: &[u8],
-) -> Result<Option<usize>, Memory>
+fn asked_place(alloc: Global, shapes: &[TableShape], text: &[u8]) -> Result<Option<usize>, Memory>
     ensures place { IfOk result (λ place. place ≡ asked_place shapes.now text.now) }
     ensures within { IfOk result (λ place. IfSome place (λ at. at < length shapes.now)) }
 {

@@ -28,11 +28,7 @@ struct Question {
 
 // A copy of the name of the column at a place.
 #[tactic(auto, using(crate::proofs::Meaning::label_there))]
-fn label_at(
-    alloc: Global,
-    columns: &[(Label, ColumnType)],
-    place: usize,
-) -> Result<Label, Memory>
+fn label_at(alloc: Global, columns: &[(Label, ColumnType)], place: usize) -> Result<Label, Memory>
     requires { place < length columns.now }
     ensures { IfOk result (λ label. label ≡ label_at (names_of columns.now) place) }
 {

@@ -13,7 +13,7 @@ loop-at-preserved c =
     record {
       within = omega arith;
       same = read_more (columns_of (texts pieces)) c.loop-at.columns _ c.in-More.name.now _ c.in-More.column (columns_of (texts (drop at pieces))) (columns_of (drop 4 (texts (drop at pieces)))) (columns_of (texts (drop (at + 4) pieces)))
-        c.loop-at.invariant.same read (next_four pieces at) c.in_ok-from_str-in-More.ensures c.in_ok-push-in-More.ensures.ok;
+          c.loop-at.invariant.same read (next_four pieces at) c.in_ok-from_str-in-More.ensures c.in_ok-push-in-More.ensures.ok;
     }
 
 pub returns : goal.returns

@@ -1,0 +1,148 @@
+-- What a status says, by the answer that it stands for.
+use Rattle.std.proofs.Common.{◌≡◌, ◌<◌, ◌⊎◌, ◌↔◌, ◌==◌, ℕ, Bool, true, List, [], ◌∷◌, ◌++◌, Option, Some, None, Result, Ok, Err, refl, sym, ap, ◌∙◌, subst, arith, inl, inr, All, IfSome, slice_get}
+use Rattle.nq_model.specs.Cells.{RowFits}
+use Rattle.nq_model.specs.declared.table.Cell.{Cell}
+use Rattle.nq_edge.specs.Edge.{Files, Rose, TellsMore, AppendsPrefix}
+use Rattle.sql_profile.specs.Scans.{scan_text, scan_types}
+use Rattle.sql_profile.specs.Servers.{Asks, RoseBelow, with_ask}
+use Rattle.sql_profile.specs.declared.server.Loaded.{Loaded}
+use Rattle.sql_profile.proofs.Misfits.{fits_without_misfit}
+use Rattle.nq_top.specs.Gathering.{Told, Judges, RefusalTells}
+use Rattle.nq_top.specs.Judging.{Judgement, Verdict, accepted}
+use Rattle.nq_top.specs.Noting.{Notes}
+use Rattle.nq_top.specs.Refusals.{status_of}
+use Rattle.nq_top.specs.Serving.{ServerState, AnswersBadly, ServeTells, RefusalBlames}
+use Rattle.nq_top.specs.Running.{Answer, Served, InputCount, OutputCount, ServerCount, PutsOnly, Keeps, Blames, Writes, ServesNone, Tells, Means, RoseAt, ServerRoseAt, PutsAt, KeepsAt, Comes, IsDone, Completes, ToldFit, IsFair}
+use Rattle.nq_top.specs.declared.refusal.Refused.TheVariants as refused
+use Rattle.nq_top.specs.declared.refusal.InputRefusal.TheVariants as input
+use Rattle.nq_top.specs.declared.refusal.ServerRefusal.{ServerRefusal}
+use Rattle.nq_top.specs.declared.refusal.ServerRefusal.TheVariants as server
+use Rattle.nq_top.specs.declared.refusal.Refusal.TheVariants as refusal
+
+-- the count of the inputs
+inputs_of : (before now : ℕ) (a : Answer) → InputCount before now a → RoseAt 7 before now (status_of a)
+inputs_of before now (Ok u) h = h
+inputs_of before now (Err (refusal.Input input.Memory)) h = h
+inputs_of before now (Err (refusal.Input (input.Refused refused.Usage))) h = h
+inputs_of before now (Err (refusal.Input (input.Refused (refused.TooLong name limit)))) h = h
+inputs_of before now (Err (refusal.Input (input.Refused refused.NotBuilt))) h = h
+inputs_of before now (Err (refusal.Input (input.Failed name))) h = h
+inputs_of before now (Err (refusal.Server server.Memory)) h = h
+inputs_of before now (Err (refusal.Server (server.TableFailed name))) h = h
+inputs_of before now (Err (refusal.Server (server.TextFailed text))) h = h
+inputs_of before now (Err (refusal.Server (server.BadAnswer text row column))) h = h
+inputs_of before now (Err refusal.OutputFailed) h = h
+
+pub inputs_at : (before now : ℕ) (status : ℕ) (a : Answer) → status ≡ status_of a → InputCount before now a → RoseAt 7 before now status
+inputs_at before now status a is h = subst (λ (s : ℕ). RoseAt 7 before now s) (sym is) (inputs_of before now a h)
+
+-- the count of the output
+output_of : (before now : ℕ) (a : Answer) → OutputCount before now a → RoseAt 8 before now (status_of a)
+output_of before now (Ok u) h = h
+output_of before now (Err (refusal.Input input.Memory)) h = h
+output_of before now (Err (refusal.Input (input.Refused refused.Usage))) h = h
+output_of before now (Err (refusal.Input (input.Refused (refused.TooLong name limit)))) h = h
+output_of before now (Err (refusal.Input (input.Refused refused.NotBuilt))) h = h
+output_of before now (Err (refusal.Input (input.Failed name))) h = h
+output_of before now (Err (refusal.Server server.Memory)) h = h
+output_of before now (Err (refusal.Server (server.TableFailed name))) h = h
+output_of before now (Err (refusal.Server (server.TextFailed text))) h = h
+output_of before now (Err (refusal.Server (server.BadAnswer text row column))) h = h
+output_of before now (Err refusal.OutputFailed) h = h
+
+pub output_at : (before now : ℕ) (status : ℕ) (a : Answer) → status ≡ status_of a → OutputCount before now a → RoseAt 8 before now status
+output_at before now status a is h = subst (λ (s : ℕ). RoseAt 8 before now s) (sym is) (output_of before now a h)
+
+-- the count of the server
+server_of : (bound before now : ℕ) (a : Answer) → ServerCount bound before now a → ServerRoseAt 9 bound before now (status_of a)
+server_of bound before now (Ok u) h = h
+server_of bound before now (Err (refusal.Input input.Memory)) h = h
+server_of bound before now (Err (refusal.Input (input.Refused refused.Usage))) h = h
+server_of bound before now (Err (refusal.Input (input.Refused (refused.TooLong name limit)))) h = h
+server_of bound before now (Err (refusal.Input (input.Refused refused.NotBuilt))) h = h
+server_of bound before now (Err (refusal.Input (input.Failed name))) h = h
+server_of bound before now (Err (refusal.Server server.Memory)) h = h
+server_of bound before now (Err (refusal.Server (server.TableFailed name))) h = h
+server_of bound before now (Err (refusal.Server (server.TextFailed text))) h = h
+server_of bound before now (Err (refusal.Server (server.BadAnswer text row column))) h = h
+server_of bound before now (Err refusal.OutputFailed) h = h
+
+pub server_at : (bound before now : ℕ) (status : ℕ) (a : Answer) → status ≡ status_of a → ServerCount bound before now a → ServerRoseAt 9 bound before now status
+server_at bound before now status a is h = subst (λ (s : ℕ). ServerRoseAt 9 bound before now s) (sym is) (server_of bound before now a h)
+
+-- what was put
+puts_of : (old new : Option (List ℕ)) (a : Answer) → PutsOnly old new a → PutsAt old new (status_of a)
+puts_of old new (Ok u) h = h
+puts_of old new (Err (refusal.Input input.Memory)) h = h
+puts_of old new (Err (refusal.Input (input.Refused refused.Usage))) h = h
+puts_of old new (Err (refusal.Input (input.Refused (refused.TooLong name limit)))) h = h
+puts_of old new (Err (refusal.Input (input.Refused refused.NotBuilt))) h = h
+puts_of old new (Err (refusal.Input (input.Failed name))) h = h
+puts_of old new (Err (refusal.Server server.Memory)) h = h
+puts_of old new (Err (refusal.Server (server.TableFailed name))) h = h
+puts_of old new (Err (refusal.Server (server.TextFailed text))) h = h
+puts_of old new (Err (refusal.Server (server.BadAnswer text row column))) h = h
+puts_of old new (Err refusal.OutputFailed) h = h
+
+pub puts_at : (old new : Option (List ℕ)) (status : ℕ) (a : Answer) → status ≡ status_of a → PutsOnly old new a → PutsAt old new status
+puts_at old new status a is h = subst (λ (s : ℕ). PutsAt old new s) (sym is) (puts_of old new a h)
+
+-- what the server holds
+keeps_of : (old new : ServerState) (a : Answer) → Keeps old new a → KeepsAt old new (status_of a)
+keeps_of old new (Ok u) h = h
+keeps_of old new (Err (refusal.Input input.Memory)) h = tt
+keeps_of old new (Err (refusal.Input (input.Refused refused.Usage))) h = h
+keeps_of old new (Err (refusal.Input (input.Refused (refused.TooLong name limit)))) h = h
+keeps_of old new (Err (refusal.Input (input.Refused refused.NotBuilt))) h = h
+keeps_of old new (Err (refusal.Input (input.Failed name))) h = h
+keeps_of old new (Err (refusal.Server server.Memory)) h = h
+keeps_of old new (Err (refusal.Server (server.TableFailed name))) h = h
+keeps_of old new (Err (refusal.Server (server.TextFailed text))) h = h
+keeps_of old new (Err (refusal.Server (server.BadAnswer text row column))) h = h
+keeps_of old new (Err refusal.OutputFailed) h = h
+
+pub keeps_at : (old new : ServerState) (status : ℕ) (a : Answer) → status ≡ status_of a → Keeps old new a → KeepsAt old new status
+keeps_at old new status a is h = subst (λ (s : ℕ). KeepsAt old new s) (sym is) (keeps_of old new a h)
+
+-- status 2 is the answer to words of no listed form
+is_usage : (a : Answer) → status_of a ≡ 2 → a ≡ Err (refusal.Input (input.Refused refused.Usage))
+is_usage (Ok u) h = cc
+is_usage (Err (refusal.Input input.Memory)) h = cc
+is_usage (Err (refusal.Input (input.Refused refused.Usage))) h = refl
+is_usage (Err (refusal.Input (input.Refused (refused.TooLong name limit)))) h = cc
+is_usage (Err (refusal.Input (input.Refused refused.NotBuilt))) h = cc
+is_usage (Err (refusal.Input (input.Failed name))) h = cc
+is_usage (Err (refusal.Server server.Memory)) h = cc
+is_usage (Err (refusal.Server (server.TableFailed name))) h = cc
+is_usage (Err (refusal.Server (server.TextFailed text))) h = cc
+is_usage (Err (refusal.Server (server.BadAnswer text row column))) h = cc
+is_usage (Err refusal.OutputFailed) h = cc
+
+pub usage_at : (C : Type 0) (status : ℕ) (a : Answer) → status ≡ status_of a → ((a ≡ Err (refusal.Input (input.Refused refused.Usage))) ↔ C) → (status ≡ 2) ↔ C
+usage_at C status a is usage =
+    (λ two. usage.0 (is_usage a (sym is ∙ two)), λ holds. is ∙ ap status_of (usage.1 holds))
+
+-- status 11 blames the server
+blames_of : (honest : Bool) (a : Answer) → status_of a ≡ 11 → Blames honest a → honest ≡ true → ⊥
+blames_of honest (Ok u) h blames = absurd (cc)
+blames_of honest (Err (refusal.Input input.Memory)) h blames = absurd (cc)
+blames_of honest (Err (refusal.Input (input.Refused refused.Usage))) h blames = absurd (cc)
+blames_of honest (Err (refusal.Input (input.Refused (refused.TooLong name limit)))) h blames = absurd (cc)
+blames_of honest (Err (refusal.Input (input.Refused refused.NotBuilt))) h blames = absurd (cc)
+blames_of honest (Err (refusal.Input (input.Failed name))) h blames = absurd (cc)
+blames_of honest (Err (refusal.Server server.Memory)) h blames = absurd (cc)
+blames_of honest (Err (refusal.Server (server.TableFailed name))) h blames = absurd (cc)
+blames_of honest (Err (refusal.Server (server.TextFailed text))) h blames = absurd (cc)
+blames_of honest (Err (refusal.Server (server.BadAnswer text row column))) h blames = blames
+blames_of honest (Err refusal.OutputFailed) h blames = absurd (cc)
+
+pub blames_at : (honest : Bool) (status : ℕ) (a : Answer) → status ≡ status_of a → Blames honest a → status ≡ 11 → honest ≡ true → ⊥
+blames_at honest status a is blames eleven = blames_of honest a (sym is ∙ eleven) blames
+
+-- the answer that a status comes of
+pub comes_of : (held : Option Files) (tells : Files → Answer → Type 0) (notes_old notes_new : Option (List ℕ)) (before now status : ℕ) (a : Answer)
+    → status ≡ status_of a → Notes notes_old notes_new before now a → IfSome held (λ files. tells files a) → Comes held tells notes_old notes_new before now status
+comes_of held tells notes_old notes_new before now status a is notes told = record { answer = a; is = is; notes = notes; told = told }
+
+pub ruleset status_rules = (inputs_at, output_at, server_at, puts_at, keeps_at, usage_at, blames_at, comes_of)
+pub ruleset main_rules = (inputs_at)

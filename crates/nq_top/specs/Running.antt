@@ -1,0 +1,151 @@
+-- What a run comes to, whole.
+use Rattle.std.specs.Prelude.{◌≡◌, ◌<◌, ◌⊎◌, ◌==◌, ◌||◌, ℕ, Bool, true, ⊤, List, [], ◌∷◌, ◌++◌, All, MatchBool, Option, Some, slice_get, IfSome, Result, Ok, Err}
+use Rattle.std.specs.List.{list_any}
+use Rattle.nq_model.specs.Cells.{RowFits}
+use Rattle.nq_model.specs.Canonical.{canonical_text}
+use Rattle.nq_edge.specs.Edge.{Files, Rose, TellsMore, AppendsPrefix}
+use Rattle.sql_profile.specs.Scans.{scan_types}
+use Rattle.sql_profile.specs.Servers.{Asks, RoseBelow}
+use Rattle.sql_profile.specs.declared.server.Loaded.{Loaded}
+use Rattle.nq_top.specs.Gathering.{Told, InputCounts, Judges, RefusalTells}
+use Rattle.nq_top.specs.Judging.{Judgement, accepted}
+use Rattle.nq_top.specs.Meanings.{query_meaning}
+use Rattle.nq_top.specs.Noting.{Notes}
+use Rattle.nq_top.specs.Refusals.{status_of}
+use Rattle.nq_top.specs.Serving.{ServerState, RefusalCounts, RefusalBlames}
+use Rattle.nq_top.specs.declared.refusal.InputRefusal.{InputRefusal}
+use Rattle.nq_top.specs.declared.refusal.InputRefusal.TheVariants as input
+use Rattle.nq_top.specs.declared.refusal.ServerRefusal.{ServerRefusal}
+use Rattle.nq_top.specs.declared.refusal.Refusal.{Refusal}
+use Rattle.nq_top.specs.declared.refusal.Refusal.TheVariants as refusal
+
+-- nothing, or why not
+abbrev pub Answer : Type 0
+Answer = Result (Unit {0}) Refusal
+
+-- what a server says of the text that it serves for a table among tables, or of its refusal
+abbrev pub Served : Type 1
+Served = List Loaded → ℕ → Result (List ℕ) ServerRefusal → Type 0
+
+-- 1. what each count did, by the answer
+
+abbrev pub InputCount : ℕ → ℕ → Answer → Type 0
+InputCount before now (Ok _) = now ≡ before
+InputCount before now (Err (refusal.Input r)) = InputCounts {T = Unit {0}} before now (Err r)
+InputCount before now (Err (refusal.Server r)) = now ≡ before
+InputCount before now (Err refusal.OutputFailed) = now ≡ before
+
+abbrev pub OutputCount : ℕ → ℕ → Answer → Type 0
+OutputCount before now (Ok _) = now ≡ before
+OutputCount before now (Err (refusal.Input r)) = now ≡ before
+OutputCount before now (Err (refusal.Server r)) = now ≡ before
+OutputCount before now (Err refusal.OutputFailed) = Rose before now
+
+abbrev pub ServerCount : ℕ → ℕ → ℕ → Answer → Type 0
+ServerCount bound before now (Ok _) = now ≡ before
+ServerCount bound before now (Err (refusal.Input r)) = now ≡ before
+ServerCount bound before now (Err (refusal.Server r)) = RefusalCounts bound before now r
+ServerCount bound before now (Err refusal.OutputFailed) = now ≡ before
+
+-- 2. what was put, what the server holds, and whom an answer blames
+
+-- bytes are put only where all else succeeded
+abbrev pub PutsOnly : Option (List ℕ) → Option (List ℕ) → Answer → Type 0
+PutsOnly old new (Ok _) = ⊤
+PutsOnly old new (Err (refusal.Input r)) = new ≡ old
+PutsOnly old new (Err (refusal.Server r)) = new ≡ old
+PutsOnly old new (Err refusal.OutputFailed) = ⊤
+
+-- a refusal before the server is called leaves it as it was
+abbrev pub Keeps : ServerState → ServerState → Answer → Type 0
+Keeps old new (Ok _) = ⊤
+Keeps old new (Err (refusal.Input r)) = new ≡ old
+Keeps old new (Err (refusal.Server r)) = ⊤
+Keeps old new (Err refusal.OutputFailed) = ⊤
+
+abbrev pub Blames : Bool → Answer → Type 0
+Blames honest (Ok _) = ⊤
+Blames honest (Err (refusal.Input r)) = ⊤
+Blames honest (Err (refusal.Server r)) = RefusalBlames honest r
+Blames honest (Err refusal.OutputFailed) = ⊤
+
+-- 3. what an answer says of the inputs, of the server and of the output
+
+-- the inputs come to tables, the server serves this text for them, and it was put
+pub record Writes (served : Served) (judgement : Judgement) (old new : Told) (put : List ℕ → Type 0) : Type 0 where
+  pub tables : List Loaded
+  pub asked : ℕ
+  pub text : List ℕ
+  pub judges : Judges judgement (accepted tables asked) old new
+  pub serves : served tables asked (Ok text)
+  pub puts : put text
+
+-- the inputs come to tables, for which the server gives no text
+pub record ServesNone (served : Served) (judgement : Judgement) (old new : Told) (r : ServerRefusal) : Type 0 where
+  pub tables : List Loaded
+  pub asked : ℕ
+  pub judges : Judges judgement (accepted tables asked) old new
+  pub serves : served tables asked (Err r)
+
+abbrev pub Tells : Served → Judgement → Told → Told → Option (List ℕ) → Option (List ℕ) → Answer → Type 0
+Tells served judgement old new out_old out_new (Ok _) = Writes served judgement old new (TellsMore out_old out_new)
+Tells served judgement old new out_old out_new (Err (refusal.Input r)) = RefusalTells judgement old new r
+Tells served judgement old new out_old out_new (Err (refusal.Server r)) = ServesNone served judgement old new r
+Tells served judgement old new out_old out_new (Err refusal.OutputFailed) = Writes served judgement old new (AppendsPrefix out_old out_new)
+
+-- what is known of a server that is not seen again: the text of an honest one is that of what the query
+-- means, and its answers fit
+abbrev pub Means : Bool → Served
+Means honest tables asked (Ok text) = honest ≡ true → text ≡ canonical_text (query_meaning tables asked)
+Means honest tables asked (Err r) = RefusalBlames honest r
+
+-- 4. what a status says
+
+-- the count rose where the status is this one, and else stayed
+abbrev pub RoseAt : ℕ → ℕ → ℕ → ℕ → Type 0
+RoseAt this before now status = MatchBool (status == this) (Rose before now) (now ≡ before)
+
+-- the count of a server with this bound rose where the status is this one, and else stayed
+abbrev pub ServerRoseAt : ℕ → ℕ → ℕ → ℕ → ℕ → Type 0
+ServerRoseAt this bound before now status = MatchBool (status == this) (RoseBelow bound before now) (now ≡ before)
+
+-- bytes are put at statuses 0 and 8 alone
+abbrev pub PutsAt : Option (List ℕ) → Option (List ℕ) → ℕ → Type 0
+PutsAt old new status = MatchBool ((status == 0) || (status == 8)) ⊤ (new ≡ old)
+
+-- the statuses of what is refused before a server is called
+abbrev pub is_input_status : ℕ → Bool
+is_input_status status = list_any (λ s. s == status) (2 ∷ 3 ∷ 4 ∷ 5 ∷ 6 ∷ 7 ∷ 10 ∷ 13 ∷ [])
+
+-- at these the server is as it was
+abbrev pub KeepsAt : ServerState → ServerState → ℕ → Type 0
+KeepsAt old new status = MatchBool (is_input_status status) (new ≡ old) ⊤
+
+-- The status and the note line are those of one answer; and where the inputs are told, so is what it says.
+pub record Comes (held : Option Files) (tells : Files → Answer → Type 0) (notes_old notes_new : Option (List ℕ)) (before now status : ℕ) : Type 0 where
+  pub answer : Answer
+  pub is : status ≡ status_of answer
+  pub notes : Notes notes_old notes_new before now answer
+  pub told : IfSome held (λ files. tells files answer)
+
+-- 5. completeness
+
+abbrev pub IsDone : ℕ → Type 0
+IsDone status = (status ≡ 0) ⊎ (status ≡ 1)
+
+-- Where the inputs come to tables, no call failed, and the server is fair to them, the run succeeds but
+-- for want of memory.
+abbrev pub Completes : Judgement → Type 0 → (List Loaded → ℕ → Type 0) → ℕ → Type 0
+Completes judgement failed fair status = (tables : List Loaded) (asked : ℕ) → judgement.verdict ≡ accepted tables asked → (failed → ⊥) → fair tables asked → IsDone status
+
+-- the answers that were told in a call fit the columns of the table that was asked for
+pub record ToldFit (tables : List Loaded) (asked : ℕ) (old new : Option Asks) : Type 0 where
+  pub before : Asks
+  pub more : Asks
+  pub was : old ≡ Some before
+  pub is : new ≡ Some (before ++ more)
+  pub fit : (table : Loaded) → slice_get tables asked ≡ Some table → All (λ ask. All (RowFits (scan_types table.columns)) ask.1.rows) more
+
+-- a server is honest, or tells its asks and gave answers that fit
+abbrev pub IsFair : Bool → Option Asks → Option Asks → List Loaded → ℕ → Type 0
+IsFair honest old new tables asked = (honest ≡ true) ⊎ ToldFit tables asked old new
