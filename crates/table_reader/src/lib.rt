@@ -1,0 +1,41 @@
+//! Reads table texts: CSV with a header of column names, into rows of typed cells.
+#![tactic(auto)]
+
+mod cells;
+mod keys;
+mod read;
+mod records;
+
+use nq_model::Memory;
+pub use read::read_table;
+use thiserror::Error;
+
+/// Why a table text is refused. Rows and columns are counted from 1, and the header is no row.
+#[derive(Clone, Copy, Debug, PartialEq, Eq, Error)]
+pub enum TableFault {
+    #[error("want of memory")]
+    Memory,
+    #[error("the first record is not the column names")]
+    Header,
+    #[error("row {row} has another number of cells than the table has columns")]
+    Width { row: u64 },
+    #[error("row {row} column {column} is not UTF-8")]
+    NotUtf8 { row: u64, column: u64 },
+    #[error("row {row} column {column} is no int")]
+    BadInt { row: u64, column: u64 },
+    #[error("row {row} column {column} is no bool")]
+    BadBool { row: u64, column: u64 },
+    #[error("row {row} has the key of row {earlier}")]
+    TwiceKey { row: u64, earlier: u64 },
+}
+
+impl From<Memory> for TableFault {
+    ghost use Rattle.std.specs.Prelude.{◌≡◌};
+    ghost use Rattle.table_reader.specs.declared.TableFault.TheVariants as fault;
+
+    ghost from_gives = { λ _ e. e ≡ fault.Memory };
+
+    fn from(_: Memory) -> Self {
+        TableFault::Memory
+    }
+}
