@@ -1,6 +1,9 @@
 pub mod Parses
 pub mod CellFacts
 pub mod RowFacts
+pub mod SpellingFacts
 pub mod KeyFacts
 pub mod ReadFacts
+pub mod TwinFacts
+pub mod TableFacts
 pub mod RecordFacts

@@ -1,5 +1,5 @@
 -- Which cell a field spells in a column, and which row a record spells.
-use Rattle.std.specs.Prelude.{ℕ, ℤ, pos, neg_ℤ, ◌+◌, ◌^◌, ◌==◌, ◌&&◌, ◌||◌, nat_lt, Bool, true, false, List, [], ◌∷◌, length, Option, Some, None, Result, Ok, Err, option_map, if◌then◌else◌, codes}
+use Rattle.std.specs.Prelude.{ℕ, ℤ, pos, neg_ℤ, ◌+◌, ◌^◌, ◌==◌, ◌&&◌, ◌||◌, nat_lt, Bool, true, false, List, [], ◌∷◌, length, zip, Option, Some, None, Result, Ok, Err, option_map, if◌then◌else◌, codes}
 use Rattle.std.specs.Option.{ok_or}
 use Rattle.std.specs.Str.{all_ascii_digits, bytes_eq, is_utf8}
 use Rattle.std.specs.Str.Parse.{digits_value}
@@ -54,13 +54,11 @@ abbrev pub and_then : {A B : Type 0} → Result A TableFault → (A → Result B
 and_then (Ok x) next = next x
 and_then (Err e) next = Err e
 
--- the cells that fields spell from a column on, or the first fault from the left
-abbrev pub cells_from : ℕ → ℕ → List ColumnType → Record → Result (List Cell) TableFault
-cells_from row at (type ∷ types) (field ∷ fields) =
-    and_then (cell_at row at type field) (λ c. and_then (cells_from row (at + 1) types fields) (λ cells. Ok (c ∷ cells)))
-cells_from row at (type ∷ types) [] = Ok []
-cells_from row at [] fields = Ok []
+-- the cells that fields spell from a column on, each beside the type of its column, or the first fault from the left
+abbrev pub cells_from : ℕ → ℕ → List (ColumnType × List ℕ) → Result (List Cell) TableFault
+cells_from row at [] = Ok []
+cells_from row at (p ∷ more) = and_then (cell_at row at p.0 p.1) (λ c. and_then (cells_from row (at + 1) more) (λ cells. Ok (c ∷ cells)))
 
 -- the row that a record spells under columns of these types, or its first fault: its width, then its cells
 unfoldable pub row_at : ℕ → List ColumnType → Record → Result (List Cell) TableFault
-row_at row types fields = if length fields == length types then cells_from row 1 types fields else Err (fault.Width row)
+row_at row types fields = if length fields == length types then cells_from row 1 (zip types fields) else Err (fault.Width row)

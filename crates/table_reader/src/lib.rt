@@ -3,9 +3,11 @@
 
 mod cells;
 mod keys;
+mod laws;
 mod read;
 mod records;
 
+pub use laws::table_laws;
 use nq_model::Memory;
 pub use read::read_table;
 use thiserror::Error;
