@@ -6,4 +6,5 @@ pub mod KeyFacts
 pub mod ReadFacts
 pub mod TwinFacts
 pub mod TableFacts
+pub mod FitFacts
 pub mod RecordFacts

@@ -24,7 +24,7 @@ both false b c h = cc
 joined : (a b c : Bool) → a ≡ true → b ≡ true → c ≡ true → (a && (b && c)) ≡ true
 joined a b c p q r = rw (p, q, r) refl
 
-numeral_to : (ds : List ℕ) (n : ℕ) → is_numeral ds n ≡ true → (all_ascii_digits ds ≡ true) × (0 < length ds) × (digits_value 10 ds < n)
+pub numeral_to : (ds : List ℕ) (n : ℕ) → is_numeral ds n ≡ true → (all_ascii_digits ds ≡ true) × (0 < length ds) × (digits_value 10 ds < n)
 numeral_to ds n h =
     let parts = both (all_ascii_digits ds) (nat_lt 0 (length ds)) (nat_lt (digits_value 10 ds) n) h in
     (parts.0, grind (arith, parts.1), grind (arith, parts.2))

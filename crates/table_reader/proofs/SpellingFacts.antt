@@ -81,15 +81,18 @@ module _ (row at : ℕ) (field : List ℕ) where
       ints None utf8 spelled is =
           let same : fault.BadInt row at ≡ e = cc in
           subst (λ (f : TableFault). IsWrong column.Int f) same (refl, refl, refl, utf8, spelled)
+
       bools : (o : Option Bool) → is_utf8 field ≡ true → bool_of field ≡ o → ok_or (option_map cell.Bool o) (fault.BadBool row at) ≡ Err e → IsWrong column.Bool e
       bools (Some b) utf8 spelled is = cc
       bools None utf8 spelled is =
           let same : fault.BadBool row at ≡ e = cc in
           subst (λ (f : TableFault). IsWrong column.Bool f) same (refl, refl, refl, utf8, spelled)
+
       typed : (type : ColumnType) → is_utf8 field ≡ true → ok_or (cell_of type field) (fault_of type row at) ≡ Err e → IsWrong type e
       typed column.Int utf8 is = ints (int_of field) utf8 refl is
       typed column.Bool utf8 is = bools (bool_of field) utf8 refl is
       typed column.Text utf8 is = cc
+
       by : (b : Bool) → is_utf8 field ≡ b → (if b then ok_or (cell_of type field) (fault_of type row at) else Err (fault.NotUtf8 row at)) ≡ Err e → IsWrong type e
       by true utf8 is = typed type utf8 is
       by false utf8 is =
@@ -147,14 +150,17 @@ module _ (row : ℕ) where
     where
       here : cell_at row at p.0 p.1 ≡ Err e → BadAfter at (p ∷ ps) e
       here wrong = record { before = []; cells = []; spelled = tt; p = p; after = ps; is = refl; wrong = rw (add-zero at) wrong }
+
       later : (c : Cell) → cell_at row at p.0 p.1 ≡ Ok c → BadAfter (at + 1) ps e → BadAfter at (p ∷ ps) e
       later c is bad =
           let next : at + suc (length bad.before) ≡ at + 1 + length bad.before = omega arith in
           record { before = p ∷ bad.before; cells = c ∷ bad.cells; spelled = (cell_spelled row at p.1 p.0 c is, bad.spelled); p = bad.p; after = bad.after; is = ap (λ l. p ∷ l) bad.is; wrong = rw next bad.wrong }
+
       rest : (c : Cell) → cell_at row at p.0 p.1 ≡ Ok c → (cells_from row (at + 1) ps ≡ Err e) ⊎ ((cells : List Cell) × (cells_from row (at + 1) ps ≡ Ok cells) × (Ok (c ∷ cells) ≡ Err e))
           → (cells_from row (at + 1) ps ≡ Err e → BadAfter (at + 1) ps e) → BadAfter at (p ∷ ps) e
       rest c is (inl wrong) bad = later c is (bad wrong)
       rest c is (inr (cells, ok, never)) bad = cc
+
       by : (cell_at row at p.0 p.1 ≡ Err e) ⊎ ((c : Cell) × (cell_at row at p.0 p.1 ≡ Ok c) × (and_then (cells_from row (at + 1) ps) (λ cells. Ok (c ∷ cells)) ≡ Err e))
           → (cells_from row (at + 1) ps ≡ Err e → BadAfter (at + 1) ps e) → BadAfter at (p ∷ ps) e
       by (inl wrong) bad = here wrong
@@ -165,10 +171,10 @@ other_numbers m n e same = true≢false (sym ((Decides-eqb m n).1 same) ∙ e)
 
 same_numbers : (m n : ℕ) → m ≢ n → (m == n) ≡ false
 same_numbers m n other = by (m == n) refl
-    where
-      by : (b : Bool) → (m == n) ≡ b → b ≡ false
-      by true e = absurd (other ((Decides-eqb m n).0 e))
-      by false e = refl
+  where
+    by : (b : Bool) → (m == n) ≡ b → b ≡ false
+    by true e = absurd (other ((Decides-eqb m n).0 e))
+    by false e = refl
 
 module _ (row : ℕ) (types : List ColumnType) (fields : Record) where
   pub row_spelled : (cells : List Cell) → row_at row types fields ≡ Ok cells → SpellsRow types fields cells
@@ -222,6 +228,7 @@ module _ (row : ℕ) (types : List ColumnType) (fields : Record) where
       of_cell (fault.BadBool r c) bad width (p, q, h, k, l) =
           (p, bad_cell (λ type field. (type ≡ column.Bool) × (is_utf8 field ≡ true) × (bool_of field ≡ None)) (fault.BadBool r c) c bad width q (h, k, l))
       of_cell (fault.TwiceKey r f) bad width h = absurd h
+
       by : (b : Bool) → (length fields == length types) ≡ b → (if b then cells_from row 1 (zip types fields) else Err (fault.Width row)) ≡ Err e → IsWrongRow e
       by true width is =
           let bad = cells_wrong row 1 (zip types fields) e is in

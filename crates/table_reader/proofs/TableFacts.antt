@@ -82,6 +82,7 @@ module _ (shape : TableShape) where
           let same : fault.TwiceKey (length rows + 1) first ≡ e = cc in
           subst (λ (f : TableFault). IsTwice rows fields f) same
           (refl, (cells, row_spelled (length rows + 1) (types_of shape.columns) fields cells spelled, twin_first shape cells rows first found))
+
       by : (row_at (length rows + 1) (types_of shape.columns) fields ≡ Err e)
           ⊎ ((cells : List Cell) × (row_at (length rows + 1) (types_of shape.columns) fields ≡ Ok cells) × (unless_twin (length rows + 1) cells (twin_of shape cells rows) ≡ Err e))
           → IsWrongNext rows fields e
@@ -185,6 +186,7 @@ module _ (shape : TableShape) where
             here = rw (place, bad.is) (get_seam bad.before bad.fields bad.after);
             wrong = wrong;
           }
+
       wrong_row_first : is_header shape header ≡ true → (f : TableFault) (bad : BadAfter [] body f) → IsWrongRow (length bad.rows + 1) (types_of shape.columns) bad.fields f → HasFault shape (header ∷ body) f
       wrong_row_first named fault.Memory bad h = absurd h
       wrong_row_first named fault.Header bad h = absurd h
@@ -193,6 +195,7 @@ module _ (shape : TableShape) where
       wrong_row_first named (fault.BadInt r c) bad (p, h) = first named (fault.BadInt r c) bad r _ p h
       wrong_row_first named (fault.BadBool r c) bad (p, h) = first named (fault.BadBool r c) bad r _ p h
       wrong_row_first named (fault.TwiceKey r n) bad h = absurd h
+
       twice_first : is_header shape header ≡ true → (f : TableFault) (bad : BadAfter [] body f) → IsTwice bad.rows bad.fields f → HasFault shape (header ∷ body) f
       twice_first named fault.Memory bad h = absurd h
       twice_first named fault.Header bad h = absurd h
@@ -201,9 +204,11 @@ module _ (shape : TableShape) where
       twice_first named (fault.BadInt r c) bad h = absurd h
       twice_first named (fault.BadBool r c) bad h = absurd h
       twice_first named (fault.TwiceKey r n) bad (p, h) = first named (fault.TwiceKey r n) bad r _ p h
+
       either : is_header shape header ≡ true → (bad : BadAfter [] body e) → IsWrongNext bad.rows bad.fields e → HasFault shape (header ∷ body) e
       either named bad (inl h) = wrong_row_first named e bad h
       either named bad (inr h) = twice_first named e bad h
+
       by : (b : Bool) → is_header shape header ≡ b → (if b then rows_after shape [] body else Err fault.Header) ≡ Err e → HasFault shape (header ∷ body) e
       by true named is =
           let bad = after_wrong [] body e is in

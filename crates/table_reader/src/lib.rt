@@ -6,6 +6,8 @@ mod keys;
 mod laws;
 mod read;
 mod records;
+#[cfg(test)]
+mod tests;
 
 pub use laws::table_laws;
 use nq_model::Memory;

@@ -5,7 +5,7 @@ ghost use Rattle.nq_model.specs.declared.table.Cell.{Cell};
 ghost use Rattle.table_reader.specs.FirstRows.{KeepsIndex};
 ghost use Rattle.table_reader.specs.Records.{HasRead};
 ghost use Rattle.table_reader.specs.Progress.{ReadsHeader};
-ghost use Rattle.table_reader.specs.Tables.{is_header, next_row, table_of};
+ghost use Rattle.table_reader.specs.Tables.{is_header, next_row, table_of, IsTableOf};
 ghost use Rattle.table_reader.specs.declared.TableFault.TheVariants as fault;
 
 use crate::TableFault;
@@ -80,6 +80,7 @@ fn read_header(
 /// the left, and the key. `TableFault::Memory` alone may come at any text.
 pub fn read_table(alloc: Global, shape: &TableShape, text: &[u8]) -> Result<Table, TableFault>
     ensures rows { IfOk result (λ table. table_of shape.now text.now ≡ Ok table.rows) }
+    ensures table { IfOk result (λ table. IsTableOf shape.now table.rows) }
     ensures fault { IfErr result (λ e. e ≢ fault.Memory → table_of shape.now text.now ≡ Err e) }
 {
     let mut reader = reader_of(alloc, text);

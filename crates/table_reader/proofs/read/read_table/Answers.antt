@@ -2,6 +2,7 @@ use Rattle.std.proofs.Common.{◌∷◌, [], sym, ap, refl, arith, length-append
 use Rattle.std.proofs.lemmas.Result.{err_from_is_err_and}
 use Rattle.csv.specs.Records.{fields_of}
 use Rattle.table_reader.proofs.ReadFacts.{rows_end, rows_more, rows_stop}
+use Rattle.table_reader.proofs.FitFacts.{table_given}
 use Rattle.table_reader.proofs.read.read_table.Goals as goal
 
 pub returns-then-not-branch-clause-fault : goal.returns-then-not-branch-clause-fault
@@ -20,6 +21,9 @@ returns-then-not-branch-2-clause-rows c =
     let has = c.loop-row.invariant.has in
     rows_end c.args.shape.now c.args.text.now c.loop-row.reader c.loop-row.rows has
     (rw c.if-not-branch-2.true at (c.in_ok-read_next.ensures c.args.text.now (has.header ∷ has.body) has.given))
+
+pub returns-then-not-branch-2-clause-table : goal.returns-then-not-branch-2-clause-table
+returns-then-not-branch-2-clause-table c = table_given c.args.shape.now c.args.text.now c.loop-row.rows (returns-then-not-branch-2-clause-rows c)
 
 pub returns-in_err-next_row-clause-fault : goal.returns-in_err-next_row-clause-fault
 returns-in_err-next_row-clause-fault c =
