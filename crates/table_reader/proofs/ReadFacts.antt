@@ -73,5 +73,3 @@ module _ (shape : TableShape) where
       rows_stop e is =
           let begins = begins_with_read text new ((has.header ∷ has.body) ++ fields ∷ []) given in
           rw (begins.1, has.named, rows_after-append [] (has.body ++ fields ∷ []) begins.0, rows_after-append [] has.body (fields ∷ []), has.spelled, is) refl
-
-pub ruleset no_header_rules = (nothing_read, header_read)

@@ -132,7 +132,7 @@ module _ (row : ℕ) where
   pub spelled_cells : (ps : List (ColumnType × List ℕ)) (cells : List Cell) → AllZip Spells ps cells → cells_from row 1 ps ≡ Ok cells
   spelled_cells ps cells h =
       let e : cells_from row 1 (ps ++ []) ≡ Ok (cells ++ []) = spelled_then 1 ps cells [] h in
-      rw (append-nil, append-nil) at e
+      rw (append-nil ps, append-nil cells) at e
 
   -- fields that spell cells, and then one at fault
   pub record BadAfter (at : ℕ) (ps : List (ColumnType × List ℕ)) (e : TableFault) : Type 0 where

@@ -1,6 +1,7 @@
 -- What the records of a text give, and its first fault.
 use Rattle.std.proofs.Common.{◌≡◌, ◌≢◌, ◌≤◌, ◌+◌, ◌-◌, ℕ, zero, suc, Bool, true, false, if◌then◌else◌, Option, Some, None, Result, Ok, Err, List, [], ◌∷◌, ◌++◌, length, map, take, drop, slice_get, refl, sym, ap, subst, inl, inr, ◌⊎◌, ◌∙◌, arith, true≢false, append-nil, append_assoc}
 use Rattle.std.specs.List.{AllZip, AllByRecursion as Each}
+use Rattle.std.specs.Result.{result_ok}
 use Rattle.std.specs.Str.{bytes_eq}
 use Rattle.std.specs.Cmp.Lexicographic.{pointwise, pointwise_decides, bytes_decides}
 use Rattle.std.proofs.lemmas.List.{map-append, length-take}
@@ -253,3 +254,27 @@ module _ (shape : TableShape) where
       stop records (fault.BadBool r c) r _ h (λ rows fields number bad. wrong_next rows fields (fault.BadBool r c) (sym number, bad))
   wrong_under records (fault.TwiceKey r n) h =
       stop records (fault.TwiceKey r n) r _ h (λ rows fields number twice. rw (sym number) (twice_next rows fields twice.0 n twice.1 twice.2))
+
+  pub either_under : (records : List Record) → ((rows : List (List Cell)) × GivesRows shape records rows) ⊎ ((e : TableFault) × HasFault shape records e)
+  either_under records = by (rows_under shape records) refl
+    where
+      by : (r : Result (List (List Cell)) TableFault) → rows_under shape records ≡ r
+          → ((rows : List (List Cell)) × GivesRows shape records rows) ⊎ ((e : TableFault) × HasFault shape records e)
+      by (Ok rows) is = inl (rows, under_given records rows is)
+      by (Err e) is = inr (e, under_wrong records e is)
+
+  pub not_both : (records : List Record) (rows : List (List Cell)) (e : TableFault) → GivesRows shape records rows → HasFault shape records e → ⊥
+  not_both records rows e gives wrong =
+      let given = given_under records rows gives in
+      let fault = wrong_under records e wrong in
+      cc
+
+  pub one_fault : (records : List Record) (e f : TableFault) → HasFault shape records e → HasFault shape records f → e ≡ f
+  one_fault records e f first second =
+      let one = wrong_under records e first in
+      let other = wrong_under records f second in
+      cc
+
+pub some_rows : (r : Result (List (List Cell)) TableFault) (rows : List (List Cell)) → (result_ok r ≡ Some rows → r ≡ Ok rows) × (r ≡ Ok rows → result_ok r ≡ Some rows)
+some_rows (Ok given) rows = (λ e. cc, λ e. cc)
+some_rows (Err f) rows = (λ e. cc, λ e. cc)

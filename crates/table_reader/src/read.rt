@@ -57,7 +57,6 @@ fn next_row(
 }
 
 // Whether the first record of a text is the names of the columns.
-#[tactic(auto, using(crate::proofs::ReadFacts::no_header_rules))]
 fn read_header(
     shape: &TableShape,
     reader: &mut Reader<&[u8]>,
@@ -71,10 +70,11 @@ fn read_header(
     Ok(is_header(shape, fields))
 }
 
-/// The rows that a table text spells for a table of this shape. The text is CSV with commas and double
-/// quotes, after a byte order mark if it begins with one, and its first record is the column names. An int
-/// cell is an optional minus sign and digits, within 64 bits, a bool cell `true`, `false`, `t` or `f`, and
-/// a text cell any UTF-8. Where the shape has a key, no two rows have equal key cells.
+/// The rows that a text gives a table of this shape. The text is CSV with commas and double quotes, after
+/// a byte order mark if it begins with one. Its first record is the column names in the order of the
+/// shape, and each further record is a row. An int cell is an optional minus sign and digits, within 64
+/// bits; a bool cell is `true`, `false`, `t` or `f`; a text cell is any UTF-8. Where the shape has a key,
+/// no two rows have equal key cells.
 ///
 /// A fault is the first in reading order: the header, then row by row the number of cells, the cells from
 /// the left, and the key. `TableFault::Memory` alone may come at any text.
@@ -96,5 +96,6 @@ pub fn read_table(alloc: Global, shape: &TableShape, text: &[u8]) -> Result<Tabl
         }
         rows.push(next_row(alloc, shape, &mut index, &fields, row)?)?;
     }
+    // No memory holds so many rows.
     Err(TableFault::Memory)
 }
