@@ -6,6 +6,9 @@ mod order;
 mod sort;
 mod text;
 
+#[cfg(test)]
+mod tests;
+
 pub use laws::{form_laws, text_laws};
 pub use order::compare;
 pub use sort::sort_deep;
