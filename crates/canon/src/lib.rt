@@ -4,10 +4,9 @@
 mod laws;
 mod order;
 mod sort;
-mod text;
-
 #[cfg(test)]
 mod tests;
+mod text;
 
 pub use laws::{form_laws, text_laws};
 pub use order::compare;
