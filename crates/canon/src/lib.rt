@@ -4,6 +4,8 @@
 mod laws;
 mod order;
 mod sort;
+#[cfg(test)]
+mod tests;
 mod text;
 
 pub use laws::{form_laws, text_laws};

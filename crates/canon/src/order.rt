@@ -32,16 +32,16 @@ pub fn compare(left: &Value, right: &Value) -> Ordering
 }
 
 #[cycle(compare)]
-fn compare_bags(left: &[Value], right: &[Value]) -> Ordering
-    ensures { result ≡ value_cmp (bag_of (map nested left.now)) (bag_of (map nested right.now)) }
+fn compare_bags(elements: &[Value], others: &[Value]) -> Ordering
+    ensures { result ≡ value_cmp (bag_of (map nested elements.now)) (bag_of (map nested others.now)) }
 {
-    for i in 0..left.len().min(right.len()) {
-        let first = compare(&left[i], &right[i]);
+    for i in 0..elements.len().min(others.len()) {
+        let first = compare(&elements[i], &others[i]);
         if first != Ordering::Equal {
             return first;
         }
     }
-    left.len().cmp(&right.len())
+    elements.len().cmp(&others.len())
 }
 
 #[cycle(compare)]

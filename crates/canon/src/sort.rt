@@ -23,10 +23,7 @@ pub fn sort_deep(alloc: Global, value: Value) -> Result<Value, Memory>
 }
 
 #[cycle(sort)]
-fn sort_fields(
-    alloc: Global,
-    fields: List<(Label, Value)>,
-) -> Result<List<(Label, Value)>, Memory>
+fn sort_fields(alloc: Global, fields: List<(Label, Value)>) -> Result<List<(Label, Value)>, Memory>
     ensures { IfOk result (λ sorted. fields_view sorted ≡ map (λ f. (f.0, canonical f.1)) (fields_view fields)) }
 {
     let mut sorted = List::with_capacity(alloc, fields.len())?;

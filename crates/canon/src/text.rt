@@ -29,7 +29,7 @@ fn write_value(text: &mut String, value: &Value) -> Result<(), Memory>
 {
     match value {
         Value::Int(number) => Ok(write!(text, "{number}")?),
-        Value::Bool(truth) => Ok(text.push_str(if *truth { "true" } else { "false" })?),
+        Value::Bool(truth) => Ok(write!(text, "{truth}")?),
         Value::Text(quoted) => write_quoted(text, quoted.as_str()),
         Value::Rec(fields) => write_record(text, fields.as_slice()),
         Value::Bag(elements) => write_bag(text, elements.as_slice()),

@@ -6,7 +6,7 @@ use Rattle.canon.proofs.order.+compare.Given as goal
 
 abbrev pub invariant-compare_bags-loop-i : goal.invariant-compare_bags-loop-i
 invariant-compare_bags-loop-i l =
-    value_cmp (bag_of (map nested (drop l.i l.left))) (bag_of (map nested (drop l.i l.right))) ≡ value_cmp (bag_of (map nested l.left)) (bag_of (map nested l.right))
+    value_cmp (bag_of (map nested (drop l.i l.elements))) (bag_of (map nested (drop l.i l.others))) ≡ value_cmp (bag_of (map nested l.elements)) (bag_of (map nested l.others))
 
 abbrev pub invariant-compare_fields-loop-i : goal.invariant-compare_fields-loop-i
 invariant-compare_fields-loop-i l =
