@@ -12,6 +12,9 @@ use Rattle.nq_model.specs.declared.table.TableShape.{TableShape}
 use Rattle.nq_edge.specs.Edge.{Files, bytes_at, IsLonger, TellsMore}
 use Rattle.sql_profile.specs.Servers.{table_names}
 use Rattle.sql_profile.specs.declared.server.Loaded.{Loaded}
+use Rattle.std.specs.Result.{result_ok}
+use Rattle.table_reader.specs.Tables.{table_of, rows_of}
+use Rattle.table_reader.specs.declared.TableFault.{TableFault}
 use Rattle.nq_top.specs.Judging.{Verdict, Judgement, refused, accepted, after, at_once, judged, fetched_then, built, loaded_as}
 use Rattle.nq_top.specs.Gathering.{Told, Judges, FetchedSome, FetchedUpTo, RefusalTells, GatherTells, FetchedWithin, FetchRefused, FetchNames, AreServable, CanGather}
 use Rattle.nq_top.specs.declared.gather.Gathered.{Gathered}
@@ -127,3 +130,15 @@ can_gather_all done asked can =
     }
 
 pub ruleset gather_rules = (gather_after, refusal_after, fetch_next, fetch_refused, not_built, built_next, can_gather_more, can_gather_all, tells_nothing)
+
+-- the rows of a table text that was read
+pub rows_read : (shape : TableShape) (text : List ℕ) (rows : List (List Cell)) → table_of shape text ≡ Ok rows → rows_of shape text ≡ Some rows
+unfolding rows_of
+rows_read shape text rows is = ap result_ok is
+
+-- a table text with a fault gives none
+pub rows_refused : (shape : TableShape) (text : List ℕ) (fault : TableFault) → table_of shape text ≡ Err fault → rows_of shape text ≡ None
+unfolding rows_of
+rows_refused shape text fault is = ap result_ok is
+
+pub ruleset row_rules = (rows_read, rows_refused)

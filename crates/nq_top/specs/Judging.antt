@@ -7,7 +7,7 @@ use Rattle.nq_edge.specs.Edge.{Files, bytes_at}
 use Rattle.sql_profile.specs.declared.server.Loaded.{Loaded}
 use Rattle.nq_top.specs.Commands.{Command, command_of, file_of}
 use Rattle.nq_top.specs.FirstForm.{first_schema, is_first_query}
-use Rattle.nq_top.specs.Tables.{rows_of}
+use Rattle.table_reader.specs.Tables.{rows_of}
 use Rattle.nq_top.specs.declared.refusal.Refused.{Refused}
 use Rattle.nq_top.specs.declared.refusal.Refused.TheVariants.{Usage, TooLong, NotBuilt}
 

@@ -1,7 +1,6 @@
 pub mod Commands
 pub mod FirstForm
 pub mod FirstFormSteps
-pub mod Tables
 pub mod Words
 pub mod Refusals
 pub mod Judging

@@ -7,7 +7,7 @@ ghost use Rattle.nq_edge.specs.Edge.{bytes_at};
 ghost use Rattle.sql_profile.specs.Servers.{table_names};
 ghost use Rattle.nq_top.specs.Commands.{command_of, file_of};
 ghost use Rattle.nq_top.specs.FirstForm.{first_schema, is_first_query};
-ghost use Rattle.nq_top.specs.Tables.{rows_of};
+ghost use Rattle.table_reader.specs.Tables.{rows_of};
 ghost use Rattle.nq_top.specs.Judging.{Judgement, judgement, schema_judged, query_judged, tables_judged, asked_place, loaded_as};
 ghost use Rattle.nq_top.specs.Gathering.{InputCounts, GatherTells, RefusalTells, FetchSays, FetchNames, AreServable, CanGather};
 
@@ -18,6 +18,7 @@ use nq_edge::{FetchFault, Inputs};
 use nq_model::{Cell, ColumnType, Label, List, Memory, TableShape, Text};
 use sql_profile::Loaded;
 use std::alloc::Global;
+use table_reader::{TableFault, read_table};
 
 /// The most bytes of a schema and of a query.
 const TEXT_LIMIT: u64 = 1_048_576;
@@ -89,6 +90,7 @@ fn loaded_as(alloc: Global, shape: &TableShape, rows: List<List<Cell>>) -> Resul
 }
 
 // The rows that a table text gives, if it is without fault. The text is given up once it was read.
+#[tactic(auto, using(crate::proofs::Gathers::row_rules))]
 fn read_rows(
     alloc: Global,
     shape: &TableShape,
@@ -97,7 +99,11 @@ fn read_rows(
     ensures given { IfOk result (λ rows. rows ≡ rows_of shape.now text) }
     ensures fit { IfOk result (λ rows. IfSome rows (All (RowFits (types_of shape.now.columns)))) }
 {
-    Err(Memory)
+    match read_table(alloc, shape, text.as_slice()) {
+        Ok(table) => Ok(Some(table.rows)),
+        Err(TableFault::Memory) => Err(Memory),
+        Err(_) => Ok(None),
+    }
 }
 
 // The tables that were read, with one more of these rows.
