@@ -1,0 +1,56 @@
+//! Runs the command that the words of the command line are, over files and the standard streams.
+#![tactic(auto)]
+
+use nq_edge::{FileInputs, StdSink};
+use nq_top::nq_main;
+use sql_profile::{ScanServer, SqlServer};
+use std::alloc::{AllocError, Global};
+use std::env;
+use std::io::ErrorKind;
+use std::process::ExitCode;
+
+// The words of the command line, without the program's name; none where they cannot be read.
+fn words_of(rt: &HostRuntime) -> Result<Vec<String>, AllocError> {
+    let mut words = Vec::new(rt.alloc());
+    match env::args(rt) {
+        Ok(args) => {
+            for word in args.skip(1) {
+                words.push(word)?;
+            }
+        }
+        Err(error) => {
+            if error.kind() == ErrorKind::OutOfMemory {
+                return Err(AllocError);
+            }
+        }
+    }
+    Ok(words)
+}
+
+// The status of the whole program.
+fn run(rt: &HostRuntime) -> Result<u8, AllocError> {
+    let alloc = rt.alloc();
+    let words = words_of(rt)?;
+    let server: Box<dyn SqlServer> = Box::new(alloc, ScanServer::new(alloc))?;
+    let mut inputs = FileInputs::new(rt);
+    let mut out = StdSink::new(rt.stdout());
+    let mut notes = StdSink::new(rt.stderr());
+    Ok(nq_main(
+        alloc,
+        words.as_slice(),
+        &mut inputs,
+        &mut out,
+        &mut notes,
+        server,
+    ))
+}
+
+fn main(rt: HostRuntime) -> ExitCode {
+    match run(&rt) {
+        Ok(status) => ExitCode::from(status),
+        Err(_) => ExitCode::from(1),
+    }
+}
+
+#[cfg(test)]
+mod tests;

@@ -1,0 +1,186 @@
+// Whole runs over inputs and outputs in memory.
+use nq_edge::{HeldInputs, HeldSink};
+use nq_model::{List, Text};
+use nq_top::nq_main;
+use sql_profile::{ScanServer, SqlServer};
+use std::alloc::Global;
+use std::test::Fail;
+
+// The words, the texts of the schema, the query, `data/departments.csv` and `data/t.csv`, the numbers of
+// the calls that fail and the room of the output; and the status, the output and the note that are wanted.
+struct Case {
+    words: &'static [&'static str],
+    schema: &'static str,
+    query: &'static str,
+    departments: Option<&'static str>,
+    t: &'static str,
+    failing: &'static [u64],
+    room: u64,
+    status: u8,
+    out: &'static str,
+    note: &'static str,
+}
+
+const RUN: &[&str] = &["run", "org", "q", "data"];
+
+const DEPARTMENTS: &str = "table departments (name: text);";
+
+const ONE: Case = Case {
+    words: RUN,
+    schema: DEPARTMENTS,
+    query: "table departments",
+    departments: Some("name\nSales\nProduct\nProduct\n"),
+    t: "b,a\n2,x\n-1,y\n",
+    failing: &[],
+    room: 200,
+    status: 0,
+    out: "{(name = 'Product'), (name = 'Product'), (name = 'Sales')}\n",
+    note: "",
+};
+
+const CASES: [Case; 12] = [
+    ONE,
+    Case {
+        schema: "table t (b: int, a: text);",
+        query: "table t",
+        out: "{(a = 'x', b = 2), (a = 'y', b = -1)}\n",
+        ..ONE
+    },
+    Case {
+        query: "[1]",
+        status: 13,
+        out: "",
+        note: "nq: not built\n",
+        ..ONE
+    },
+    Case {
+        words: &[],
+        status: 2,
+        out: "",
+        note: "nq: usage\n",
+        ..ONE
+    },
+    Case {
+        departments: None,
+        status: 7,
+        out: "",
+        note: "nq: input failed: data/departments.csv\n",
+        ..ONE
+    },
+    Case {
+        departments: Some("name\n"),
+        out: "{}\n",
+        ..ONE
+    },
+    Case {
+        words: &["run", "org", "q", "data", "more"],
+        status: 2,
+        out: "",
+        note: "nq: usage\n",
+        ..ONE
+    },
+    Case {
+        failing: &[2],
+        status: 7,
+        out: "",
+        note: "nq: input failed: q\n",
+        ..ONE
+    },
+    Case {
+        room: 10,
+        status: 8,
+        out: "{(name = '",
+        note: "nq: output failed\n",
+        ..ONE
+    },
+    Case {
+        schema: "table departments (name: text)",
+        status: 13,
+        out: "",
+        note: "nq: not built\n",
+        ..ONE
+    },
+    Case {
+        departments: Some("name\nSales,2\n"),
+        status: 13,
+        out: "",
+        note: "nq: not built\n",
+        ..ONE
+    },
+    Case {
+        schema: "  table departments(name:text) ;\n",
+        query: "\n table\tdepartments ",
+        ..ONE
+    },
+];
+
+// The inputs of a case, with this much white space before its query.
+fn inputs_of(alloc: Global, case: &Case, blanks: usize) -> Result<HeldInputs, Fail> {
+    let mut query = List::new(alloc);
+    for _ in 0..blanks {
+        query.push(b' ')?;
+    }
+    for byte in case.query.as_bytes() {
+        query.push(*byte)?;
+    }
+    let org = List::from_slice(alloc, case.schema.as_bytes())?;
+    let t = List::from_slice(alloc, case.t.as_bytes())?;
+    let failing = List::from_slice(alloc, case.failing)?;
+    let mut files = List::new(alloc);
+    files.push((Text::from_str(alloc, "org")?, org))?;
+    files.push((Text::from_str(alloc, "q")?, query))?;
+    files.push((Text::from_str(alloc, "data/t.csv")?, t))?;
+    match case.departments {
+        Some(rows) => {
+            let rows = List::from_slice(alloc, rows.as_bytes())?;
+            files.push((Text::from_str(alloc, "data/departments.csv")?, rows))?;
+            Ok(HeldInputs::new(alloc, files, failing)?)
+        }
+        None => Ok(HeldInputs::new(alloc, files, failing)?),
+    }
+}
+
+// Runs a case with this much white space before its query.
+fn check(rt: &HostRuntime, case: &Case, blanks: usize) -> Result<(), Fail> {
+    let alloc = rt.alloc();
+    let mut words = Vec::new(alloc);
+    for word in case.words {
+        words.push(String::from_str(alloc, word)?)?;
+    }
+    let mut inputs = inputs_of(alloc, case, blanks)?;
+    let mut out = HeldSink::new(alloc, case.room)?;
+    let mut notes = HeldSink::new(alloc, 200)?;
+    let server: Box<dyn SqlServer> = Box::new(alloc, ScanServer::new(alloc))?;
+    let status = nq_main(
+        alloc,
+        words.as_slice(),
+        &mut inputs,
+        &mut out,
+        &mut notes,
+        server,
+    );
+    assert_eq!(rt; status, case.status, "{}", case.query);
+    assert_eq!(rt; out.bytes(), case.out.as_bytes());
+    assert_eq!(rt; notes.bytes(), case.note.as_bytes());
+    Ok(())
+}
+
+#[test]
+fn runs_each_case(rt: HostRuntime) -> Result<(), Fail> {
+    for case in &CASES {
+        check(&rt, case, 0)?;
+    }
+    Ok(())
+}
+
+#[test]
+fn takes_a_query_of_the_limit_and_none_longer(rt: HostRuntime) -> Result<(), Fail> {
+    check(&rt, &ONE, 1_048_576 - 17)?;
+    let long = Case {
+        status: 10,
+        out: "",
+        note: "nq: input too long: q over 1048576\n",
+        ..ONE
+    };
+    check(&rt, &long, 1_048_576 - 16)
+}
