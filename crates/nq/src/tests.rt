@@ -4,10 +4,12 @@ use nq_model::{List, Text};
 use nq_top::nq_main;
 use sql_profile::{ScanServer, SqlServer};
 use std::alloc::Global;
+use std::process::Abort;
 use std::test::Fail;
 
 // The words, the texts of the schema, the query, `data/departments.csv` and `data/t.csv`, the numbers of
 // the calls that fail and the room of the output; and the status, the output and the note that are wanted.
+#[derive(Clone, Copy)]
 struct Case {
     words: &'static [&'static str],
     schema: &'static str,
@@ -141,8 +143,7 @@ fn inputs_of(alloc: Global, case: &Case, blanks: usize) -> Result<HeldInputs, Fa
 }
 
 // Runs a case with this much white space before its query.
-fn check(rt: &HostRuntime, case: &Case, blanks: usize) -> Result<(), Fail> {
-    let alloc = rt.alloc();
+fn check(rt: &impl Abort, alloc: Global, case: &Case, blanks: usize) -> Result<(), Fail> {
     let mut words = Vec::new(alloc);
     for word in case.words {
         words.push(String::from_str(alloc, word)?)?;
@@ -168,19 +169,19 @@ fn check(rt: &HostRuntime, case: &Case, blanks: usize) -> Result<(), Fail> {
 #[test]
 fn runs_each_case(rt: HostRuntime) -> Result<(), Fail> {
     for case in &CASES {
-        check(&rt, case, 0)?;
+        check(&rt, rt.alloc(), case, 0)?;
     }
     Ok(())
 }
 
 #[test]
 fn takes_a_query_of_the_limit_and_none_longer(rt: HostRuntime) -> Result<(), Fail> {
-    check(&rt, &ONE, 1_048_576 - 17)?;
+    check(&rt, rt.alloc(), &ONE, 1_048_576 - 17)?;
     let long = Case {
         status: 10,
         out: "",
         note: "nq: input too long: q over 1048576\n",
         ..ONE
     };
-    check(&rt, &long, 1_048_576 - 16)
+    check(&rt, rt.alloc(), &long, 1_048_576 - 16)
 }
