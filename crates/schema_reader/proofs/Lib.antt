@@ -1,0 +1,5 @@
+pub mod Truths
+pub mod Cuts
+pub mod Steps
+pub mod Fronts
+pub mod Syntax

@@ -1,0 +1,4 @@
+//! Reads schema texts.
+#![tactic(auto)]
+
+pub fn nothing() {}
