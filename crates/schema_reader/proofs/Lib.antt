@@ -3,3 +3,6 @@ pub mod Cuts
 pub mod Steps
 pub mod Fronts
 pub mod Syntax
+pub mod Conditions
+pub mod Names
+pub mod Verdicts

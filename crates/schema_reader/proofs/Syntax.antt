@@ -199,7 +199,7 @@ wrong_among st (t ∷ ts) low high p a w = go (found (step st t)) (λ next. wron
       let h = bounded ts (suc t.place) a.1 in omega arith
     go (something' next s) rec = rec next (sym (ap (λ o. wrong_from t.place o (λ z. wrong_at z ts)) s) ∙ w)
 
-cut_far : (text : List ℕ) (ps : List Piece) (m : ℕ) (r : List ℕ) → IsCut text ps m r → m ≡ far 0 ps
+pub cut_far : (text : List ℕ) (ps : List Piece) (m : ℕ) (r : List ℕ) → IsCut text ps m r → m ≡ far 0 ps
 cut_far text ps m r c =
     let l = far_length 0 ps r in
     let w = ap length c.whole in
@@ -246,7 +246,7 @@ end_spot st to us m e = go (found (run st us))
     last : (mid : State) → Found (step mid (token m Symbol.end)) → run mid (token m Symbol.end ∷ []) ≡ Some to → to.spot ≡ Spot.done
     last mid (nothing' n) h = let k = ap (option_and_then (λ next. run next [])) n in absurd (cc)
     last mid (something' next s) h =
-      let k : next ≡ to = cc (ap (option_and_then (λ z. run z [])) s) in
+      let k : next ≡ to = cc in
       end_done mid.tables mid.table mid.spot m to (s ∙ ap Some k)
     go : Found (run st us) → to.spot ≡ Spot.done
     go (nothing' n) =
