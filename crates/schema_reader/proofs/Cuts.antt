@@ -4,6 +4,7 @@ use Rattle.std.proofs.lemmas.Bool.Decides.{nat_tests, Decides-eqb}
 use Rattle.std.specs.List.{AllByRecursion as Each, prefix_len}
 use Rattle.nq_model.specs.SchemaTokens.{Mark, Symbol, Token, token, byte_of, is_white, begins_word, is_word_byte, is_comment_byte, IsWord, Piece, bytes_of, Stops, Fits, text_of, FitFrom, IsStuck, IsCut, piece_tokens, tokens_from, end_token, HasTokens, HasStray}
 use Rattle.nq_model.specs.SchemaTexts.{IsSymbol}
+use Rattle.schema_reader.specs.Fronts.{mark_of}
 use Rattle.schema_reader.proofs.Truths.{Truth, yes', no', truth, Found, nothing', something', found}
 
 -- the kind of piece that a byte begins
@@ -47,14 +48,6 @@ front_kind place (Piece.mark Mark.closing) after rest h = refl
 front_kind place (Piece.mark Mark.comma) after rest h = refl
 front_kind place (Piece.mark Mark.colon) after rest h = refl
 front_kind place (Piece.mark Mark.semicolon) after rest h = refl
-
--- the mark that a byte is
-abbrev pub mark_of : ℕ → Option Mark
-mark_of b = if b == 40 then Some Mark.opening
-  else (if b == 41 then Some Mark.closing
-  else (if b == 44 then Some Mark.comma
-  else (if b == 58 then Some Mark.colon
-  else (if b == 59 then Some Mark.semicolon else None))))
 
 pub mark_of-byte_of : (m : Mark) → mark_of (byte_of m) ≡ Some m
 mark_of-byte_of Mark.opening = refl

@@ -1,5 +1,6 @@
 pub mod Truths
 pub mod Cuts
+pub mod Pieces
 pub mod Steps
 pub mod Fronts
 pub mod Syntax

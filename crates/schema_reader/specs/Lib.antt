@@ -1,2 +1,5 @@
+pub mod Fronts
 pub mod Machine
+pub mod Views
+pub mod Reading
 pub mod Shapes

@@ -1,4 +1,9 @@
-//! Reads schema texts.
+//! Reads schema texts: the schema that a text spells, or its one fault with its place.
 #![tactic(auto)]
 
-pub fn nothing() {}
+mod fault;
+mod front;
+mod grammar;
+mod written;
+
+pub use fault::SchemaFault;
