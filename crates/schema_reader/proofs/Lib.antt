@@ -4,6 +4,7 @@ pub mod Pieces
 pub mod Steps
 pub mod Fronts
 pub mod Syntax
+pub mod Progress
 pub mod Conditions
 pub mod Names
 pub mod Verdicts

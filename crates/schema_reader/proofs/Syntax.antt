@@ -286,7 +286,7 @@ judged text = go (cut_rest 0 text)
 pub one_place : (text : List ℕ) (p q : ℕ) → IsSyntaxPlace text p → IsSyntaxPlace text q → p ≡ q
 one_place text p q a b = let h = a.1 q b.0 in let g = b.1 p a.0 in omega arith
 
-run_no_wrong : (st to : State) (ts : List Token) → run st ts ≡ Some to → wrong_at st ts ≡ None
+pub run_no_wrong : (st to : State) (ts : List Token) → run st ts ≡ Some to → wrong_at st ts ≡ None
 run_no_wrong st to [] e = refl
 run_no_wrong st to (t ∷ ts) e = go (found (step st t)) (λ next. run_no_wrong next to ts)
   where
