@@ -5,6 +5,8 @@ pub mod Steps
 pub mod Fronts
 pub mod Syntax
 pub mod Progress
+pub mod Told
 pub mod Conditions
 pub mod Names
 pub mod Verdicts
+pub mod Outcomes

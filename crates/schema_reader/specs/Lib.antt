@@ -3,3 +3,4 @@ pub mod Machine
 pub mod Views
 pub mod Reading
 pub mod Shapes
+pub mod Answers

@@ -4,6 +4,11 @@
 mod fault;
 mod front;
 mod grammar;
+mod laws;
+mod read;
+mod shapes;
 mod written;
 
 pub use fault::SchemaFault;
+pub use laws::schema_laws;
+pub use read::read_schema;
