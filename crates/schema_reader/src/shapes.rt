@@ -41,7 +41,12 @@ fn has_column(columns: &[(Label, ColumnType)], name: &str) -> bool
 fn has_label(labels: &[Label], name: &str) -> bool
     ensures { result ≡ has labels.now name.now }
 {
-    labels.iter().any(|label| label.as_str() == name)
+    for label in labels {
+        if label.as_str() == name {
+            return true;
+        }
+    }
+    false
 }
 
 // The name of a table, behind the tables before it.
