@@ -82,23 +82,26 @@ unfolding Least
 table_least names t =
     least_if (IsTableFault names t) (has names t.name.text) Fault.twice_table _ (λ h. (has_is names t.name.text h, from_twice))
     (λ h. least_if (IsTableFault names t) (length t.columns == 0) Fault.no_column _ (λ n. (no_length t.columns n, from_none h))
-      (λ n. least_if (IsTableFault names t) (is_over names t.name.text) Fault.over_limit None (λ o. (over_is names t.name.text o, from_over h n)) (λ o. clean h n o)))
+    (λ n. least_if (IsTableFault names t) (is_over names t.name.text) Fault.over_limit None (λ o. (over_is names t.name.text o, from_over h n)) (λ o. clean h n o)))
   where
     from_twice : (g : Fault) → IsTableFault names t g → 2 ≤ rank g
     from_twice Fault.twice_table k = omega arith
     from_twice Fault.no_column k = omega arith
     from_twice Fault.over_limit k = omega arith
     from_twice g k = absurd k
+
     from_none : has names t.name.text ≡ false → (g : Fault) → IsTableFault names t g → 4 ≤ rank g
     from_none h Fault.twice_table k = absurd (has_not names t.name.text h k)
     from_none h Fault.no_column k = omega arith
     from_none h Fault.over_limit k = omega arith
     from_none h g k = absurd k
+
     clean : has names t.name.text ≡ false → (length t.columns == 0) ≡ false → is_over names t.name.text ≡ false → (f : Fault) → IsTableFault names t f → ⊥
     clean h n o Fault.twice_table k = has_not names t.name.text h k
     clean h n o Fault.no_column k = true≢false (sym (ap (λ z. length z == 0) k) ∙ n)
     clean h n o Fault.over_limit k = over_not names t.name.text o k
     clean h n o f k = k
+
     from_over : has names t.name.text ≡ false → (length t.columns == 0) ≡ false → (g : Fault) → IsTableFault names t g → 6 ≤ rank g
     from_over h n Fault.twice_table k = absurd (has_not names t.name.text h k)
     from_over h n Fault.no_column k = absurd (true≢false (sym (ap (λ z. length z == 0) k) ∙ n))
@@ -115,10 +118,12 @@ column_least names c =
     from_twice Fault.twice_column k = omega arith
     from_twice Fault.over_limit k = omega arith
     from_twice g k = absurd k
+
     from_over : has names c.name.text ≡ false → (g : Fault) → IsColumnFault names c g → 6 ≤ rank g
     from_over h Fault.twice_column k = absurd (has_not names c.name.text h k)
     from_over h Fault.over_limit k = omega arith
     from_over h g k = absurd k
+
     clean : has names c.name.text ≡ false → is_over names c.name.text ≡ false → (f : Fault) → IsColumnFault names c f → ⊥
     clean h o Fault.twice_column k = has_not names c.name.text h k
     clean h o Fault.over_limit k = over_not names c.name.text o k
@@ -131,17 +136,20 @@ key_least columns names n = go (truth (has columns n.text)) (truth (has names n.
     only : (g : Fault) → IsKeyFault columns names n g → 5 ≤ rank g
     only Fault.key_column k = omega arith
     only g k = absurd k
+
     faulty : (has columns n.text && not (has names n.text)) ≡ false → IsKeyFault columns names n Fault.key_column → Least (IsKeyFault columns names n) (key_fault columns names n)
     faulty e k = subst (λ b. Least (IsKeyFault columns names n) (cond b None (Some Fault.key_column))) (sym e) (k, only)
+
     clean : has columns n.text ≡ true → has names n.text ≡ false → (f : Fault) → IsKeyFault columns names n f → ⊥
     clean h k Fault.key_column (inl none) = none (has_is columns n.text h)
     clean h k Fault.key_column (inr twice) = has_not names n.text k twice
     clean h k f x = x
+
     go : Truth (has columns n.text) → Truth (has names n.text) → Least (IsKeyFault columns names n) (key_fault columns names n)
     go (no' h) k = faulty (ap (λ b. b && not (has names n.text)) h) (inl (has_not columns n.text h))
     go (yes' h) (yes' k) = faulty (ap (λ b. b && not (has names n.text)) h ∙ ap not k) (inr (has_is names n.text k))
     go (yes' h) (no' k) =
-      subst (λ b. Least (IsKeyFault columns names n) (cond b None (Some Fault.key_column))) (sym (ap (λ b. b && not (has names n.text)) h ∙ ap not k)) (clean h k)
+        subst (λ b. Least (IsKeyFault columns names n) (cond b None (Some Fault.key_column))) (sym (ap (λ b. b && not (has names n.text)) h ∙ ap not k)) (clean h k)
 
 -- what was found is the first of the faults
 pub Finds : (Fault → ℕ → Type 0) → Option (Fault × ℕ) → Type 0
@@ -207,7 +215,6 @@ rise_middle low high (x ∷ xs) ys r =
 
 module _ (A : Type 0) (name : A → Name) (Bad : List (List ℕ) → A → Fault → Type 0) (bad : List (List ℕ) → A → Option Fault)
     (least : (names : List (List ℕ)) (x : A) → Least (Bad names x) (bad names x)) where
-
   -- a fault of an element, behind names and behind the elements before it
   abbrev pub Stand : List (List ℕ) → List A → Fault → ℕ → Type 0
   Stand names xs f p = (before : List A) × (x : A) × StandsBehind xs before x × Bad (names ++ map (λ y. (name y).text) before) x f × ((name x).place ≡ p)
@@ -216,9 +223,13 @@ module _ (A : Type 0) (name : A → Name) (Bad : List (List ℕ) → A → Fault
   stand_here names x xs f p b e = ([], x, (xs, refl), subst (λ z. Bad z x f) (sym (append-nil names)) b, e)
 
   pub stand_there : (names : List (List ℕ)) (x : A) (xs : List A) (f : Fault) (p : ℕ) → Stand (names ++ (name x).text ∷ []) xs f p → Stand names (x ∷ xs) f p
-  stand_there names x xs f p s =
-      (x ∷ s.0, s.1, (s.2.0, ap (λ z. x ∷ z) s.2.1),
-        subst (λ z. Bad z s.1 f) (append_assoc names ((name x).text ∷ []) (map (λ y. (name y).text) s.0)) s.3, s.4)
+  stand_there names x xs f p s = (
+    x ∷ s.0,
+    s.1,
+    (s.2.0, ap (λ z. x ∷ z) s.2.1),
+    subst (λ z. Bad z s.1 f) (append_assoc names ((name x).text ∷ []) (map (λ y. (name y).text) s.0)) s.3,
+    s.4,
+  )
 
   pub stand_cases : (names : List (List ℕ)) (x : A) (xs : List A) (f : Fault) (p : ℕ) → Stand names (x ∷ xs) f p
       → (Bad names x f × ((name x).place ≡ p)) ⊎ Stand (names ++ (name x).text ∷ []) xs f p
@@ -227,13 +238,18 @@ module _ (A : Type 0) (name : A → Name) (Bad : List (List ℕ) → A → Fault
       go : (before : List A) (y : A) (after : List A) → x ∷ xs ≡ before ++ y ∷ after → Bad (names ++ map (λ z. (name z).text) before) y f → (name y).place ≡ p
           → (Bad names x f × ((name x).place ≡ p)) ⊎ Stand (names ++ (name x).text ∷ []) xs f p
       go [] y after e b q =
-        let same : y ≡ x = cc in
-        inl (subst (λ z. Bad names z f) same (subst (λ z. Bad z y f) (append-nil names) b), ap (λ z. (name z).place) (sym same) ∙ q)
+          let same : y ≡ x = cc in
+          inl (subst (λ z. Bad names z f) same (subst (λ z. Bad z y f) (append-nil names) b), ap (λ z. (name z).place) (sym same) ∙ q)
       go (z ∷ zs) y after e b q =
-        let same : z ≡ x = cc in
-        let rest : xs ≡ zs ++ y ∷ after = cc in
-        inr (zs, y, (after, rest),
-          subst (λ w. Bad w y f) (ap (λ w. names ++ (name w).text ∷ map (λ v. (name v).text) zs) same ∙ sym (append_assoc names ((name x).text ∷ []) (map (λ v. (name v).text) zs))) b, q)
+          let same : z ≡ x = cc in
+          let rest : xs ≡ zs ++ y ∷ after = cc in
+          inr (
+            zs,
+            y,
+            (after, rest),
+            subst (λ w. Bad w y f) (ap (λ w. names ++ (name w).text ∷ map (λ v. (name v).text) zs) same ∙ sym (append_assoc names ((name x).text ∷ []) (map (λ v. (name v).text) zs))) b,
+            q,
+          )
 
   pub stand_none : (names : List (List ℕ)) (f : Fault) (p : ℕ) → Stand names [] f p → ⊥
   stand_none names f p s = go s.0 s.2.1
@@ -257,13 +273,15 @@ module _ (A : Type 0) (name : A → Name) (Bad : List (List ℕ) → A → Fault
       finds_same (λ f p. (Bad names x f × ((name x).place ≡ p)) ⊎ Stand more xs f p) (Stand names (x ∷ xs))
       (option_or (placed (name x).place (bad names x)) (first_fault name bad more xs)) joined (stand_cases names x xs)
       (finds_or (λ f p. Bad names x f × ((name x).place ≡ p)) (Stand more xs) (placed (name x).place (bad names x)) (first_fault name bad more xs)
-        (name x).place (suc (name x).place) high here (stand_within more xs (suc (name x).place) high r.1)
-        (finds_at (Bad names x) (name x).place (bad names x) (least names x)) (stand_finds more xs (suc (name x).place) high r.1))
+      (name x).place (suc (name x).place) high here (stand_within more xs (suc (name x).place) high r.1)
+      (finds_at (Bad names x) (name x).place (bad names x) (least names x)) (stand_finds more xs (suc (name x).place) high r.1))
     where
       more : List (List ℕ)
       more = names ++ (name x).text ∷ []
+
       here : Within (λ f p. Bad names x f × ((name x).place ≡ p)) (name x).place (suc (name x).place)
       here = record { bounds = λ f p h. let e = h.1 in (omega arith, omega arith) }
+
       joined : (f : Fault) (p : ℕ) → (Bad names x f × ((name x).place ≡ p)) ⊎ Stand more xs f p → Stand names (x ∷ xs) f p
       joined f p (inl h) = stand_here names x xs f p h.0 h.1
       joined f p (inr s) = stand_there names x xs f p s
@@ -274,7 +292,7 @@ names_in t = t.name ∷ (map (λ c. c.name) t.columns ++ t.key)
 -- a fault of written tables that stand behind tables of these names
 abbrev FaultFrom : List (List ℕ) → List WrittenTable → Fault → ℕ → Type 0
 FaultFrom names tables f p = Stand WrittenTable (λ t. t.name) IsTableFault table_fault table_least names tables f p
-  ⊎ ((t : WrittenTable) × Contains tables t × (HasColumnFault t f p ⊎ HasKeyFault t f p))
+    ⊎ ((t : WrittenTable) × Contains tables t × (HasColumnFault t f p ⊎ HasKeyFault t f p))
 
 map_same : (ns : List Name) → map (λ n. n) ns ≡ ns
 map_same [] = refl
@@ -315,7 +333,7 @@ own_within names t high r =
     within_or (λ f p. IsTableFault names t f × (t.name.place ≡ p)) (λ f p. HasColumnFault t f p ⊎ HasKeyFault t f p) t.name.place (suc t.name.place) high (omega arith) (omega arith)
     (record { bounds = λ f p h. let e = h.1 in (omega arith, omega arith) })
     (within_or (HasColumnFault t) (HasKeyFault t) (suc t.name.place) m.mid high first second
-      (columns_within t (suc t.name.place) m.mid m.front) (keys_within t m.mid high m.back))
+    (columns_within t (suc t.name.place) m.mid m.front) (keys_within t m.mid high m.back))
 
 own_finds : (names : List (List ℕ)) (t : WrittenTable) (high : ℕ) → Rise (suc t.name.place) (map (λ c. c.name) t.columns ++ t.key) high → Finds (OwnFault names t) (shape_fault names t)
 own_finds names t high r =
@@ -327,11 +345,11 @@ own_finds names t high r =
     t.name.place (suc t.name.place) high
     (record { bounds = λ f p h. let e = h.1 in (omega arith, omega arith) })
     (within_or (HasColumnFault t) (HasKeyFault t) (suc t.name.place) m.mid high first second
-      (columns_within t (suc t.name.place) m.mid m.front) (keys_within t m.mid high m.back))
+    (columns_within t (suc t.name.place) m.mid m.front) (keys_within t m.mid high m.back))
     (finds_at (IsTableFault names t) t.name.place (table_fault names t) (table_least names t))
     (finds_or (HasColumnFault t) (HasKeyFault t) (columns_fault [] t.columns) (keys_fault (column_names t.columns) [] t.key) (suc t.name.place) m.mid high
-      (columns_within t (suc t.name.place) m.mid m.front) (keys_within t m.mid high m.back)
-      (columns_finds t (suc t.name.place) m.mid m.front) (keys_finds t m.mid high m.back))
+    (columns_within t (suc t.name.place) m.mid m.front) (keys_within t m.mid high m.back)
+    (columns_finds t (suc t.name.place) m.mid m.front) (keys_finds t m.mid high m.back))
 
 table_to : (names : List (List ℕ)) (t : WrittenTable) (ts : List WrittenTable) (f : Fault) (p : ℕ)
     → OwnFault names t f p ⊎ FaultFrom (names ++ t.name.text ∷ []) ts f p → FaultFrom names (t ∷ ts) f p
@@ -345,7 +363,7 @@ table_from : (names : List (List ℕ)) (t : WrittenTable) (ts : List WrittenTabl
 table_from names t ts f p (inl s) = at_table (stand_cases WrittenTable (λ u. u.name) IsTableFault table_fault table_least names t ts f p s)
   where
     at_table : (IsTableFault names t f × (t.name.place ≡ p)) ⊎ Stand WrittenTable (λ u. u.name) IsTableFault table_fault table_least (names ++ t.name.text ∷ []) ts f p
-      → OwnFault names t f p ⊎ FaultFrom (names ++ t.name.text ∷ []) ts f p
+        → OwnFault names t f p ⊎ FaultFrom (names ++ t.name.text ∷ []) ts f p
     at_table (inl h) = inl (inl h)
     at_table (inr h) = inr (inl h)
 table_from names t ts f p (inr h) = within (contains_cases t h.0 ts h.1)
@@ -366,7 +384,7 @@ tables_within names (t ∷ ts) low high r =
     let b = rise_bound m.mid high (flat_map names_in ts) m.back in
     let l = r.0 in
     let w = within_or (OwnFault names t) (FaultFrom (names ++ t.name.text ∷ []) ts) t.name.place m.mid high (omega arith) b
-      (own_within names t m.mid m.front) (tables_within (names ++ t.name.text ∷ []) ts m.mid high m.back) in
+    (own_within names t m.mid m.front) (tables_within (names ++ t.name.text ∷ []) ts m.mid high m.back) in
     record { bounds = λ f p h. let x = w.bounds f p (table_from names t ts f p h) in (omega arith, omega arith) }
 
 tables_finds : (names : List (List ℕ)) (tables : List WrittenTable) (low high : ℕ) → Rise low (flat_map names_in tables) high → Finds (FaultFrom names tables) (tables_fault names tables)
@@ -376,8 +394,8 @@ tables_finds names (t ∷ ts) low high r =
     finds_same (λ f p. OwnFault names t f p ⊎ FaultFrom (names ++ t.name.text ∷ []) ts f p) (FaultFrom names (t ∷ ts))
     (option_or (shape_fault names t) (tables_fault (names ++ t.name.text ∷ []) ts)) (table_to names t ts) (table_from names t ts)
     (finds_or (OwnFault names t) (FaultFrom (names ++ t.name.text ∷ []) ts) (shape_fault names t) (tables_fault (names ++ t.name.text ∷ []) ts) t.name.place m.mid high
-      (own_within names t m.mid m.front) (tables_within (names ++ t.name.text ∷ []) ts m.mid high m.back)
-      (own_finds names t m.mid m.front) (tables_finds (names ++ t.name.text ∷ []) ts m.mid high m.back))
+    (own_within names t m.mid m.front) (tables_within (names ++ t.name.text ∷ []) ts m.mid high m.back)
+    (own_finds names t m.mid m.front) (tables_finds (names ++ t.name.text ∷ []) ts m.mid high m.back))
 
 -- where the walk finds no fault there is none
 pub walk_none : (tables : List WrittenTable) (high : ℕ) → Rise 0 (flat_map names_in tables) high → tables_fault [] tables ≡ None

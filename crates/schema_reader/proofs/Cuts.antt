@@ -114,7 +114,7 @@ one_cut place (p ∷ ps) (q ∷ qs) r s f g h k e =
     let a = one_piece place p q (text_of ps r) (text_of qs s) f.0 g.0 e in
     let n : length (bytes_of q) ≡ length (bytes_of p) = ap (λ z. length (bytes_of z)) (sym a.0) in
     let b = one_cut (place + length (bytes_of p)) ps qs r s f.1
-        (subst (λ z. FitFrom (place + z) qs s) n g.1) h (subst (λ z. IsStuck (far (place + z) qs) s) n k) a.1 in
+    (subst (λ z. FitFrom (place + z) qs s) n g.1) h (subst (λ z. IsStuck (far (place + z) qs) s) n k) a.1 in
     (cc (a.0, b.0), b.1)
 
 pub record SameCut (ps qs : List Piece) (m n : ℕ) (r s : List ℕ) : Type 0 where
@@ -157,8 +157,8 @@ run_all kind (b ∷ bs) = go (kind b) refl (run_all kind bs)
     go : (t : Bool) → kind b ≡ t → Each (λ b. kind b ≡ true) (take (prefix_len kind bs) bs)
         → Each (λ b. kind b ≡ true) (take (cond t (1 + prefix_len kind bs) 0) (b ∷ bs))
     go true e r =
-      let n : 1 + prefix_len kind bs ≡ suc (prefix_len kind bs) = omega arith in
-      rw n (e, r)
+        let n : 1 + prefix_len kind bs ≡ suc (prefix_len kind bs) = omega arith in
+        rw n (e, r)
     go false e r = tt
 
 pub run_stops : (kind : ℕ → Bool) (bs : List ℕ) → Stops kind (drop (prefix_len kind bs) bs)
@@ -167,8 +167,8 @@ run_stops kind (b ∷ bs) = go (kind b) refl (run_stops kind bs)
   where
     go : (t : Bool) → kind b ≡ t → Stops kind (drop (prefix_len kind bs) bs) → Stops kind (drop (cond t (1 + prefix_len kind bs) 0) (b ∷ bs))
     go true e r =
-      let n : 1 + prefix_len kind bs ≡ suc (prefix_len kind bs) = omega arith in
-      rw n r
+        let n : 1 + prefix_len kind bs ≡ suc (prefix_len kind bs) = omega arith in
+        rw n r
     go false e r = e
 
 -- no piece begins with a byte of none of the kinds
@@ -196,18 +196,23 @@ byte_of-mark_of b m e = at_opening (chosen (b == 40) Mark.opening m (if b == 41 
   where
     spells : (n : ℕ) (k : Mark) → byte_of k ≡ n → ((b == n) ≡ true) × (k ≡ m) → b ≡ byte_of m
     spells n k h r = (Decides-eqb b n).0 r.0 ∙ sym h ∙ ap byte_of r.1
+
     at_semicolon : (((b == 59) ≡ true) × (Mark.semicolon ≡ m)) ⊎ (None ≡ Some m) → b ≡ byte_of m
     at_semicolon (inl r) = spells 59 Mark.semicolon refl r
     at_semicolon (inr h) = absurd (cc)
+
     at_colon : (((b == 58) ≡ true) × (Mark.colon ≡ m)) ⊎ ((if b == 59 then Some Mark.semicolon else None) ≡ Some m) → b ≡ byte_of m
     at_colon (inl r) = spells 58 Mark.colon refl r
     at_colon (inr h) = at_semicolon (chosen (b == 59) Mark.semicolon m None h)
+
     at_comma : (((b == 44) ≡ true) × (Mark.comma ≡ m)) ⊎ ((if b == 58 then Some Mark.colon else (if b == 59 then Some Mark.semicolon else None)) ≡ Some m) → b ≡ byte_of m
     at_comma (inl r) = spells 44 Mark.comma refl r
     at_comma (inr h) = at_colon (chosen (b == 58) Mark.colon m (if b == 59 then Some Mark.semicolon else None) h)
+
     at_closing : (((b == 41) ≡ true) × (Mark.closing ≡ m)) ⊎ ((if b == 44 then Some Mark.comma else (if b == 58 then Some Mark.colon else (if b == 59 then Some Mark.semicolon else None))) ≡ Some m) → b ≡ byte_of m
     at_closing (inl r) = spells 41 Mark.closing refl r
     at_closing (inr h) = at_comma (chosen (b == 44) Mark.comma m (if b == 58 then Some Mark.colon else (if b == 59 then Some Mark.semicolon else None)) h)
+
     at_opening : (((b == 40) ≡ true) × (Mark.opening ≡ m)) ⊎ ((if b == 41 then Some Mark.closing else (if b == 44 then Some Mark.comma else (if b == 58 then Some Mark.colon else (if b == 59 then Some Mark.semicolon else None)))) ≡ Some m) → b ≡ byte_of m
     at_opening (inl r) = spells 40 Mark.opening refl r
     at_opening (inr h) = at_closing (chosen (b == 41) Mark.closing m (if b == 44 then Some Mark.comma else (if b == 58 then Some Mark.colon else (if b == 59 then Some Mark.semicolon else None))) h)
@@ -243,18 +248,22 @@ front place (b ∷ bs) = if_white (truth (is_white b))
     if_marked w c l m (yes' z) (inl r) = begins Piece.byte_order_mark r.0 ((Decides-eqb place 0).0 z) r.1
     if_marked w c l m (yes' z) (inr n) = stuck (none_begins place b bs w c l m (λ z rest. n rest))
     if_marked w c l m (no' z) r = stuck (none_begins place b bs w c l m (λ e. absurd (true≢false (sym ((Decides-eqb place 0).1 e) ∙ z))))
+
     if_mark : is_white b ≡ false → (b == 35) ≡ false → begins_word b ≡ false → Found (mark_of b) → Front place (b ∷ bs)
     if_mark w c l (nothing' m) = if_marked w c l m (truth (place == 0)) (prefix_or_not (bytes_of Piece.byte_order_mark) (b ∷ bs))
     if_mark w c l (something' m e) = begins (Piece.mark m) bs tt (ap (λ z. z ∷ bs) (byte_of-mark_of b m e))
+
     if_word : is_white b ≡ false → (b == 35) ≡ false → Truth (begins_word b) → Front place (b ∷ bs)
     if_word w c (yes' l) = begins (Piece.word (b ∷ take (prefix_len is_word_byte bs) bs)) (drop (prefix_len is_word_byte bs) bs) (word_front place b bs l) (taken (prefix_len is_word_byte bs) b bs)
     if_word w c (no' l) = if_mark w c l (found (mark_of b))
+
     if_comment : is_white b ≡ false → Truth (b == 35) → Front place (b ∷ bs)
     if_comment w (yes' c) =
-      let n = prefix_len is_comment_byte bs in
-      begins (Piece.comment (take n bs)) (drop n bs) (comment_front place bs)
-      (ap (λ z. z ∷ bs) ((Decides-eqb b 35).0 c) ∙ taken n 35 bs)
+        let n = prefix_len is_comment_byte bs in
+        begins (Piece.comment (take n bs)) (drop n bs) (comment_front place bs)
+        (ap (λ z. z ∷ bs) ((Decides-eqb b 35).0 c) ∙ taken n 35 bs)
     if_comment w (no' c) = if_word w c (truth (begins_word b))
+
     if_white : Truth (is_white b) → Front place (b ∷ bs)
     if_white (yes' w) = begins (Piece.white b) bs w refl
     if_white (no' w) = if_comment w (truth (b == 35))
@@ -287,15 +296,17 @@ cut_within (suc n) place bytes short = go (front place bytes) (cut_within n)
     go : Front place bytes → ((m : ℕ) (bs : List ℕ) → length bs ≤ n → Rest m bs) → Rest place bytes
     go (stuck s) r = record { pieces = []; rest = bytes; whole = refl; fit = tt; stuck = s }
     go (begins p after f e) r =
-      let some = some_bytes place p after f in
-      let k = ap length e in
-      let l = length-append (bytes_of p) after in
-      let more = r (place + length (bytes_of p)) after (omega arith) in
-      record {
-        pieces = p ∷ more.pieces; rest = more.rest;
-        whole = e ∙ ap (λ z. bytes_of p ++ z) more.whole;
-        fit = (subst (λ z. Fits place p z) more.whole f, more.fit);
-        stuck = more.stuck }
+        let some = some_bytes place p after f in
+        let k = ap length e in
+        let l = length-append (bytes_of p) after in
+        let more = r (place + length (bytes_of p)) after (omega arith) in
+        record {
+          pieces = p ∷ more.pieces;
+          rest = more.rest;
+          whole = e ∙ ap (λ z. bytes_of p ++ z) more.whole;
+          fit = (subst (λ z. Fits place p z) more.whole f, more.fit);
+          stuck = more.stuck;
+        }
 
 -- the rest of any bytes has a cut
 pub cut_rest : (place : ℕ) (bytes : List ℕ) → Rest place bytes

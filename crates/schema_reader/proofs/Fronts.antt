@@ -92,9 +92,11 @@ weaker_behind (s ∷ zs) xs ys w (t ∷ ts) a = (a.0, weaker_behind zs xs ys w t
 reads_on : (us : List Token) (st to : State) (x : Slot) (u : Token) → Reads us st → Fills x u → Good to.table to.spot → Each KeyNeedsColumn to.tables
     → ((xs : List Slot) → Weaker (shown st (x ∷ xs)) (shown to xs)) → Reads (us ++ u ∷ []) to
 reads_on us st to x u r f g k w = record {
-    good = g; keys = k;
-    filled = λ xs vs a. w xs ((us ++ u ∷ []) ++ vs)
-      (subst (λ z. AllZip Fills (shown st (x ∷ xs)) z) (sym (append_assoc us (u ∷ []) vs)) (r.filled (x ∷ xs) (u ∷ vs) (f, a))) }
+  good = g;
+  keys = k;
+  filled = λ xs vs a. w xs ((us ++ u ∷ []) ++ vs)
+      (subst (λ z. AllZip Fills (shown st (x ∷ xs)) z) (sym (append_assoc us (u ∷ []) vs)) (r.filled (x ∷ xs) (u ∷ vs) (f, a)));
+}
 
 -- one more part behind a comma
 with_commas_push : (p : List Slot) (ps : List (List Slot)) (q x : List Slot) → with_commas (p ∷ (ps ++ q ∷ [])) ++ x ≡ with_commas (p ∷ ps) ++ mark_slot Mark.comma ∷ (q ++ x)
@@ -105,6 +107,7 @@ with_commas_push p ps q x =
   where
     with_comma : List Slot → List Slot
     with_comma part = mark_slot Mark.comma ∷ part
+
     flat_push : (rs : List (List Slot)) → flat_map with_comma (rs ++ q ∷ []) ≡ flat_map with_comma rs ++ mark_slot Mark.comma ∷ q
     flat_push [] = ap (λ z. mark_slot Mark.comma ∷ z) (append-nil q)
     flat_push (r ∷ rs) = ap (λ z. mark_slot Mark.comma ∷ (r ++ z)) (flat_push rs) ∙ ap (λ z. mark_slot Mark.comma ∷ z) (sym (append_assoc r (flat_map with_comma rs) (mark_slot Mark.comma ∷ q)))
@@ -126,20 +129,22 @@ type_of_is w kind e = at_int (truth (bytes_eq w (codes "int"))) (truth (bytes_eq
   where
     at_text : type_of w ≡ (if bytes_eq w (codes "text") then Some column.Text else None) → Truth (bytes_eq w (codes "text")) → w ≡ type_word kind
     at_text h (yes' t) =
-      let k : Some column.Text ≡ Some kind = sym (h ∙ ap (λ b. cond b (Some column.Text) None) t) ∙ e in
-      let same : column.Text ≡ kind = cc in (bytes_eq-Decides w (codes "text")).0 t ∙ ap type_word same
+        let k : Some column.Text ≡ Some kind = sym (h ∙ ap (λ b. cond b (Some column.Text) None) t) ∙ e in
+        let same : column.Text ≡ kind = cc in (bytes_eq-Decides w (codes "text")).0 t ∙ ap type_word same
     at_text h (no' t) =
-      let k : None ≡ Some kind = sym (h ∙ ap (λ b. cond b (Some column.Text) None) t) ∙ e in absurd (cc)
+        let k : None ≡ Some kind = sym (h ∙ ap (λ b. cond b (Some column.Text) None) t) ∙ e in absurd (cc)
+
     at_bool : type_of w ≡ (if bytes_eq w (codes "bool") then Some column.Bool else (if bytes_eq w (codes "text") then Some column.Text else None))
-      → Truth (bytes_eq w (codes "bool")) → Truth (bytes_eq w (codes "text")) → w ≡ type_word kind
+        → Truth (bytes_eq w (codes "bool")) → Truth (bytes_eq w (codes "text")) → w ≡ type_word kind
     at_bool h (yes' t) u =
-      let k : Some column.Bool ≡ Some kind = sym (h ∙ ap (λ b. cond b (Some column.Bool) (if bytes_eq w (codes "text") then Some column.Text else None)) t) ∙ e in
-      let same : column.Bool ≡ kind = cc in (bytes_eq-Decides w (codes "bool")).0 t ∙ ap type_word same
+        let k : Some column.Bool ≡ Some kind = sym (h ∙ ap (λ b. cond b (Some column.Bool) (if bytes_eq w (codes "text") then Some column.Text else None)) t) ∙ e in
+        let same : column.Bool ≡ kind = cc in (bytes_eq-Decides w (codes "bool")).0 t ∙ ap type_word same
     at_bool h (no' t) u = at_text (h ∙ ap (λ b. cond b (Some column.Bool) (if bytes_eq w (codes "text") then Some column.Text else None)) t) u
+
     at_int : Truth (bytes_eq w (codes "int")) → Truth (bytes_eq w (codes "bool")) → Truth (bytes_eq w (codes "text")) → w ≡ type_word kind
     at_int (yes' t) u v =
-      let k : Some column.Int ≡ Some kind = sym (ap (λ b. cond b (Some column.Int) (if bytes_eq w (codes "bool") then Some column.Bool else (if bytes_eq w (codes "text") then Some column.Text else None))) t) ∙ e in
-      let same : column.Int ≡ kind = cc in (bytes_eq-Decides w (codes "int")).0 t ∙ ap type_word same
+        let k : Some column.Int ≡ Some kind = sym (ap (λ b. cond b (Some column.Int) (if bytes_eq w (codes "bool") then Some column.Bool else (if bytes_eq w (codes "text") then Some column.Text else None))) t) ∙ e in
+        let same : column.Int ≡ kind = cc in (bytes_eq-Decides w (codes "int")).0 t ∙ ap type_word same
     at_int (no' t) u v = at_bool (ap (λ b. cond b (Some column.Int) (if bytes_eq w (codes "bool") then Some column.Bool else (if bytes_eq w (codes "text") then Some column.Text else None))) t) u v
 
 abbrev pub Then : Option State → (State → Type 0) → Type 0
@@ -165,11 +170,11 @@ key_is_word : (ts : List WrittenTable) (t : WrittenTable) (n : Name) (xs : List 
 key_is_word ts t n xs some none e us a =
     weaker_behind (flat_map table_slots ts) (head t (with_commas (columns_of t) ++ mark_slot Mark.comma ∷ Slot.name n ∷ mark_slot Mark.opening ∷ xs)) (part t Spot.key_name xs)
     (weaker_behind (head t []) (with_commas (columns_of t) ++ mark_slot Mark.comma ∷ Slot.name n ∷ mark_slot Mark.opening ∷ xs)
-        (with_commas (columns_of t) ++ mark_slot Mark.comma ∷ word_slot (codes "key") ∷ mark_slot Mark.opening ∷ lead (words_of t) xs)
-      (weaker_behind (with_commas (columns_of t)) _ _
-        (λ vs b. same _ _ (ap (λ z. mark_slot Mark.comma ∷ word_slot (codes "key") ∷ mark_slot Mark.opening ∷ lead (map (λ m. Slot.name m ∷ []) z) xs) (sym none)) vs
-          (weaker_behind (mark_slot Mark.comma ∷ []) (Slot.name n ∷ mark_slot Mark.opening ∷ xs) (word_slot (codes "key") ∷ mark_slot Mark.opening ∷ xs)
-            (weaker_name n (codes "key") (mark_slot Mark.opening ∷ xs) e) vs b))))
+    (with_commas (columns_of t) ++ mark_slot Mark.comma ∷ word_slot (codes "key") ∷ mark_slot Mark.opening ∷ lead (words_of t) xs)
+    (weaker_behind (with_commas (columns_of t)) _ _
+    (λ vs b. same _ _ (ap (λ z. mark_slot Mark.comma ∷ word_slot (codes "key") ∷ mark_slot Mark.opening ∷ lead (map (λ m. Slot.name m ∷ []) z) xs) (sym none)) vs
+    (weaker_behind (mark_slot Mark.comma ∷ []) (Slot.name n ∷ mark_slot Mark.opening ∷ xs) (word_slot (codes "key") ∷ mark_slot Mark.opening ∷ xs)
+    (weaker_name n (codes "key") (mark_slot Mark.opening ∷ xs) e) vs b))))
     us (same _ _ (ap (λ z. flat_map table_slots ts ++ head t z) (sym (lead_more column_slots t.columns (Slot.name n ∷ mark_slot Mark.opening ∷ xs) some))) us a)
 
 -- a whole key
@@ -185,8 +190,8 @@ table_whole : (ts : List WrittenTable) (t : WrittenTable) (x : List Slot)
     → flat_map table_slots ts ++ head t (with_commas (columns_of t) ++ (key_slots t.key ++ mark_slot Mark.closing ∷ mark_slot Mark.semicolon ∷ x)) ≡ flat_map table_slots (ts ++ t ∷ []) ++ x
 table_whole [] t x =
     ap (λ z. head t z)
-      (ap (λ z. with_commas (columns_of t) ++ z) (sym (append_assoc (key_slots t.key) ends x))
-      ∙ sym (append_assoc (with_commas (columns_of t)) (key_slots t.key ++ ends) x))
+    (ap (λ z. with_commas (columns_of t) ++ z) (sym (append_assoc (key_slots t.key) ends x))
+    ∙ sym (append_assoc (with_commas (columns_of t)) (key_slots t.key ++ ends) x))
     ∙ ap (λ z. z ++ x) (sym (append-nil (table_slots t)))
   where
     ends : List Slot
@@ -204,7 +209,7 @@ pub goes : (us : List Token) (ts : List WrittenTable) (t : WrittenTable) (spot :
 goes us ts t Spot.between p (Symbol.word w) r =
     then_if (Reads (us ++ token p (Symbol.word w) ∷ [])) (λ (x : Spot × Addition). added ts t x.0 x.1) (Spot.titled, Addition.nothing) (bytes_eq w (codes "table"))
     (λ e. reads_on us (state ts t Spot.between) (state ts t Spot.titled) (word_slot (codes "table")) (token p (Symbol.word w)) r
-      (ap Symbol.word ((bytes_eq-Decides w (codes "table")).0 e)) r.good r.keys (λ xs ys a. a))
+    (ap Symbol.word ((bytes_eq-Decides w (codes "table")).0 e)) r.good r.keys (λ xs ys a. a))
 goes us ts t Spot.between p Symbol.end r =
     reads_on us (state ts t Spot.between) (state ts t Spot.done) (Slot.sign Symbol.end) (token p Symbol.end) r refl tt r.keys (λ xs ys a. a)
 goes us ts t Spot.titled p (Symbol.word w) r =
@@ -219,29 +224,29 @@ goes us ts t Spot.first p (Symbol.word w) r =
 goes us ts t Spot.first p (Symbol.mark Mark.closing) r =
     reads_on us (state ts t Spot.first) (state ts t Spot.closed) (mark_slot Mark.closing) (token p (Symbol.mark Mark.closing)) r refl (λ e. r.good.1) r.keys
     (λ xs. same (shown (state ts t Spot.first) (mark_slot Mark.closing ∷ xs)) (shown (state ts t Spot.closed) xs)
-      (ap (λ z. flat_map table_slots ts ++ head t z)
-        (sym (ap (λ z. with_commas (map column_slots z) ++ (key_slots t.key ++ mark_slot Mark.closing ∷ xs)) r.good.0
-          ∙ ap (λ z. key_slots z ++ mark_slot Mark.closing ∷ xs) r.good.1))))
+    (ap (λ z. flat_map table_slots ts ++ head t z)
+    (sym (ap (λ z. with_commas (map column_slots z) ++ (key_slots t.key ++ mark_slot Mark.closing ∷ xs)) r.good.0
+    ∙ ap (λ z. key_slots z ++ mark_slot Mark.closing ∷ xs) r.good.1))))
 goes us ts t (Spot.first_name n) p (Symbol.mark Mark.colon) r =
     reads_on us (state ts t (Spot.first_name n)) (state ts t (Spot.typed n)) (mark_slot Mark.colon) (token p (Symbol.mark Mark.colon)) r refl r.good.1 r.keys
     (λ xs. same (shown (state ts t (Spot.first_name n)) (mark_slot Mark.colon ∷ xs)) (shown (state ts t (Spot.typed n)) xs)
-      (ap (λ z. flat_map table_slots ts ++ head t (lead (map column_slots z) (Slot.name n ∷ mark_slot Mark.colon ∷ xs))) (sym r.good.0)))
+    (ap (λ z. flat_map table_slots ts ++ head t (lead (map column_slots z) (Slot.name n ∷ mark_slot Mark.colon ∷ xs))) (sym r.good.0)))
 goes us ts t (Spot.later_name n) p (Symbol.mark Mark.colon) r =
     reads_on us (state ts t (Spot.later_name n)) (state ts t (Spot.typed n)) (mark_slot Mark.colon) (token p (Symbol.mark Mark.colon)) r refl r.good.1 r.keys (λ xs ys a. a)
 goes us ts t (Spot.later_name n) p (Symbol.mark Mark.opening) r =
     then_if (Reads (us ++ token p (Symbol.mark Mark.opening) ∷ [])) (λ (x : Spot × Addition). added ts t x.0 x.1) (Spot.key_name, Addition.nothing) (bytes_eq n.text (codes "key"))
     (λ e. reads_on us (state ts t (Spot.later_name n)) (state ts t Spot.key_name) (mark_slot Mark.opening) (token p (Symbol.mark Mark.opening)) r refl r.good.0 r.keys
-      (λ xs. key_is_word ts t n xs r.good.0 r.good.1 ((bytes_eq-Decides n.text (codes "key")).0 e)))
+    (λ xs. key_is_word ts t n xs r.good.0 r.good.1 ((bytes_eq-Decides n.text (codes "key")).0 e)))
 goes us ts t (Spot.typed n) p (Symbol.word w) r =
     then_mapped (Reads (us ++ token p (Symbol.word w) ∷ [])) (λ (x : Spot × Addition). added ts t x.0 x.1)
     (λ (kind : ColumnType). (Spot.column_end, Addition.a_column (record { name = n; kind = kind }))) (type_of w)
     (λ kind e.
-      let c : WrittenColumn = record { name = n; kind = kind } in
-      let new : WrittenTable = record { name = t.name; columns = t.columns ++ c ∷ []; key = t.key } in
-      reads_on us (state ts t (Spot.typed n)) (state ts new Spot.column_end) (word_slot (type_word kind)) (token p (Symbol.word w)) r
-      (ap Symbol.word (type_of_is w kind e)) (not_empty t.columns c, r.good) r.keys
-      (λ xs. same (shown (state ts t (Spot.typed n)) (word_slot (type_word kind) ∷ xs)) (shown (state ts new Spot.column_end) xs)
-        (ap (λ z. flat_map table_slots ts ++ head t z) (lead_push column_slots t.columns c xs))))
+    let c : WrittenColumn = record { name = n; kind = kind } in
+    let new : WrittenTable = record { name = t.name; columns = t.columns ++ c ∷ []; key = t.key } in
+    reads_on us (state ts t (Spot.typed n)) (state ts new Spot.column_end) (word_slot (type_word kind)) (token p (Symbol.word w)) r
+    (ap Symbol.word (type_of_is w kind e)) (not_empty t.columns c, r.good) r.keys
+    (λ xs. same (shown (state ts t (Spot.typed n)) (word_slot (type_word kind) ∷ xs)) (shown (state ts new Spot.column_end) xs)
+    (ap (λ z. flat_map table_slots ts ++ head t z) (lead_push column_slots t.columns c xs))))
   where
     not_empty : (cs : List WrittenColumn) (c : WrittenColumn) → NonEmpty (cs ++ c ∷ [])
     not_empty [] c = tt
@@ -249,11 +254,11 @@ goes us ts t (Spot.typed n) p (Symbol.word w) r =
 goes us ts t Spot.column_end p (Symbol.mark Mark.comma) r =
     reads_on us (state ts t Spot.column_end) (state ts t Spot.comma) (mark_slot Mark.comma) (token p (Symbol.mark Mark.comma)) r refl r.good r.keys
     (λ xs. same (shown (state ts t Spot.column_end) (mark_slot Mark.comma ∷ xs)) (shown (state ts t Spot.comma) xs)
-      (ap (λ z. flat_map table_slots ts ++ head t z) (lead_more column_slots t.columns xs r.good.0)))
+    (ap (λ z. flat_map table_slots ts ++ head t z) (lead_more column_slots t.columns xs r.good.0)))
 goes us ts t Spot.column_end p (Symbol.mark Mark.closing) r =
     reads_on us (state ts t Spot.column_end) (state ts t Spot.closed) (mark_slot Mark.closing) (token p (Symbol.mark Mark.closing)) r refl (λ e. r.good.1) r.keys
     (λ xs. same (shown (state ts t Spot.column_end) (mark_slot Mark.closing ∷ xs)) (shown (state ts t Spot.closed) xs)
-      (ap (λ z. flat_map table_slots ts ++ head t (with_commas (columns_of t) ++ (key_slots z ++ mark_slot Mark.closing ∷ xs))) (sym r.good.1)))
+    (ap (λ z. flat_map table_slots ts ++ head t (with_commas (columns_of t) ++ (key_slots z ++ mark_slot Mark.closing ∷ xs))) (sym r.good.1)))
 goes us ts t Spot.comma p (Symbol.word w) r =
     let n : Name = record { place = p; text = w } in
     reads_on us (state ts t Spot.comma) (state ts t (Spot.later_name n)) (Slot.name n) (token p (Symbol.word w)) r refl r.good r.keys (λ xs ys a. a)
@@ -262,7 +267,7 @@ goes us ts t Spot.key_name p (Symbol.word w) r =
     let new : WrittenTable = record { name = t.name; columns = t.columns; key = t.key ++ n ∷ [] } in
     reads_on us (state ts t Spot.key_name) (state ts new Spot.key_word) (Slot.name n) (token p (Symbol.word w)) r refl (r.good, not_empty t.key n) r.keys
     (λ xs. same (shown (state ts t Spot.key_name) (Slot.name n ∷ xs)) (shown (state ts new Spot.key_word) xs)
-      (ap (λ z. flat_map table_slots ts ++ key_head t z) (lead_push (λ m. Slot.name m ∷ []) t.key n xs)))
+    (ap (λ z. flat_map table_slots ts ++ key_head t z) (lead_push (λ m. Slot.name m ∷ []) t.key n xs)))
   where
     not_empty : (cs : List Name) (c : Name) → NonEmpty (cs ++ c ∷ [])
     not_empty [] c = tt
@@ -270,13 +275,13 @@ goes us ts t Spot.key_name p (Symbol.word w) r =
 goes us ts t Spot.key_word p (Symbol.mark Mark.comma) r =
     reads_on us (state ts t Spot.key_word) (state ts t Spot.key_name) (mark_slot Mark.comma) (token p (Symbol.mark Mark.comma)) r refl r.good.0 r.keys
     (λ xs. same (shown (state ts t Spot.key_word) (mark_slot Mark.comma ∷ xs)) (shown (state ts t Spot.key_name) xs)
-      (ap (λ z. flat_map table_slots ts ++ key_head t z) (lead_more (λ m. Slot.name m ∷ []) t.key xs r.good.1)))
+    (ap (λ z. flat_map table_slots ts ++ key_head t z) (lead_more (λ m. Slot.name m ∷ []) t.key xs r.good.1)))
 goes us ts t Spot.key_word p (Symbol.mark Mark.closing) r =
     reads_on us (state ts t Spot.key_word) (state ts t Spot.key_end) (mark_slot Mark.closing) (token p (Symbol.mark Mark.closing)) r refl r.good r.keys (λ xs ys a. a)
 goes us ts t Spot.key_end p (Symbol.mark Mark.closing) r =
     reads_on us (state ts t Spot.key_end) (state ts t Spot.closed) (mark_slot Mark.closing) (token p (Symbol.mark Mark.closing)) r refl (some_columns t r.good.0) r.keys
     (λ xs. same (shown (state ts t Spot.key_end) (mark_slot Mark.closing ∷ xs)) (shown (state ts t Spot.closed) xs)
-      (ap (λ z. flat_map table_slots ts ++ head t (with_commas (columns_of t) ++ z)) (key_whole t.key (mark_slot Mark.closing ∷ xs) r.good.1)))
+    (ap (λ z. flat_map table_slots ts ++ head t (with_commas (columns_of t) ++ z)) (key_whole t.key (mark_slot Mark.closing ∷ xs) r.good.1)))
 goes us ts t Spot.closed p (Symbol.mark Mark.semicolon) r =
     reads_on us (state ts t Spot.closed) (state (ts ++ t ∷ []) blank Spot.between) (mark_slot Mark.semicolon) (token p (Symbol.mark Mark.semicolon)) r refl refl
     (Each-append KeyNeedsColumn ts (t ∷ []) r.keys (r.good, tt))

@@ -35,9 +35,9 @@ named_parts {A} f name one (x ∷ xs) =
     others : (ys : List A) → named (flat_map (λ more. mark_slot Mark.comma ∷ more) (map f ys)) ≡ map name ys
     others [] = refl
     others (y ∷ ys) =
-      named-append (f y) (flat_map (λ more. mark_slot Mark.comma ∷ more) (map f ys))
-      ∙ ap (λ z. z ++ named (flat_map (λ more. mark_slot Mark.comma ∷ more) (map f ys))) (one y)
-      ∙ ap (λ z. name y ∷ z) (others ys)
+        named-append (f y) (flat_map (λ more. mark_slot Mark.comma ∷ more) (map f ys))
+        ∙ ap (λ z. z ++ named (flat_map (λ more. mark_slot Mark.comma ∷ more) (map f ys))) (one y)
+        ∙ ap (λ z. name y ∷ z) (others ys)
 
 map_same : (ns : List Name) → map (λ n. n) ns ≡ ns
 map_same [] = refl
@@ -54,9 +54,9 @@ named_table : (t : WrittenTable) → named (table_slots t) ≡ names_in t
 named_table t =
     ap (λ z. t.name ∷ z)
     (named-append (with_commas (map column_slots t.columns)) (key_slots t.key ++ mark_slot Mark.closing ∷ mark_slot Mark.semicolon ∷ [])
-      ∙ ap (λ z. named (with_commas (map column_slots t.columns)) ++ z)
-        (named-append (key_slots t.key) (mark_slot Mark.closing ∷ mark_slot Mark.semicolon ∷ []) ∙ append-nil (named (key_slots t.key)) ∙ named_key t.key)
-      ∙ ap (λ z. z ++ t.key) (named_parts column_slots (λ c. c.name) (λ c. refl) t.columns))
+    ∙ ap (λ z. named (with_commas (map column_slots t.columns)) ++ z)
+    (named-append (key_slots t.key) (mark_slot Mark.closing ∷ mark_slot Mark.semicolon ∷ []) ∙ append-nil (named (key_slots t.key)) ∙ named_key t.key)
+    ∙ ap (λ z. z ++ t.key) (named_parts column_slots (λ c. c.name) (λ c. refl) t.columns))
 
 pub named_schema : (tables : List WrittenTable) → named (schema_slots tables) ≡ flat_map names_in tables
 named_schema tables = named-append (flat_map table_slots tables) (Slot.sign Symbol.end ∷ []) ∙ append-nil (named (flat_map table_slots tables)) ∙ each tables
@@ -131,10 +131,11 @@ word_bytes (b ∷ bs) h = (ap (λ t. t || (nat_le 48 b && nat_le b 57)) h.0, h.1
 word_proper : (w : List ℕ) → IsWord w → (64 < length w → ⊥) → IsProperName w
 word_proper [] h n = absurd h
 word_proper (b ∷ bs) h n = record {
-    some_byte = omega arith;
-    short = omega arith;
-    no_quote = no_byte 34 refl (b ∷ bs) (word_bytes (b ∷ bs) h);
-    no_dot = no_byte 46 refl (b ∷ bs) (word_bytes (b ∷ bs) h) }
+  some_byte = omega arith;
+  short = omega arith;
+  no_quote = no_byte 34 refl (b ∷ bs) (word_bytes (b ∷ bs) h);
+  no_dot = no_byte 46 refl (b ∷ bs) (word_bytes (b ∷ bs) h);
+}
 
 stands_more : {A : Type 0} (x y : A) (xs before : List A) → StandsBehind xs before y → StandsBehind (x ∷ xs) (x ∷ before) y
 stands_more x y xs before s = (s.0, ap (λ z. x ∷ z) s.1)
@@ -155,9 +156,10 @@ each_at {A} P xs before x e s = within before (subst (Each P) s.1 e)
 
 distinct_from : (xs : List (List ℕ)) → ((before : List (List ℕ)) (x : List ℕ) → StandsBehind xs before x → Contains before x → ⊥) → AreDistinct xs
 distinct_from [] h = tt
-distinct_from (x ∷ xs) h =
-    (each_from (λ y. x ≢ y) xs (λ before y s e. h (x ∷ before) y (stands_more x y xs before s) (subst (λ z. Contains (x ∷ before) z) e (contains_here x before))),
-      distinct_from xs (λ before y s c. h (x ∷ before) y (stands_more x y xs before s) (contains_there x y before c)))
+distinct_from (x ∷ xs) h = (
+  each_from (λ y. x ≢ y) xs (λ before y s e. h (x ∷ before) y (stands_more x y xs before s) (subst (λ z. Contains (x ∷ before) z) e (contains_here x before))),
+  distinct_from xs (λ before y s c. h (x ∷ before) y (stands_more x y xs before s) (contains_there x y before c)),
+)
 
 record Mapped {A B : Type 0} (f : A → B) (xs : List A) (before : List B) (y : B) : Type 0 where
   front : List A
@@ -189,24 +191,41 @@ tables_words (t ∷ ts) w =
     (each_front (λ n. IsWord n.text) (names_in t) (flat_map names_in ts) w, tables_words ts (each_back (λ n. IsWord n.text) (names_in t) (flat_map names_in ts) w))
 
 module _ (tables : List WrittenTable) (words : AreWords (flat_map names_in tables)) (faultless : (f : Fault) (p : ℕ) → FaultAt tables f p → ⊥) where
-
   no_twin_column : (t : WrittenTable) → Contains tables t → AreDistinct (column_names t.columns)
   no_twin_column t c = distinct_from (column_names t.columns) (λ before x s k.
-    let m = stands_map (λ (d : WrittenColumn). d.name.text) t.columns before x s in
-    faultless Fault.twice_column m.at.name.place
-      (inr (t, c, inl (m.front, m.at, m.stands,
-        subst (λ z. Contains z m.at.name.text) (sym m.fronts) (subst (λ z. Contains before z) (sym m.same) k), refl))))
+      let m = stands_map (λ (d : WrittenColumn). d.name.text) t.columns before x s in
+      faultless Fault.twice_column m.at.name.place
+      (inr (
+        t,
+        c,
+        inl (
+          m.front,
+          m.at,
+          m.stands,
+          subst (λ z. Contains z m.at.name.text) (sym m.fronts) (subst (λ z. Contains before z) (sym m.same) k),
+          refl,
+        ),
+      )))
 
   no_twin_key : (t : WrittenTable) → Contains tables t → AreDistinct (key_names t.key)
   no_twin_key t c = distinct_from (key_names t.key) (λ before x s k.
-    let m = stands_map (λ (n : Name). n.text) t.key before x s in
-    faultless Fault.key_column m.at.place
-      (inr (t, c, inr (m.front, m.at, m.stands,
-        inr (subst (λ z. Contains z m.at.text) (sym m.fronts) (subst (λ z. Contains before z) (sym m.same) k)), refl))))
+      let m = stands_map (λ (n : Name). n.text) t.key before x s in
+      faultless Fault.key_column m.at.place
+      (inr (
+        t,
+        c,
+        inr (
+          m.front,
+          m.at,
+          m.stands,
+          inr (subst (λ z. Contains z m.at.text) (sym m.fronts) (subst (λ z. Contains before z) (sym m.same) k)),
+          refl,
+        ),
+      )))
 
   short_columns : (t : WrittenTable) → Contains tables t → AreWords (map (λ d. d.name) t.columns) → Each (λ d. IsProperName d.name.text) t.columns
   short_columns t c w = each_from (λ d. IsProperName d.name.text) t.columns (λ before d s.
-    word_proper d.name.text (each_at (λ e. IsWord e.name.text) t.columns before d (each_unmap (λ n. IsWord n.text) (λ e. e.name) t.columns w) s)
+      word_proper d.name.text (each_at (λ e. IsWord e.name.text) t.columns before d (each_unmap (λ n. IsWord n.text) (λ e. e.name) t.columns w) s)
       (λ l. faultless Fault.over_limit d.name.place (inr (t, c, inl (before, d, s, inr l, refl)))))
 
   key_within : (t : WrittenTable) → Contains tables t → Each (λ n. Contains (column_names t.columns) n.text) t.key
@@ -221,25 +240,32 @@ module _ (tables : List WrittenTable) (words : AreWords (flat_map names_in table
 
   shape_proper : (before : List WrittenTable) (t : WrittenTable) → StandsBehind tables before t → IsProperShape (shape_of t)
   shape_proper before t s =
-    let c = stands_contains tables before t s in
-    let w = each_at (λ u. AreWords (names_in u)) tables before t (tables_words tables words) s in
-    let columns : Each IsProperName (names_of (shape_of t).columns) =
+      let c = stands_contains tables before t s in
+      let w = each_at (λ u. AreWords (names_in u)) tables before t (tables_words tables words) s in
+      let columns : Each IsProperName (names_of (shape_of t).columns) =
       subst (Each IsProperName) (sym (names_same t)) (each_map IsProperName (λ d. d.name.text) t.columns (short_columns t c (each_front (λ n. IsWord n.text) (map (λ d. d.name) t.columns) t.key w.1))) in
-    let within : Each (Contains (names_of (shape_of t).columns)) (shape_of t).key =
+      let within : Each (Contains (names_of (shape_of t).columns)) (shape_of t).key =
       each_map (Contains (names_of (shape_of t).columns)) (λ n. n.text) t.key (subst (λ z. Each (λ n. Contains z n.text) t.key) (sym (names_same t)) (key_within t c)) in
-    record {
-      named = word_proper t.name.text w.0 (λ l. faultless Fault.over_limit t.name.place (inl (before, t, s, inr l, refl)));
-      columns_named = All-from_recursion IsProperName (names_of (shape_of t).columns) columns;
-      columns_differ = subst AreDistinct (sym (names_same t)) (no_twin_column t c);
-      key_of_columns = All-from_recursion (Contains (names_of (shape_of t).columns)) (shape_of t).key within;
-      key_differs = no_twin_key t c }
+      record {
+        named = word_proper t.name.text w.0 (λ l. faultless Fault.over_limit t.name.place (inl (before, t, s, inr l, refl)));
+        columns_named = All-from_recursion IsProperName (names_of (shape_of t).columns) columns;
+        columns_differ = subst AreDistinct (sym (names_same t)) (no_twin_column t c);
+        key_of_columns = All-from_recursion (Contains (names_of (shape_of t).columns)) (shape_of t).key within;
+        key_differs = no_twin_key t c;
+      }
 
   -- a written schema in which no fault stands is proper
   pub schema_proper : IsProperSchema (schema_of tables)
   schema_proper = record {
     tables_differ = subst AreDistinct (sym (map_map shape_of (λ s. s.name) tables))
-      (distinct_from (table_names tables) (λ before x s k.
+        (distinct_from (table_names tables) (λ before x s k.
         let m = stands_map (λ (t : WrittenTable). t.name.text) tables before x s in
-        faultless Fault.twice_table m.at.name.place (inl (m.front, m.at, m.stands,
-          subst (λ z. Contains z m.at.name.text) (sym m.fronts) (subst (λ z. Contains before z) (sym m.same) k), refl))));
-    proper = All-from_recursion IsProperShape (map shape_of tables) (each_map IsProperShape shape_of tables (each_from (λ t. IsProperShape (shape_of t)) tables shape_proper)) }
+        faultless Fault.twice_table m.at.name.place (inl (
+          m.front,
+          m.at,
+          m.stands,
+          subst (λ z. Contains z m.at.name.text) (sym m.fronts) (subst (λ z. Contains before z) (sym m.same) k),
+          refl,
+        ))));
+    proper = All-from_recursion IsProperShape (map shape_of tables) (each_map IsProperShape shape_of tables (each_from (λ t. IsProperShape (shape_of t)) tables shape_proper));
+  }

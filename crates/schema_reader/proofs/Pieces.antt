@@ -20,12 +20,13 @@ has_comment place b n bs bytes e h l =
     let size : n ≡ suc k = l ∙ ap (prefix_len is_comment_byte) front ∙ one-add k in
     subst (λ z. HasFront place bytes z []) (sym size)
     (subst (λ z. HasFront place z (suc k) []) (sym front)
-      (record {
-        piece = Piece.comment (take k bs);
-        whole = ap (λ z. 35 ∷ z) (sym (take-append-drop k bs));
-        fits = comment_front place bs;
-        size = ap suc (length-take-le k bs (prefix_len-le-length is_comment_byte bs));
-        says = refl }))
+    (record {
+      piece = Piece.comment (take k bs);
+      whole = ap (λ z. 35 ∷ z) (sym (take-append-drop k bs));
+      fits = comment_front place bs;
+      size = ap suc (length-take-le k bs (prefix_len-le-length is_comment_byte bs));
+      says = refl;
+    }))
 
 word_len_more : (b : ℕ) (bs : List ℕ) → begins_word b ≡ true → prefix_len is_word_byte (b ∷ bs) ≡ suc (prefix_len is_word_byte bs)
 word_len_more b bs h =
@@ -39,13 +40,14 @@ has_word place b bs bytes w e h l =
     let size : length (b ∷ take k bs) ≡ suc k = ap suc (length-take-le k bs (prefix_len-le-length is_word_byte bs)) in
     subst (λ z. HasFront place bytes (length z) (token place (Symbol.word z) ∷ [])) (sym same)
     (subst (λ z. HasFront place bytes z (token place (Symbol.word (b ∷ take k bs)) ∷ [])) (sym size)
-      (subst (λ z. HasFront place z (suc k) (token place (Symbol.word (b ∷ take k bs)) ∷ [])) (sym e)
-        (record {
-          piece = Piece.word (b ∷ take k bs);
-          whole = ap (λ z. b ∷ z) (sym (take-append-drop k bs));
-          fits = word_front place b bs h;
-          size = size;
-          says = refl })))
+    (subst (λ z. HasFront place z (suc k) (token place (Symbol.word (b ∷ take k bs)) ∷ [])) (sym e)
+    (record {
+      piece = Piece.word (b ∷ take k bs);
+      whole = ap (λ z. b ∷ z) (sym (take-append-drop k bs));
+      fits = word_front place b bs h;
+      size = size;
+      says = refl;
+    })))
 
 pub has_mark : (place b : ℕ) (bs bytes : List ℕ) (m : Mark) → bytes ≡ b ∷ bs → mark_of b ≡ Some m → HasFront place bytes 1 (token place (Symbol.mark m) ∷ [])
 has_mark place b bs bytes m e h =
@@ -61,10 +63,11 @@ has_order_mark place bytes e h =
 
 pub stuck_at : (place b : ℕ) (bs bytes : List ℕ) → bytes ≡ b ∷ bs → is_white b ≡ false → (b == 35) ≡ false → begins_word b ≡ false → mark_of b ≡ None
     → (place ≡ 0 → starts_with nat_eq bytes order_mark ≡ false) → (bytes ≢ []) × IsStuck place bytes
-stuck_at place b bs bytes e w c l m o =
-    (λ h. let k : [] ≡ b ∷ bs = sym h ∙ e in cc,
-      subst (IsStuck place) (sym e) (none_begins place b bs w c l m
-        (λ z after f. true≢false (sym ((starts_is Decides-eqb bytes order_mark (starts_with nat_eq bytes order_mark) refl).1 after (e ∙ f)) ∙ o z))))
+stuck_at place b bs bytes e w c l m o = (
+  λ h. let k : [] ≡ b ∷ bs = sym h ∙ e in cc,
+  subst (IsStuck place) (sym e) (none_begins place b bs w c l m
+      (λ z after f. true≢false (sym ((starts_is Decides-eqb bytes order_mark (starts_with nat_eq bytes order_mark) refl).1 after (e ∙ f)) ∙ o z))),
+)
 
 -- a word is ASCII, so it is UTF-8
 word_byte_small : (b : ℕ) → is_word_byte b ≡ true → b < 128

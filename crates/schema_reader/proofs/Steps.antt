@@ -54,9 +54,11 @@ leads_nothing st = record { by = nothing_fills }
     nothing_fills (t ∷ ts) a = absurd a
 
 pub leads_append : (st mid to : State) (xs ys : List Slot) → Leads st xs mid → Leads mid ys to → Leads st (xs ++ ys) to
-leads_append st mid to xs ys a b = record { by = λ ts z.
-    let p = AllZip-parts xs ys ts z in
-    ap (run st) p.whole ∙ run-append st p.front p.back ∙ ap (option_and_then (λ next. run next p.back)) (a.by p.front p.fills_front) ∙ b.by p.back p.fills_back }
+leads_append st mid to xs ys a b = record {
+  by = λ ts z.
+      let p = AllZip-parts xs ys ts z in
+      ap (run st) p.whole ∙ run-append st p.front p.back ∙ ap (option_and_then (λ next. run next p.back)) (a.by p.front p.fills_front) ∙ b.by p.back p.fills_back;
+}
 
 -- one step at a token of the slot
 abbrev pub Goes : State → Slot → State → Type 0
@@ -113,7 +115,7 @@ more_columns_lead ws n cs (d ∷ ds) =
     (mark_slot Mark.comma ∷ column_slots d) (flat_map (λ more. mark_slot Mark.comma ∷ more) (map column_slots ds))
     (later_leads ws n cs d)
     (subst (λ z. Leads (inside ws n (cs ++ d ∷ []) [] Spot.column_end) (flat_map (λ more. mark_slot Mark.comma ∷ more) (map column_slots ds)) (inside ws n z [] Spot.column_end))
-      (append_assoc cs (d ∷ []) ds) (more_columns_lead ws n (cs ++ d ∷ []) ds))
+    (append_assoc cs (d ∷ []) ds) (more_columns_lead ws n (cs ++ d ∷ []) ds))
 
 abbrev key_part_slots : Name → List Slot
 key_part_slots m = Slot.name m ∷ []
@@ -126,7 +128,7 @@ more_key_leads ws n cs ks (m ∷ ms) =
     (mark_slot Mark.comma ∷ Slot.name m ∷ []) (flat_map (λ more. mark_slot Mark.comma ∷ more) (map key_part_slots ms))
     (leads_on _ (inside ws n cs ks Spot.key_name) _ _ _ (λ place. refl) (leads_on _ (inside ws n cs (ks ++ m ∷ []) Spot.key_word) _ _ _ refl (leads_nothing _)))
     (subst (λ z. Leads (inside ws n cs (ks ++ m ∷ []) Spot.key_word) (flat_map (λ more. mark_slot Mark.comma ∷ more) (map key_part_slots ms)) (inside ws n cs z Spot.key_word))
-      (append_assoc ks (m ∷ []) ms) (more_key_leads ws n cs (ks ++ m ∷ []) ms))
+    (append_assoc ks (m ∷ []) ms) (more_key_leads ws n cs (ks ++ m ∷ []) ms))
 
 key_opens : (ws : List WrittenTable) (n : Name) (cs : List WrittenColumn)
     → Leads (inside ws n cs [] Spot.comma) (word_slot (codes "key") ∷ mark_slot Mark.opening ∷ []) (inside ws n cs [] Spot.key_name)
@@ -136,8 +138,8 @@ key_opens ws n cs = record { by = opens }
     opens [] a = absurd a
     opens (t ∷ []) a = absurd a.1
     opens (t ∷ u ∷ []) a =
-      ap (λ z. run (inside ws n cs [] Spot.comma) (token t.place z ∷ u ∷ [])) a.0
-      ∙ ap (λ z. run (inside ws n cs [] Spot.comma) (token t.place (Symbol.word (codes "key")) ∷ token u.place z ∷ [])) a.1.0
+        ap (λ z. run (inside ws n cs [] Spot.comma) (token t.place z ∷ u ∷ [])) a.0
+        ∙ ap (λ z. run (inside ws n cs [] Spot.comma) (token t.place (Symbol.word (codes "key")) ∷ token u.place z ∷ [])) a.1.0
     opens (t ∷ u ∷ v ∷ ts) a = absurd a.1.1
 
 key_leads : (ws : List WrittenTable) (n : Name) (cs : List WrittenColumn) (ks : List Name)
@@ -146,17 +148,20 @@ key_leads ws n cs [] = leads_on _ (inside ws n cs [] Spot.closed) _ _ _ (λ plac
 key_leads ws n cs (k ∷ ks) =
     leads_on _ (inside ws n cs [] Spot.comma) _ _ _ (λ place. refl)
     (leads_append (inside ws n cs [] Spot.comma) (inside ws n cs [] Spot.key_name) (inside ws n cs (k ∷ ks) Spot.closed)
-      (word_slot (codes "key") ∷ mark_slot Mark.opening ∷ []) _ (key_opens ws n cs) words_lead)
+    (word_slot (codes "key") ∷ mark_slot Mark.opening ∷ []) _ (key_opens ws n cs) words_lead)
   where
     more : List Slot
     more = flat_map (λ part. mark_slot Mark.comma ∷ part) (map key_part_slots ks)
+
     closes : Leads (inside ws n cs (k ∷ ks) Spot.key_word) (mark_slot Mark.closing ∷ mark_slot Mark.closing ∷ []) (inside ws n cs (k ∷ ks) Spot.closed)
     closes = leads_on _ (inside ws n cs (k ∷ ks) Spot.key_end) _ _ _ (λ place. refl) (leads_on _ (inside ws n cs (k ∷ ks) Spot.closed) _ _ _ (λ place. refl) (leads_nothing _))
+
     rest_leads : Leads (inside ws n cs (k ∷ []) Spot.key_word) ((more ++ mark_slot Mark.closing ∷ []) ++ mark_slot Mark.closing ∷ []) (inside ws n cs (k ∷ ks) Spot.closed)
     rest_leads =
-      subst (λ z. Leads (inside ws n cs (k ∷ []) Spot.key_word) z (inside ws n cs (k ∷ ks) Spot.closed))
-      (sym (append_assoc more (mark_slot Mark.closing ∷ []) (mark_slot Mark.closing ∷ [])))
-      (leads_append _ (inside ws n cs (k ∷ ks) Spot.key_word) _ more _ (more_key_leads ws n cs (k ∷ []) ks) closes)
+        subst (λ z. Leads (inside ws n cs (k ∷ []) Spot.key_word) z (inside ws n cs (k ∷ ks) Spot.closed))
+        (sym (append_assoc more (mark_slot Mark.closing ∷ []) (mark_slot Mark.closing ∷ [])))
+        (leads_append _ (inside ws n cs (k ∷ ks) Spot.key_word) _ more _ (more_key_leads ws n cs (k ∷ []) ks) closes)
+
     words_lead : Leads (inside ws n cs [] Spot.key_name) (Slot.name k ∷ ((more ++ mark_slot Mark.closing ∷ []) ++ mark_slot Mark.closing ∷ [])) (inside ws n cs (k ∷ ks) Spot.closed)
     words_lead = leads_on _ (inside ws n cs (k ∷ []) Spot.key_word) _ _ _ refl rest_leads
 
@@ -176,27 +181,29 @@ table_leads ws t h =
     (leads_on _ (inside ws t.name [] [] Spot.named) _ _ _ refl
     (leads_on _ (inside ws t.name [] [] Spot.first) _ _ _ (λ place. refl)
     (subst (λ z. Leads (inside ws t.name [] [] Spot.first) z (state (ws ++ t ∷ []) blank Spot.between)) regroup
-      (leads_append _ (inside ws t.name t.columns t.key Spot.closed) _ (cs ++ (ks ++ mark_slot Mark.closing ∷ [])) (mark_slot Mark.semicolon ∷ [])
-        (body_leads ws t.name t.columns t.key h)
-        (leads_on _ (state (ws ++ t ∷ []) blank Spot.between) _ _ _ (λ place. refl) (leads_nothing _))))))
+    (leads_append _ (inside ws t.name t.columns t.key Spot.closed) _ (cs ++ (ks ++ mark_slot Mark.closing ∷ [])) (mark_slot Mark.semicolon ∷ [])
+    (body_leads ws t.name t.columns t.key h)
+    (leads_on _ (state (ws ++ t ∷ []) blank Spot.between) _ _ _ (λ place. refl) (leads_nothing _))))))
   where
     cs : List Slot
     cs = with_commas (map column_slots t.columns)
+
     ks : List Slot
     ks = key_slots t.key
+
     regroup : (cs ++ (ks ++ mark_slot Mark.closing ∷ [])) ++ mark_slot Mark.semicolon ∷ [] ≡ cs ++ (ks ++ mark_slot Mark.closing ∷ mark_slot Mark.semicolon ∷ [])
     regroup = append_assoc cs (ks ++ mark_slot Mark.closing ∷ []) (mark_slot Mark.semicolon ∷ [])
-      ∙ ap (λ z. cs ++ z) (append_assoc ks (mark_slot Mark.closing ∷ []) (mark_slot Mark.semicolon ∷ []))
+        ∙ ap (λ z. cs ++ z) (append_assoc ks (mark_slot Mark.closing ∷ []) (mark_slot Mark.semicolon ∷ []))
 
 tables_lead : (ws ts : List WrittenTable) → Each KeyNeedsColumn ts → Leads (state ws blank Spot.between) (flat_map table_slots ts) (state (ws ++ ts) blank Spot.between)
 tables_lead ws [] h = subst (λ z. Leads (state ws blank Spot.between) [] (state z blank Spot.between)) (sym (append-nil ws)) (leads_nothing _)
 tables_lead ws (t ∷ ts) h =
     leads_append _ (state (ws ++ t ∷ []) blank Spot.between) _ (table_slots t) _ (table_leads ws t h.0)
     (subst (λ z. Leads (state (ws ++ t ∷ []) blank Spot.between) (flat_map table_slots ts) (state z blank Spot.between)) (append_assoc ws (t ∷ []) ts)
-      (tables_lead (ws ++ t ∷ []) ts h.1))
+    (tables_lead (ws ++ t ∷ []) ts h.1))
 
 -- what is written is read
 pub reads_written : (tables : List WrittenTable) (ts : List Token) → IsWritten tables ts → run start ts ≡ Some (state tables blank Spot.done)
 reads_written tables ts w =
     (leads_append start (state tables blank Spot.between) (state tables blank Spot.done) (flat_map table_slots tables) (Slot.sign Symbol.end ∷ [])
-      (tables_lead [] tables w.keys) (leads_on _ (state tables blank Spot.done) _ _ _ (λ place. refl) (leads_nothing _))).by ts w.filled
+    (tables_lead [] tables w.keys) (leads_on _ (state tables blank Spot.done) _ _ _ (λ place. refl) (leads_nothing _))).by ts w.filled

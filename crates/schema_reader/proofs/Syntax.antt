@@ -28,8 +28,8 @@ reads_run us (t ∷ ts) st to r e = go (found (step st t)) (λ next s k. reads_r
     go : Found (step st t) → ((next : State) → run next ts ≡ Some to → Reads (us ++ t ∷ []) next → Reads ((us ++ t ∷ []) ++ ts) to) → Reads (us ++ t ∷ ts) to
     go (nothing' n) rec = let h = ap (option_and_then (λ next. run next ts)) n in absurd (cc)
     go (something' next s) rec =
-      subst (λ z. Reads z to) (append_assoc us (t ∷ []) ts)
-      (rec next (sym (ap (option_and_then (λ z. run z ts)) s) ∙ e) (reads_step us st t next r s))
+        subst (λ z. Reads z to) (append_assoc us (t ∷ []) ts)
+        (rec next (sym (ap (option_and_then (λ z. run z ts)) s) ∙ e) (reads_step us st t next r s))
 
 -- some tokens that complete a schema
 finish : Spot → List Token
@@ -77,10 +77,11 @@ pub done_written : (us : List Token) (st : State) → Reads us st → st.spot �
 done_written us st r e = at_done st.tables st.table st.spot e r.keys (r.filled [] [] tt)
   where
     at_done : (ts : List WrittenTable) (t : WrittenTable) (spot : Spot) → spot ≡ Spot.done → Each KeyNeedsColumn ts
-      → AllZip Fills (Fronts.shown (state ts t spot) []) (us ++ []) → IsWritten ts us
+        → AllZip Fills (Fronts.shown (state ts t spot) []) (us ++ []) → IsWritten ts us
     at_done ts t spot h k a = record {
-        keys = k;
-        filled = subst (λ z. AllZip Fills (schema_slots ts) z) (append-nil us) (subst (λ z. AllZip Fills (Fronts.shown (state ts t z) []) (us ++ [])) h a) }
+      keys = k;
+      filled = subst (λ z. AllZip Fills (schema_slots ts) z) (append-nil us) (subst (λ z. AllZip Fills (Fronts.shown (state ts t z) []) (us ++ [])) h a);
+    }
 
 pub reads_open : (us : List Token) (st : State) → Reads us st → IsOpen us
 reads_open us st r =
@@ -107,8 +108,8 @@ wrong_here st mid (u ∷ us) t rest e n = go (found (step st u)) (λ next. wrong
         → wrong_at st (u ∷ (us ++ t ∷ rest)) ≡ Some t.place
     go (nothing' h) rec = let k = ap (option_and_then (λ next. run next us)) h in absurd (cc)
     go (something' next s) rec =
-      ap (λ o. wrong_from u.place o (λ z. wrong_at z (us ++ t ∷ rest))) s
-      ∙ rec next (sym (ap (option_and_then (λ z. run z us)) s) ∙ e) n
+        ap (λ o. wrong_from u.place o (λ z. wrong_at z (us ++ t ∷ rest))) s
+        ∙ rec next (sym (ap (option_and_then (λ z. run z us)) s) ∙ e) n
 
 -- no schema begins with the tokens through one that the machine does not take
 not_open : (us : List Token) (st : State) (t : Token) → run start us ≡ Some st → step st t ≡ None → IsOpen (us ++ t ∷ []) → ⊥
@@ -126,11 +127,11 @@ wrong_within us (t ∷ ts) st p e r w = go (found (step st t)) (λ next. wrong_w
     go : Found (step st t) → ((next : State) → run start (us ++ t ∷ []) ≡ Some next → Reads (us ++ t ∷ []) next → wrong_at next ts ≡ Some p → HasWrongToken ((us ++ t ∷ []) ++ ts) p)
         → HasWrongToken (us ++ t ∷ ts) p
     go (nothing' n) rec =
-      let same : Some t.place ≡ Some p = sym (ap (λ o. wrong_from t.place o (λ next. wrong_at next ts)) n) ∙ w in
-      (us, t, ts, refl, cc, reads_open us st r, not_open us st t e n)
+        let same : Some t.place ≡ Some p = sym (ap (λ o. wrong_from t.place o (λ next. wrong_at next ts)) n) ∙ w in
+        (us, t, ts, refl, cc, reads_open us st r, not_open us st t e n)
     go (something' next s) rec =
-      subst (λ z. HasWrongToken z p) (append_assoc us (t ∷ []) ts)
-      (rec next (run-append start us (t ∷ []) ∙ ap (option_and_then (λ z. run z (t ∷ []))) e ∙ ap (option_and_then (λ z. run z [])) s)
+        subst (λ z. HasWrongToken z p) (append_assoc us (t ∷ []) ts)
+        (rec next (run-append start us (t ∷ []) ∙ ap (option_and_then (λ z. run z (t ∷ []))) e ∙ ap (option_and_then (λ z. run z [])) s)
         (reads_step us st t next r s)
         (sym (ap (λ o. wrong_from t.place o (λ z. wrong_at z ts)) s) ∙ w))
 
@@ -144,8 +145,8 @@ run_or_wrong st (t ∷ ts) w = go (found (step st t)) (λ next. run_or_wrong nex
     go : Found (step st t) → ((next : State) → wrong_at next ts ≡ None → (to : State) × (run next ts ≡ Some to)) → (to : State) × (run st (t ∷ ts) ≡ Some to)
     go (nothing' n) rec = let h = ap (λ o. wrong_from t.place o (λ next. wrong_at next ts)) n in absurd (cc)
     go (something' next s) rec =
-      let r = rec next (sym (ap (λ o. wrong_from t.place o (λ z. wrong_at z ts)) s) ∙ w) in
-      (r.0, ap (option_and_then (λ z. run z ts)) s ∙ r.1)
+        let r = rec next (sym (ap (λ o. wrong_from t.place o (λ z. wrong_at z ts)) s) ∙ w) in
+        (r.0, ap (option_and_then (λ z. run z ts)) s ∙ r.1)
 
 -- tokens with which some schema begins are read
 open_run : (us : List Token) → IsOpen us → (st : State) × (run start us ≡ Some st)
@@ -154,9 +155,9 @@ open_run us o = go (found (run start us))
     go : Found (run start us) → (st : State) × (run start us ≡ Some st)
     go (something' st e) = (st, e)
     go (nothing' n) =
-      let whole = reads_written o.0 (us ++ o.1) o.3 in
-      let a : run start (us ++ o.1) ≡ None = run-append start us o.1 ∙ ap (option_and_then (λ next. run next o.1)) n in
-      absurd (cc)
+        let whole = reads_written o.0 (us ++ o.1) o.3 in
+        let a : run start (us ++ o.1) ≡ None = run-append start us o.1 ∙ ap (option_and_then (λ next. run next o.1)) n in
+        absurd (cc)
 
 -- a wrong token is the one at which the machine stops
 pub wrong_is : (ts : List Token) (p : ℕ) → HasWrongToken ts p → wrong_at start ts ≡ Some p
@@ -170,7 +171,7 @@ wrong_is ts p h =
         → (st : State) → run start before ≡ Some st → Found (step st t) → wrong_at start ts ≡ Some p
     go before t after e q n st r (nothing' s) = ap (wrong_at start) e ∙ wrong_here start st before t after r s ∙ ap Some q
     go before t after e q n st r (something' next s) =
-      absurd (n (reads_open (before ++ t ∷ []) next
+        absurd (n (reads_open (before ++ t ∷ []) next
         (reads_step before st t next (reads_run [] before start st reads_start r) s)))
 
 -- the tokens of a text
@@ -192,11 +193,12 @@ wrong_among st (t ∷ ts) low high p a w = go (found (step st t)) (λ next. wron
     bounded : (us : List Token) (l : ℕ) → Ascend l us high → l ≤ high
     bounded [] l b = b
     bounded (u ∷ us) l b = let h = bounded us (suc u.place) b.1 in let g = b.0 in omega arith
+
     go : Found (step st t) → ((next : State) → wrong_at next ts ≡ Some p → p < high) → p < high
     go (nothing' n) rec =
-      let same : Some t.place ≡ Some p = sym (ap (λ o. wrong_from t.place o (λ next. wrong_at next ts)) n) ∙ w in
-      let here : t.place ≡ p = cc in
-      let h = bounded ts (suc t.place) a.1 in omega arith
+        let same : Some t.place ≡ Some p = sym (ap (λ o. wrong_from t.place o (λ next. wrong_at next ts)) n) ∙ w in
+        let here : t.place ≡ p = cc in
+        let h = bounded ts (suc t.place) a.1 in omega arith
     go (something' next s) rec = rec next (sym (ap (λ o. wrong_from t.place o (λ z. wrong_at z ts)) s) ∙ w)
 
 pub cut_far : (text : List ℕ) (ps : List Piece) (m : ℕ) (r : List ℕ) → IsCut text ps m r → m ≡ far 0 ps
@@ -211,19 +213,20 @@ wrong_place text ps m r p c w = (inr (cut_tokens ps m r, (ps, m, r, c, refl), wr
   where
     before_stray : (b : ℕ) (bs : List ℕ) → r ≡ b ∷ bs → p < m
     before_stray b bs e =
-      wrong_among start (tokens_from 0 ps) 0 m p
-      (subst (λ z. Ascend 0 (tokens_from 0 ps) z) (sym (cut_far text ps m r c)) (tokens_ascend 0 ps r c.fit))
-      (sym (ap (wrong_at start) (ap (λ z. tokens_from 0 ps ++ end_token m z) e ∙ append-nil (tokens_from 0 ps))) ∙ w)
+        wrong_among start (tokens_from 0 ps) 0 m p
+        (subst (λ z. Ascend 0 (tokens_from 0 ps) z) (sym (cut_far text ps m r c)) (tokens_ascend 0 ps r c.fit))
+        (sym (ap (wrong_at start) (ap (λ z. tokens_from 0 ps ++ end_token m z) e ∙ append-nil (tokens_from 0 ps))) ∙ w)
+
     least : (other : ℕ) → FaultySyntaxAt text other → p ≤ other
     least other (inl h) =
-      let s = same_cut text ps h.0 m other r (h.1 ∷ h.2) c h.3 in
-      let l = before_stray h.1 h.2 s.rest in
-      let e = s.place in
-      omega arith
+        let s = same_cut text ps h.0 m other r (h.1 ∷ h.2) c h.3 in
+        let l = before_stray h.1 h.2 s.rest in
+        let e = s.place in
+        omega arith
     least other (inr h) =
-      let t = one_tokens text (cut_tokens ps m r) h.0 (ps, m, r, c, refl) h.1 in
-      let k : Some p ≡ Some other = sym w ∙ ap (wrong_at start) t ∙ wrong_is h.0 other h.2 in
-      let same : p ≡ other = cc in omega arith
+        let t = one_tokens text (cut_tokens ps m r) h.0 (ps, m, r, c, refl) h.1 in
+        let k : Some p ≡ Some other = sym w ∙ ap (wrong_at start) t ∙ wrong_is h.0 other h.2 in
+        let same : p ≡ other = cc in omega arith
 
 pub stray_place : (text : List ℕ) (ps : List Piece) (m b : ℕ) (bs : List ℕ) → IsCut text ps m (b ∷ bs) → wrong_at start (tokens_from 0 ps) ≡ None → IsSyntaxPlace text m
 stray_place text ps m b bs c w = (inl (ps, b, bs, c), least)
@@ -231,9 +234,9 @@ stray_place text ps m b bs c w = (inl (ps, b, bs, c), least)
     least : (other : ℕ) → FaultySyntaxAt text other → m ≤ other
     least other (inl h) = let e = (same_cut text ps h.0 m other (b ∷ bs) (h.1 ∷ h.2) c h.3).place in omega arith
     least other (inr h) =
-      let t = one_tokens text (cut_tokens ps m (b ∷ bs)) h.0 (ps, m, b ∷ bs, c, refl) h.1 in
-      let k : None ≡ Some other = sym w ∙ ap (wrong_at start) (sym (append-nil (tokens_from 0 ps)) ∙ t) ∙ wrong_is h.0 other h.2 in
-      absurd (cc)
+        let t = one_tokens text (cut_tokens ps m (b ∷ bs)) h.0 (ps, m, b ∷ bs, c, refl) h.1 in
+        let k : None ≡ Some other = sym w ∙ ap (wrong_at start) (sym (append-nil (tokens_from 0 ps)) ∙ t) ∙ wrong_is h.0 other h.2 in
+        absurd (cc)
 
 -- the end leads to the last state alone
 end_done : (ts : List WrittenTable) (t : WrittenTable) (spot : Spot) (m : ℕ) (to : State) → step (state ts t spot) (token m Symbol.end) ≡ Some to → to.spot ≡ Spot.done
@@ -246,20 +249,23 @@ end_spot st to us m e = go (found (run st us))
     last : (mid : State) → Found (step mid (token m Symbol.end)) → run mid (token m Symbol.end ∷ []) ≡ Some to → to.spot ≡ Spot.done
     last mid (nothing' n) h = let k = ap (option_and_then (λ next. run next [])) n in absurd (cc)
     last mid (something' next s) h =
-      let k : next ≡ to = cc in
-      end_done mid.tables mid.table mid.spot m to (s ∙ ap Some k)
+        let k : next ≡ to = cc in
+        end_done mid.tables mid.table mid.spot m to (s ∙ ap Some k)
+
     go : Found (run st us) → to.spot ≡ Spot.done
     go (nothing' n) =
-      let h = run-append st us (token m Symbol.end ∷ []) ∙ ap (option_and_then (λ next. run next (token m Symbol.end ∷ []))) n in
-      absurd (cc)
+        let h = run-append st us (token m Symbol.end ∷ []) ∙ ap (option_and_then (λ next. run next (token m Symbol.end ∷ []))) n in
+        absurd (cc)
     go (something' mid s) =
-      let h : run mid (token m Symbol.end ∷ []) ≡ Some to = sym (run-append st us (token m Symbol.end ∷ []) ∙ ap (option_and_then (λ next. run next (token m Symbol.end ∷ []))) s) ∙ e in
-      last mid (found (step mid (token m Symbol.end))) h
+        let h : run mid (token m Symbol.end ∷ []) ≡ Some to = sym (run-append st us (token m Symbol.end ∷ []) ∙ ap (option_and_then (λ next. run next (token m Symbol.end ∷ []))) s) ∙ e in
+        last mid (found (step mid (token m Symbol.end))) h
 
 pub written_tables : (text : List ℕ) (ps : List Piece) (m : ℕ) (st : State) → IsCut text ps m [] → run start (cut_tokens ps m []) ≡ Some st → WritesTables text st.tables
-written_tables text ps m st c e =
-    (cut_tokens ps m [], (ps, m, [], c, refl),
-      done_written (cut_tokens ps m []) st (reads_run [] (cut_tokens ps m []) start st reads_start e) (end_spot start st (tokens_from 0 ps) m e))
+written_tables text ps m st c e = (
+  cut_tokens ps m [],
+  (ps, m, [], c, refl),
+  done_written (cut_tokens ps m []) st (reads_run [] (cut_tokens ps m []) start st reads_start e) (end_spot start st (tokens_from 0 ps) m e),
+)
 
 -- what the tokens of a text are: wrong at a place, or written tables
 pub data Judged (text : List ℕ) : Type 0 where
@@ -272,16 +278,17 @@ judged text = go (cut_rest 0 text)
     at_cut : (ps : List Piece) (m : ℕ) (r : List ℕ) → IsCut text ps m r → Found (wrong_at start (cut_tokens ps m r)) → Judged text
     at_cut ps m r c (something' p w) = faulty p (wrong_place text ps m r p c w)
     at_cut ps m [] c (nothing' w) =
-      let r = run_or_wrong start (cut_tokens ps m []) w in
-      written r.0.tables (written_tables text ps m r.0 c r.1)
+        let r = run_or_wrong start (cut_tokens ps m []) w in
+        written r.0.tables (written_tables text ps m r.0 c r.1)
     at_cut ps m (b ∷ bs) c (nothing' w) = faulty m (stray_place text ps m b bs c (ap (wrong_at start) (sym (append-nil (tokens_from 0 ps))) ∙ w))
+
     go : Rest 0 text → Judged text
     go r =
-      let l = far_length 0 r.pieces r.rest in
-      let w = ap length r.whole in
-      at_cut r.pieces (far 0 r.pieces) r.rest
-      (record { whole = r.whole; fit = r.fit; reached = omega (arith, l, w); stuck = r.stuck })
-      (found (wrong_at start (cut_tokens r.pieces (far 0 r.pieces) r.rest)))
+        let l = far_length 0 r.pieces r.rest in
+        let w = ap length r.whole in
+        at_cut r.pieces (far 0 r.pieces) r.rest
+        (record { whole = r.whole; fit = r.fit; reached = omega (arith, l, w); stuck = r.stuck })
+        (found (wrong_at start (cut_tokens r.pieces (far 0 r.pieces) r.rest)))
 
 pub one_place : (text : List ℕ) (p q : ℕ) → IsSyntaxPlace text p → IsSyntaxPlace text q → p ≡ q
 one_place text p q a b = let h = a.1 q b.0 in let g = b.1 p a.0 in omega arith

@@ -23,14 +23,16 @@ pub record Ordered (tokens : List Token) : Type 0 where
 
 text_ordered : (text : List ℕ) (tokens : List Token) → HasTokens text tokens → Ordered tokens
 text_ordered text tokens h = subst Ordered (sym h.4) (record {
-    high = suc h.1;
-    rises = Ascend-append 0 h.1 (suc h.1) (tokens_from 0 h.0) (end_token h.1 h.2)
+  high = suc h.1;
+  rises = Ascend-append 0 h.1 (suc h.1) (tokens_from 0 h.0) (end_token h.1 h.2)
       (subst (λ z. Ascend 0 (tokens_from 0 h.0) z) (sym (cut_far text h.0 h.1 h.2 h.3)) (tokens_ascend 0 h.0 h.2 h.3.fit)) (end_rises h.2);
-    symbols = Each-append (λ t. IsSymbol t.symbol) (tokens_from 0 h.0) (end_token h.1 h.2) (tokens_symbols 0 h.0 h.2 h.3.fit) (end_symbol h.2) })
+  symbols = Each-append (λ t. IsSymbol t.symbol) (tokens_from 0 h.0) (end_token h.1 h.2) (tokens_symbols 0 h.0 h.2 h.3.fit) (end_symbol h.2);
+})
   where
     end_rises : (rest : List ℕ) → Ascend h.1 (end_token h.1 rest) (suc h.1)
     end_rises [] = (omega arith, omega arith)
     end_rises (b ∷ bs) = omega arith
+
     end_symbol : (rest : List ℕ) → AreSymbols (end_token h.1 rest)
     end_symbol [] = (tt, tt)
     end_symbol (b ∷ bs) = tt
@@ -83,7 +85,7 @@ data FaultKind (text : List ℕ) (f : Fault) (p : ℕ) : Type 0 where
   of_utf8 : f ≡ Fault.not_utf8 → IsValidUpTo text p → FaultKind text f p
   of_syntax : f ≡ Fault.syntax → IsUtf8 text → IsSyntaxPlace text p → FaultKind text f p
   of_condition : IsUtf8 text → (tables : List WrittenTable) → WritesTables text tables → FaultAt tables f p
-    → ((g : Fault) (q : ℕ) → FaultAt tables g q → NotLater f p g q) → FaultKind text f p
+      → ((g : Fault) (q : ℕ) → FaultAt tables g q → NotLater f p g q) → FaultKind text f p
 
 fault_kind : (text : List ℕ) (f : Fault) (p : ℕ) → HasFault text f p → FaultKind text f p
 fault_kind text Fault.not_utf8 p h = of_utf8 refl h
@@ -145,8 +147,8 @@ one_fault text f g p q h k = go (fault_kind text f p h) (fault_kind text g q k)
     go (of_condition u tables w a b) (of_utf8 d v) = absurd (valid_not_utf8 text q u v)
     go (of_condition u tables w a b) (of_syntax d v s) = absurd (no_syntax_fault text tables q w s.0)
     go (of_condition u tables w a b) (of_condition v others x c d) =
-      let same = one_tables text tables others w x in
-      one_first f g p q (b g q (subst (λ z. FaultAt z g q) (sym same) c)) (d f p (subst (λ z. FaultAt z f p) same a))
+        let same = one_tables text tables others w x in
+        one_first f g p q (b g q (subst (λ z. FaultAt z g q) (sym same) c)) (d f p (subst (λ z. FaultAt z f p) same a))
 
 -- it spells one schema at most
 pub one_schema : (text : List ℕ) (schema other : Schema) → Spells text schema → Spells text other → schema ≡ other
@@ -176,8 +178,8 @@ valid_below text (suc n) l above none = go (truth (is_utf8 (take (suc n) text)))
     go : Truth (is_utf8 (take (suc n) text)) → (n ≤ length text → ((m : ℕ) → n < m → IsUtf8 (take m text) → ⊥) → (IsUtf8 text → ⊥) → (p : ℕ) × IsValidUpTo text p)
         → (p : ℕ) × IsValidUpTo text p
     go (yes' t) rec =
-      let front = IsUtf8-from_is_utf8 (take (suc n) text) t in
-      (suc n, record { short = shorter (truth (nat_lt (suc n) (length text))) front; front = front; longest = above })
+        let front = IsUtf8-from_is_utf8 (take (suc n) text) t in
+        (suc n, record { short = shorter (truth (nat_lt (suc n) (length text))) front; front = front; longest = above })
       where
         shorter : Truth (nat_lt (suc n) (length text)) → IsUtf8 (take (suc n) text) → suc n < length text
         shorter (yes' s) f = (Decides-ltb (suc n) (length text)).0 s
@@ -187,9 +189,10 @@ valid_below text (suc n) l above none = go (truth (is_utf8 (take (suc n) text)))
         at : (m : ℕ) → n < m → IsUtf8 (take m text) → Truth (nat_lt (suc n) m) → ⊥
         at m h u (yes' s) = above m ((Decides-ltb (suc n) m).0 s) u
         at m h u (no' s) =
-          let k = not_below (suc n) m s in
-          let same : m ≡ suc n = omega arith in
-          true≢false (sym (is_utf8-from_IsUtf8 (take (suc n) text) (subst (λ z. IsUtf8 (take z text)) same u)) ∙ t)
+            let k = not_below (suc n) m s in
+            let same : m ≡ suc n = omega arith in
+            true≢false (sym (is_utf8-from_IsUtf8 (take (suc n) text) (subst (λ z. IsUtf8 (take z text)) same u)) ∙ t)
+
         more : (m : ℕ) → n < m → IsUtf8 (take m text) → ⊥
         more m h u = at m h u (truth (nat_lt (suc n) m))
 
@@ -199,20 +202,22 @@ utf8_or_fault text = go (truth (is_utf8 text))
     go : Truth (is_utf8 text) → IsUtf8 text ⊎ ((p : ℕ) × IsValidUpTo text p)
     go (yes' t) = inl (IsUtf8-from_is_utf8 text t)
     go (no' t) =
-      let none : IsUtf8 text → ⊥ = λ u. true≢false (sym (is_utf8-from_IsUtf8 text u) ∙ t) in
-      inr (valid_below text (length text) (omega arith) (λ m h u. none (subst IsUtf8 (take_all m text (omega arith)) u)) none)
+        let none : IsUtf8 text → ⊥ = λ u. true≢false (sym (is_utf8-from_IsUtf8 text u) ∙ t) in
+        inr (valid_below text (length text) (omega arith) (λ m h u. none (subst IsUtf8 (take_all m text (omega arith)) u)) none)
 
 -- it does one of both
 pub one_holds : (text : List ℕ) → ((schema : Schema) × Spells text schema) ⊎ ((f : Fault) × (p : ℕ) × HasFault text f p)
 one_holds text = go (utf8_or_fault text)
   where
     at_tables : IsUtf8 text → (tables : List WrittenTable) → WritesTables text tables → Found (tables_fault [] tables)
-      → ((schema : Schema) × Spells text schema) ⊎ ((f : Fault) × (p : ℕ) × HasFault text f p)
+        → ((schema : Schema) × Spells text schema) ⊎ ((f : Fault) × (p : ℕ) × HasFault text f p)
     at_tables u tables w (nothing' e) = inl (schema_of tables, spells text tables u w e)
     at_tables u tables w (something' x e) = inr (x.0, x.1, has_fault text tables x.0 x.1 u w e)
+
     at_tokens : IsUtf8 text → Judged text → ((schema : Schema) × Spells text schema) ⊎ ((f : Fault) × (p : ℕ) × HasFault text f p)
     at_tokens u (faulty p s) = inr (Fault.syntax, p, (u, s))
     at_tokens u (written tables w) = at_tables u tables w (found (tables_fault [] tables))
+
     go : IsUtf8 text ⊎ ((p : ℕ) × IsValidUpTo text p) → ((schema : Schema) × Spells text schema) ⊎ ((f : Fault) × (p : ℕ) × HasFault text f p)
     go (inl u) = at_tokens u (judged text)
     go (inr v) = inr (Fault.not_utf8, v.0, v.1)

@@ -22,10 +22,10 @@ symbol_view (symbols.Mark m) = Symbol.mark (mark_view m)
 -- the mark that a byte is
 abbrev pub mark_of : ℕ → Option Mark
 mark_of b = if b == 40 then Some Mark.opening
-  else (if b == 41 then Some Mark.closing
-  else (if b == 44 then Some Mark.comma
-  else (if b == 58 then Some Mark.colon
-  else (if b == 59 then Some Mark.semicolon else None))))
+    else (if b == 41 then Some Mark.closing
+    else (if b == 44 then Some Mark.comma
+    else (if b == 58 then Some Mark.colon
+    else (if b == 59 then Some Mark.semicolon else None))))
 
 abbrev pub BeginsWord : List ℕ → Type 0
 BeginsWord [] = ⊥

@@ -9,20 +9,20 @@ use Rattle.nq_model.specs.declared.table.ColumnType.TheVariants as column
 
 -- where the next token stands
 pub data Spot : Type 0 where
-  between : Spot                -- before a table or the end
-  titled : Spot                 -- behind `table`
-  named : Spot                  -- behind the name of a table
-  first : Spot                  -- behind its `(`
-  first_name : Name → Spot      -- behind the name of the first column
-  later_name : Name → Spot      -- behind the name of a later column, or `key`
-  typed : Name → Spot           -- behind the `:` of a column
-  column_end : Spot             -- behind a column
-  comma : Spot                  -- behind the `,` after a column
-  key_name : Spot               -- before a word of the key
-  key_word : Spot               -- behind a word of the key
-  key_end : Spot                -- behind the `)` of the key
-  closed : Spot                 -- behind the `)` of the table
-  done : Spot                   -- behind the end
+  between : Spot  -- before a table or the end
+  titled : Spot  -- behind `table`
+  named : Spot  -- behind the name of a table
+  first : Spot  -- behind its `(`
+  first_name : Name → Spot  -- behind the name of the first column
+  later_name : Name → Spot  -- behind the name of a later column, or `key`
+  typed : Name → Spot  -- behind the `:` of a column
+  column_end : Spot  -- behind a column
+  comma : Spot  -- behind the `,` after a column
+  key_name : Spot  -- before a word of the key
+  key_word : Spot  -- behind a word of the key
+  key_end : Spot  -- behind the `)` of the key
+  closed : Spot  -- behind the `)` of the table
+  done : Spot  -- behind the end
 
 -- what a token adds to what was read
 pub data Addition : Type 0 where
@@ -34,8 +34,8 @@ pub data Addition : Type 0 where
 
 abbrev pub type_of : List ℕ → Option ColumnType
 type_of w = if bytes_eq w (codes "int") then Some column.Int
-  else (if bytes_eq w (codes "bool") then Some column.Bool
-  else (if bytes_eq w (codes "text") then Some column.Text else None))
+    else (if bytes_eq w (codes "bool") then Some column.Bool
+    else (if bytes_eq w (codes "text") then Some column.Text else None))
 
 abbrev pub after_word : Spot → Name → Option (Spot × Addition)
 after_word Spot.between n = if bytes_eq n.text (codes "table") then Some (Spot.titled, Addition.nothing) else None

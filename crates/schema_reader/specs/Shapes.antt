@@ -16,13 +16,13 @@ is_over names w = length names == 64 || nat_lt 64 (length w)
 -- the first fault of a table's name, behind tables of these names
 abbrev pub table_fault : List (List ℕ) → WrittenTable → Option Fault
 table_fault names t = if has names t.name.text then Some Fault.twice_table
-  else (if length t.columns == 0 then Some Fault.no_column
-  else (if is_over names t.name.text then Some Fault.over_limit else None))
+    else (if length t.columns == 0 then Some Fault.no_column
+    else (if is_over names t.name.text then Some Fault.over_limit else None))
 
 -- the first fault of a column's name, behind columns of these names
 abbrev pub column_fault : List (List ℕ) → WrittenColumn → Option Fault
 column_fault names c = if has names c.name.text then Some Fault.twice_column
-  else (if is_over names c.name.text then Some Fault.over_limit else None)
+    else (if is_over names c.name.text then Some Fault.over_limit else None)
 
 -- the fault of a key's word, in a table of these columns and behind these words
 abbrev pub key_fault : List (List ℕ) → List (List ℕ) → Name → Option Fault
@@ -35,7 +35,7 @@ placed place fault = option_map (λ f. (f, place)) fault
 abbrev pub first_fault : {A : Type 0} → (A → Name) → (List (List ℕ) → A → Option Fault) → List (List ℕ) → List A → Option (Fault × ℕ)
 first_fault name fault names [] = None
 first_fault name fault names (x ∷ xs) =
-  option_or (placed (name x).place (fault names x)) (first_fault name fault (names ++ (name x).text ∷ []) xs)
+    option_or (placed (name x).place (fault names x)) (first_fault name fault (names ++ (name x).text ∷ []) xs)
 
 abbrev pub columns_fault : List (List ℕ) → List WrittenColumn → Option (Fault × ℕ)
 columns_fault = first_fault (λ c. c.name) column_fault
@@ -46,8 +46,8 @@ keys_fault columns = first_fault (λ n. n) (key_fault columns)
 -- the first fault of a table, behind tables of these names
 abbrev pub shape_fault : List (List ℕ) → WrittenTable → Option (Fault × ℕ)
 shape_fault names t =
-  option_or (placed t.name.place (table_fault names t))
-  (option_or (columns_fault [] t.columns) (keys_fault (column_names t.columns) [] t.key))
+    option_or (placed t.name.place (table_fault names t))
+    (option_or (columns_fault [] t.columns) (keys_fault (column_names t.columns) [] t.key))
 
 abbrev pub tables_fault : List (List ℕ) → List WrittenTable → Option (Fault × ℕ)
 tables_fault names [] = None

@@ -87,7 +87,10 @@ fn after_word<'a>(spot: Spot<'a>, name: Name<'a>) -> Option<(Spot<'a>, Addition<
         Spot::Comma => Some((Spot::LaterName(name), Addition::Nothing)),
         Spot::Typed(column) => {
             let kind = type_of(name.text)?;
-            Some((Spot::ColumnEnd, Addition::Column(WrittenColumn { name: column, kind })))
+            Some((
+                Spot::ColumnEnd,
+                Addition::Column(WrittenColumn { name: column, kind }),
+            ))
         }
         Spot::KeyName => Some((Spot::KeyWord, Addition::KeyPart(name))),
         _ => None,

@@ -16,7 +16,9 @@ fn read(alloc: Global, text: &[u8]) -> Result<Schema, SchemaFault>
     ensures { Reads result text.now }
 {
     if let Err(error) = str::from_utf8(text) {
-        return Err(SchemaFault::NotUtf8 { place: error.valid_up_to() as u64 });
+        return Err(SchemaFault::NotUtf8 {
+            place: error.valid_up_to() as u64,
+        });
     }
     let tables = read_tables(alloc, text)?;
     schema_of(alloc, tables.as_slice())

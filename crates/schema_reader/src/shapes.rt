@@ -90,7 +90,10 @@ fn judge_key(columns: &[(Label, ColumnType)], key: &[Label], name: &Name) -> Res
     Err(SchemaFault::KeyColumn { place: name.place })
 }
 
-fn columns_of(alloc: Global, written: &[WrittenColumn]) -> Result<List<(Label, ColumnType)>, SchemaFault>
+fn columns_of(
+    alloc: Global,
+    written: &[WrittenColumn],
+) -> Result<List<(Label, ColumnType)>, SchemaFault>
     ensures { Answers result (columns_fault [] (map column_view written.now)) (map pair_of (map column_view written.now)) }
 {
     let mut columns = List::new(alloc);
@@ -101,7 +104,11 @@ fn columns_of(alloc: Global, written: &[WrittenColumn]) -> Result<List<(Label, C
     Ok(columns)
 }
 
-fn key_of(alloc: Global, columns: &[(Label, ColumnType)], written: &[Name]) -> Result<List<Label>, SchemaFault>
+fn key_of(
+    alloc: Global,
+    columns: &[(Label, ColumnType)],
+    written: &[Name],
+) -> Result<List<Label>, SchemaFault>
     ensures { Answers result (keys_fault (names_of columns.now) [] (map name_view written.now)) (map (λ n. n.text) (map name_view written.now)) }
 {
     let mut key = List::new(alloc);
@@ -113,7 +120,11 @@ fn key_of(alloc: Global, columns: &[(Label, ColumnType)], written: &[Name]) -> R
 }
 
 // A table, behind the tables before it.
-fn shape(alloc: Global, tables: &[TableShape], table: &WrittenTable) -> Result<TableShape, SchemaFault>
+fn shape(
+    alloc: Global,
+    tables: &[TableShape],
+    table: &WrittenTable,
+) -> Result<TableShape, SchemaFault>
     ensures { Answers result (shape_fault (map (λ t. t.name) tables.now) (table_view table.now)) (shape_of (table_view table.now)) }
 {
     judge_table(tables, table)?;

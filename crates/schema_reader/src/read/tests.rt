@@ -44,7 +44,10 @@ const CASES: [(&str, &str); 44] = [
     ("# a comment to the end", ""),
     // `table t (` has 9 bytes, and `a: int, ` 8.
     ("table t (a: int);", "t a:Int;"),
-    ("table t(a:int,b:bool,c:text);table u(a:int);", "t a:Int b:Bool c:Text;u a:Int;"),
+    (
+        "table t(a:int,b:bool,c:text);table u(a:int);",
+        "t a:Int b:Bool c:Text;u a:Int;",
+    ),
     ("table t (a: int, a: text);", "TwiceColumn { place: 17 }"),
     ("table t ();", "NoColumn { place: 6 }"),
     ("table t (a: int)", "Syntax { place: 16 }"),
@@ -53,22 +56,37 @@ const CASES: [(&str, &str); 44] = [
     ("table t (a int);", "Syntax { place: 11 }"),
     ("tables t (a: int);", "Syntax { place: 0 }"),
     ("Table t (a: int);", "Syntax { place: 0 }"),
-    ("table table (table: int, int: bool);", "table table:Int int:Bool;"),
+    (
+        "table table (table: int, int: bool);",
+        "table table:Int int:Bool;",
+    ),
     // `table t (a: int);` has 17 bytes, so the second name stands at 18 + 6.
-    ("table t (a: int); table t (b: int);", "TwiceTable { place: 24 }"),
+    (
+        "table t (a: int); table t (b: int);",
+        "TwiceTable { place: 24 }",
+    ),
     ("table t (a: int); table t ();", "TwiceTable { place: 24 }"),
     ("table t (a: int); table u (a: int);", "t a:Int;u a:Int;"),
     // A key: `key` stands at 17, `(` at 21, its first word at 22.
     ("table t (a: int, key (b));", "KeyColumn { place: 22 }"),
     ("table t (a: int, key (a, a));", "KeyColumn { place: 25 }"),
-    ("table t (a: int); table u (b: int, key (a));", "KeyColumn { place: 40 }"),
-    ("table t (a: int, b: bool, key (b, a));", "t a:Int b:Bool +b +a;"),
+    (
+        "table t (a: int); table u (b: int, key (a));",
+        "KeyColumn { place: 40 }",
+    ),
+    (
+        "table t (a: int, b: bool, key (b, a));",
+        "t a:Int b:Bool +b +a;",
+    ),
     ("table t (a: int, key ());", "Syntax { place: 22 }"),
     ("table t (a: int, key (a), b: int);", "Syntax { place: 24 }"),
     ("table t (a: int, key (a) key (a));", "Syntax { place: 25 }"),
     // `key` is a name before `:`, and behind no column it begins no key.
     ("table t (key: int);", "t key:Int;"),
-    ("table t (a: int, key: text, key (key));", "t a:Int key:Text +key;"),
+    (
+        "table t (a: int, key: text, key (key));",
+        "t a:Int key:Text +key;",
+    ),
     ("table t (key (a));", "Syntax { place: 13 }"),
     ("table t (a: int, word (a));", "Syntax { place: 22 }"),
     // A comment ends at a line feed alone.
@@ -88,7 +106,10 @@ const CASES: [(&str, &str); 44] = [
     ("table 1t (a: int);", "Syntax { place: 6 }"),
     ("table t (a: int) @", "Syntax { place: 17 }"),
     // Of two faults the earlier, and `Syntax` before the others.
-    ("table t (a: int, a: int, key (c)); table t ();", "TwiceColumn { place: 17 }"),
+    (
+        "table t (a: int, a: int, key (c)); table t ();",
+        "TwiceColumn { place: 17 }",
+    ),
     ("table t (); table t (a: int);", "NoColumn { place: 6 }"),
     ("table t (a: int, a: int)", "Syntax { place: 24 }"),
 ];

@@ -17,14 +17,15 @@ returns-in_err-key c =
     let h = rw (c.as_slice-2.ensures, made, c.as_slice-3.ensures) at c.in_err-key.ensures in
     rw (p.1, p.2)
     (tells_same c.in_err-key.field-0.0 (keys_fault (column_names (map column_view t.columns)) [] (map name_view t.key)) _ h
-      (shape_left (map (λ s. s.name) c.args.tables.now) (table_view t) c.in_ok-judge_table.ensures right))
+    (shape_left (map (λ s. s.name) c.args.tables.now) (table_view t) c.in_ok-judge_table.ensures right))
 
 pub returns : goal.returns
 returns c =
     let t = c.args.table.now in
     let made = made_names c.in_ok-columns.columns c.as_slice.result.now t.columns c.in_ok-columns.ensures.1 c.as_slice.ensures in
     let right : columns_fault [] (map column_view t.columns) ≡ None = rw c.as_slice.ensures at c.in_ok-columns.ensures.0 in
-    let h = rw (c.as_slice-2.ensures, made, c.as_slice-3.ensures) at c.in_ok-key.ensures.0 in
-    (shape_left (map (λ s. s.name) c.args.tables.now) (table_view t) c.in_ok-judge_table.ensures right ∙ h,
+    let h = rw (c.as_slice-2.ensures, made, c.as_slice-3.ensures) at c.in_ok-key.ensures.0 in (
+      shape_left (map (λ s. s.name) c.args.tables.now) (table_view t) c.in_ok-judge_table.ensures right ∙ h,
       shape_made (table_view t) c.in_ok-name.name c.in_ok-columns.columns c.in_ok-key.key c.in_ok-name.ensures
-        (rw c.as_slice.ensures at c.in_ok-columns.ensures.1) (rw c.as_slice-3.ensures at c.in_ok-key.ensures.1))
+          (rw c.as_slice.ensures at c.in_ok-columns.ensures.1) (rw c.as_slice-3.ensures at c.in_ok-key.ensures.1),
+    )

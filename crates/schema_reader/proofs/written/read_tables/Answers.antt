@@ -23,7 +23,8 @@ loop-reader-preserved-in-Gap c =
     let b = front_bounds c.args.text.now c.loop-reader.at c.in-Gap.len (reader_view c.loop-reader.reader) c.loop-reader.invariant.read _ h c.loop-reader.invariant.within in
     record {
       within = b.1;
-      read = read_gap c.args.text.now c.loop-reader.at c.in-Gap.len (reader_view c.loop-reader.reader) c.loop-reader.invariant.read h }
+      read = read_gap c.args.text.now c.loop-reader.at c.in-Gap.len (reader_view c.loop-reader.reader) c.loop-reader.invariant.read h;
+    }
 
 pub returns-in_err-take-in-Token : goal.returns-in_err-take-in-Token
 returns-in_err-take-in-Token c =
@@ -31,7 +32,7 @@ returns-in_err-take-in-Token c =
     let h = rw take_rest at c.in-Token.ensures in
     rw (p.1, p.2)
     (steps_wrong c.in_err-take-in-Token.field-0.0 c.args.text.now c.loop-reader.at c.in-Token.len (reader_view c.loop-reader.reader) (reader_view c.take.new.self)
-      (token c.loop-reader.at (symbol_view c.in-Token.symbol)) c.loop-reader.invariant.read h c.in_err-take-in-Token.ensures)
+    (token c.loop-reader.at (symbol_view c.in-Token.symbol)) c.loop-reader.invariant.read h c.in_err-take-in-Token.ensures)
 
 pub loop-reader-preserved : goal.loop-reader-preserved
 loop-reader-preserved c =
@@ -40,4 +41,5 @@ loop-reader-preserved c =
     record {
       within = b.1;
       read = read_token c.args.text.now c.loop-reader.at c.in-Token.len (reader_view c.loop-reader.reader) c.loop-reader.invariant.read
-        (token c.loop-reader.at (symbol_view c.in-Token.symbol)) (reader_view c.take.new.self) h c.in_ok-take-in-Token.ensures }
+          (token c.loop-reader.at (symbol_view c.in-Token.symbol)) (reader_view c.take.new.self) h c.in_ok-take-in-Token.ensures;
+    }
