@@ -2,6 +2,7 @@
 use Rattle.std.specs.Prelude.{◌≡◌, ◌≢◌, ℕ, ◌+◌, Bool, true, false, not, ◌||◌, ◌&&◌, ◌==◌, nat_le, ⊤, List, [], ◌∷◌, ◌++◌, length}
 use Rattle.std.specs.List.{AllByRecursion as Each}
 
+-- the tokens that are no words
 pub data Mark : Type 0 where
   opening : Mark
   closing : Mark
@@ -20,6 +21,7 @@ pub record Token : Type 0 where
   pub place : ℕ
   pub symbol : Symbol
 
+-- a token at a place
 abbrev pub token : ℕ → Symbol → Token
 token place symbol = record { place = place; symbol = symbol }
 
@@ -47,6 +49,7 @@ is_word_byte b = begins_word b || (nat_le 48 b && nat_le b 57)
 abbrev pub is_comment_byte : ℕ → Bool
 is_comment_byte b = not (b == 10)
 
+-- a byte that begins a word, and bytes of words
 abbrev pub IsWord : List ℕ → Type 0
 IsWord [] = ⊥
 IsWord (b ∷ bs) = (begins_word b ≡ true) × Each (λ c. is_word_byte c ≡ true) bs
@@ -59,6 +62,7 @@ pub data Piece : Type 0 where
   word : List ℕ → Piece
   mark : Mark → Piece
 
+-- how a piece is spelled
 abbrev pub bytes_of : Piece → List ℕ
 bytes_of Piece.byte_order_mark = 0xEF ∷ 0xBB ∷ 0xBF ∷ []
 bytes_of (Piece.white b) = b ∷ []
@@ -71,7 +75,7 @@ abbrev pub Stops : (ℕ → Bool) → List ℕ → Type 0
 Stops kind [] = ⊤
 Stops kind (b ∷ bs) = kind b ≡ false
 
--- the piece may stand at a place before these bytes: a comment and a word are as long as they can be
+-- the piece may stand at a place, before these bytes; a comment and a word are as long as they can be
 abbrev pub Fits : ℕ → Piece → List ℕ → Type 0
 Fits place Piece.byte_order_mark after = place ≡ 0
 Fits place (Piece.white b) after = is_white b ≡ true
@@ -100,6 +104,7 @@ pub record IsCut (text : List ℕ) (pieces : List Piece) (place : ℕ) (rest : L
   pub reached : place + length rest ≡ length text
   pub stuck : IsStuck place rest
 
+-- the token of a word or a mark that stands at a place; the other pieces have none
 abbrev pub piece_tokens : ℕ → Piece → List Token
 piece_tokens place (Piece.word bs) = token place (Symbol.word bs) ∷ []
 piece_tokens place (Piece.mark m) = token place (Symbol.mark m) ∷ []

@@ -1,11 +1,11 @@
 -- The walk over the names finds the first fault.
-use Rattle.std.proofs.Common.{◌≡◌, ◌≢◌, ℕ, zero, suc, ◌+◌, ◌≤◌, ◌<◌, Bool, true, false, cond, not, ◌&&◌, ◌||◌, ◌==◌, nat_lt, if◌then◌else◌, List, [], ◌∷◌, ◌++◌, map, length, refl, sym, ◌∙◌, ap, subst, append_assoc, append-nil, Option, Some, None, arith, ◌⊎◌, inl, inr, true≢false, Contains}
+use Rattle.std.proofs.Common.{◌≡◌, ℕ, zero, suc, ◌≤◌, ◌<◌, Bool, true, false, cond, not, ◌&&◌, ◌||◌, ◌==◌, nat_lt, List, [], ◌∷◌, ◌++◌, map, length, refl, sym, ◌∙◌, ap, subst, append_assoc, append-nil, Option, Some, None, arith, ◌⊎◌, inl, inr, true≢false, Contains}
 use Rattle.std.specs.Option.{option_map, option_or}
 use Rattle.std.specs.List.{list_any, flat_map}
 use Rattle.std.specs.Str.{bytes_eq}
 use Rattle.std.proofs.lemmas.Slice.Eq.{bytes_eq-Decides}
 use Rattle.std.proofs.lemmas.Bool.Decides.{Decides-eqb, Decides-ltb}
-use Rattle.nq_model.specs.SchemaTexts.{Name, WrittenColumn, WrittenTable, Fault, rank, table_names, column_names, key_names, IsTableFault, IsColumnFault, IsKeyFault, StandsBehind, HasTableFault, HasColumnFault, HasKeyFault, FaultAt, NotLater}
+use Rattle.nq_model.specs.SchemaTexts.{Name, WrittenColumn, WrittenTable, Fault, rank, column_names, IsTableFault, IsColumnFault, IsKeyFault, StandsBehind, HasColumnFault, HasKeyFault, FaultAt, NotLater}
 use Rattle.schema_reader.specs.Shapes.{has, is_over, table_fault, column_fault, key_fault, placed, first_fault, columns_fault, keys_fault, shape_fault, tables_fault}
 use Rattle.schema_reader.proofs.Truths.{Truth, yes', no', truth}
 

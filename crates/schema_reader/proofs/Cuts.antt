@@ -1,8 +1,8 @@
 -- A text has one cut into pieces.
-use Rattle.std.proofs.Common.{◌≡◌, ◌≢◌, ℕ, zero, suc, ◌+◌, ◌≤◌, ◌<◌, Bool, true, false, cond, not, ◌&&◌, ◌||◌, if◌then◌else◌, ◌==◌, nat_le, List, [], ◌∷◌, ◌++◌, length, take, drop, refl, sym, ◌∙◌, ap, subst, arith, length-append, append_assoc, take-append-drop, length-drop, Option, Some, None, true≢false, ◌⊎◌, inl, inr}
+use Rattle.std.proofs.Common.{◌≡◌, ◌≢◌, ℕ, zero, suc, ◌+◌, ◌≤◌, ◌<◌, Bool, true, false, cond, if◌then◌else◌, ◌==◌, List, [], ◌∷◌, ◌++◌, length, take, drop, refl, sym, ◌∙◌, ap, subst, arith, length-append, append_assoc, take-append-drop, Option, Some, None, true≢false, ◌⊎◌, inl, inr}
 use Rattle.std.proofs.lemmas.Bool.Decides.{nat_tests, Decides-eqb}
 use Rattle.std.specs.List.{AllByRecursion as Each, prefix_len}
-use Rattle.nq_model.specs.SchemaTokens.{Mark, Symbol, Token, token, byte_of, is_white, begins_word, is_word_byte, is_comment_byte, IsWord, Piece, bytes_of, Stops, Fits, text_of, FitFrom, IsStuck, IsCut, piece_tokens, tokens_from, end_token, HasTokens, HasStray}
+use Rattle.nq_model.specs.SchemaTokens.{Mark, Token, byte_of, is_white, begins_word, is_word_byte, is_comment_byte, Piece, bytes_of, Stops, Fits, text_of, FitFrom, IsStuck, IsCut, piece_tokens, tokens_from}
 use Rattle.nq_model.specs.SchemaTexts.{IsSymbol}
 use Rattle.schema_reader.specs.Fronts.{mark_of}
 use Rattle.schema_reader.proofs.Truths.{Truth, yes', no', truth, Found, nothing', something', found}

@@ -1,13 +1,11 @@
 -- The names of a written schema: their places rise, and each is a word.
-use Rattle.std.proofs.Common.{◌≡◌, ◌≢◌, ℕ, zero, suc, ◌+◌, ◌≤◌, ◌<◌, Bool, true, false, ◌||◌, ◌&&◌, nat_le, List, [], ◌∷◌, ◌++◌, map, length, refl, sym, ◌∙◌, ap, subst, append_assoc, append-nil, arith, ◌⊎◌, inl, inr, true≢false, Contains}
-use Rattle.std.specs.List.{AllByRecursion as Each, AllZip, flat_map, All, slice_index_or}
-use Rattle.std.proofs.lemmas.Bool.Decides.{Decides-eqb, nat_tests}
+use Rattle.std.proofs.Common.{◌≡◌, ◌≢◌, ℕ, zero, suc, ◌≤◌, ◌<◌, true, false, ◌||◌, ◌&&◌, nat_le, List, [], ◌∷◌, ◌++◌, map, length, refl, sym, ◌∙◌, ap, subst, append-nil, arith, inl, inr, true≢false, Contains}
+use Rattle.std.specs.List.{AllByRecursion as Each, AllZip, flat_map, slice_index_or}
 use Rattle.std.proofs.lemmas.List.Elements.{All-from_recursion}
 use Rattle.nq_model.specs.Orders.{AreDistinct}
-use Rattle.nq_model.specs.Tables.{Columns, names_of, IsProperName, IsProperShape, IsProperSchema}
-use Rattle.nq_model.specs.SchemaTokens.{Mark, Symbol, Token, token, IsWord, begins_word, is_word_byte}
+use Rattle.nq_model.specs.Tables.{names_of, IsProperName, IsProperShape, IsProperSchema}
+use Rattle.nq_model.specs.SchemaTokens.{Mark, Symbol, Token, IsWord, is_word_byte}
 use Rattle.nq_model.specs.SchemaTexts.{Name, WrittenColumn, WrittenTable, Slot, Fills, mark_slot, with_commas, column_slots, key_slots, table_slots, schema_slots, IsSymbol, shape_of, schema_of, Fault, FaultAt, StandsBehind, table_names, column_names, key_names}
-use Rattle.nq_model.specs.declared.table.TableShape.{TableShape}
 use Rattle.schema_reader.specs.Shapes.{has}
 use Rattle.schema_reader.proofs.Truths.{Truth, yes', no', truth}
 use Rattle.schema_reader.proofs.Cuts.{Ascend, AreSymbols}

@@ -1,11 +1,11 @@
 -- What reading answers is what the text spells, or its fault.
-use Rattle.std.proofs.Common.{◌≡◌, ℕ, List, [], refl, sym, ◌∙◌, ap, subst, Option, Some, None, Result, Ok, Err, IfOk, IfSome, IsErrAnd, MatchResult, ◌⊎◌, inl, inr}
+use Rattle.std.proofs.Common.{◌≡◌, ℕ, List, [], refl, sym, subst, Option, Some, None, Result, Ok, Err, IfOk, IfSome, IsErrAnd, MatchResult, inl, inr}
 use Rattle.std.specs.Str.{IsUtf8}
 use Rattle.nq_model.specs.Tables.{IsProperSchema}
 use Rattle.nq_model.specs.SchemaTexts.{WrittenTable, WritesTables, Fault, HasFault, Spells, schema_of}
 use Rattle.nq_model.specs.declared.table.Schema.{Schema}
 use Rattle.schema_reader.specs.Shapes.{tables_fault}
-use Rattle.schema_reader.specs.Answers.{fault_view, Tells, Answers, HasCause, IsFault, Reads}
+use Rattle.schema_reader.specs.Answers.{fault_view, Answers, IsFault, Reads}
 use Rattle.schema_reader.specs.declared.fault.SchemaFault.{SchemaFault}
 use Rattle.schema_reader.specs.declared.fault.SchemaFault.TheVariants as code
 use Rattle.schema_reader.proofs.Verdicts.{spells, has_fault, spelled_proper, not_both, one_schema, one_fault}

@@ -1,13 +1,13 @@
 -- What the tests of the first byte tell of the front of bytes.
-use Rattle.std.proofs.Common.{◌≡◌, ◌≢◌, ℕ, zero, suc, ◌+◌, ◌≤◌, ◌<◌, Bool, true, false, cond, ◌||◌, ◌&&◌, ◌==◌, nat_le, nat_eq, List, [], ◌∷◌, ◌++◌, length, take, drop, refl, sym, ◌∙◌, ap, subst, arith, add-one, one-add, Option, Some, None, length-take-le, take-append-drop, true≢false, slice_index}
+use Rattle.std.proofs.Common.{◌≡◌, ◌≢◌, ℕ, zero, suc, ◌+◌, ◌<◌, true, false, cond, ◌||◌, ◌&&◌, ◌==◌, nat_le, nat_eq, List, [], ◌∷◌, length, take, refl, sym, ◌∙◌, ap, subst, arith, one-add, Some, None, length-take-le, take-append-drop, true≢false, slice_index}
 use Rattle.std.specs.List.{AllByRecursion as Each, prefix_len, starts_with}
 use Rattle.std.specs.Str.{IsAscii, IsUtf8}
 use Rattle.std.proofs.lemmas.Str.{IsUtf8-from_ascii}
 use Rattle.std.proofs.lemmas.Bool.Decides.{nat_tests, Decides-eqb}
 use Rattle.std.proofs.lemmas.List.Sums.{prefix_len-le-length}
 use Rattle.std.proofs.lemmas.Slice.Eq.{starts_is}
-use Rattle.nq_model.specs.SchemaTokens.{Mark, Symbol, Token, token, byte_of, is_white, begins_word, is_word_byte, is_comment_byte, Piece, bytes_of, Fits, IsStuck, piece_tokens}
-use Rattle.schema_reader.specs.Fronts.{mark_of, BeginsWord, HasFront}
+use Rattle.nq_model.specs.SchemaTokens.{Mark, Symbol, token, is_white, begins_word, is_word_byte, is_comment_byte, Piece, bytes_of, IsStuck}
+use Rattle.schema_reader.specs.Fronts.{mark_of, HasFront}
 use Rattle.schema_reader.proofs.Cuts.{comment_front, word_front, byte_of-mark_of, none_begins, run_all}
 
 pub has_white : (place b : ℕ) (bs bytes : List ℕ) → bytes ≡ b ∷ bs → is_white b ≡ true → HasFront place bytes 1 []

@@ -1,5 +1,5 @@
 -- Reading a text piece by piece.
-use Rattle.std.proofs.Common.{◌≡◌, ◌≢◌, ℕ, zero, suc, ◌+◌, ◌≤◌, ◌<◌, List, [], ◌∷◌, ◌++◌, length, take, drop, refl, sym, ◌∙◌, ap, subst, arith, append_assoc, append-nil, length-append, length-drop, drop-drop, Option, Some, None, Result, Ok, Err, map}
+use Rattle.std.proofs.Common.{◌≡◌, ◌≢◌, ℕ, ◌+◌, ◌≤◌, ◌<◌, List, [], ◌∷◌, ◌++◌, length, drop, refl, sym, ◌∙◌, ap, subst, arith, append_assoc, append-nil, length-append, length-drop, drop-drop, Some, None, Result, Ok, Err, map}
 use Rattle.std.specs.Option.{option_and_then}
 use Rattle.nq_model.specs.SchemaTokens.{Symbol, Token, token, Piece, bytes_of, text_of, FitFrom, IsStuck, IsCut, piece_tokens, tokens_from, end_token}
 use Rattle.nq_model.specs.SchemaTexts.{WritesTables, IsSyntaxPlace}
@@ -9,7 +9,6 @@ use Rattle.schema_reader.specs.Reading.{table_view, Steps, Ends, Writes}
 use Rattle.schema_reader.specs.declared.fault.SchemaFault.{SchemaFault}
 use Rattle.schema_reader.specs.declared.fault.SchemaFault.TheVariants as fault
 use Rattle.schema_reader.specs.declared.written.WrittenTable.{WrittenTable as CodeTable}
-use Rattle.schema_reader.proofs.Truths.{Found, nothing', something', found}
 use Rattle.schema_reader.proofs.Cuts.{far, far_length, far-append, text_of-append, FitFrom-append, tokens_from-append, some_bytes, Rest, cut_rest, none_at_end}
 use Rattle.schema_reader.proofs.Steps.{run-append}
 use Rattle.schema_reader.proofs.Syntax.{cut_tokens, wrong_at, wrong_here, wrong_place, stray_place, written_tables, run_no_wrong}

@@ -1,15 +1,12 @@
 -- The machine reads exactly what is written.
-use Rattle.std.proofs.Common.{◌≡◌, ◌≢◌, ℕ, Bool, true, false, cond, if◌then◌else◌, List, [], ◌∷◌, ◌++◌, map, length, refl, sym, ◌∙◌, ap, subst, append_assoc, append-nil, Option, Some, None, codes}
+use Rattle.std.proofs.Common.{◌≡◌, ℕ, List, [], ◌∷◌, ◌++◌, map, refl, sym, ◌∙◌, ap, subst, append_assoc, append-nil, Option, Some, None, codes}
 use Rattle.std.specs.Option.{option_map, option_and_then}
 use Rattle.std.specs.List.{AllByRecursion as Each, AllZip, flat_map}
-use Rattle.std.specs.Str.{bytes_eq}
-use Rattle.std.proofs.lemmas.Slice.Eq.{bytes_eq-Decides}
-use Rattle.nq_model.specs.SchemaTokens.{Mark, Symbol, Token, token, IsWord}
-use Rattle.nq_model.specs.SchemaTexts.{Name, WrittenColumn, WrittenTable, Slot, Fills, mark_slot, word_slot, type_word, with_commas, column_slots, key_slots, table_slots, schema_slots, KeyNeedsColumn, IsWritten, IsSymbol, IsOpen, HasWrongToken}
+use Rattle.nq_model.specs.SchemaTokens.{Mark, Symbol, Token, token}
+use Rattle.nq_model.specs.SchemaTexts.{Name, WrittenColumn, WrittenTable, Slot, Fills, mark_slot, word_slot, type_word, with_commas, column_slots, key_slots, table_slots, KeyNeedsColumn, IsWritten}
 use Rattle.nq_model.specs.declared.table.ColumnType.{ColumnType}
 use Rattle.nq_model.specs.declared.table.ColumnType.TheVariants as column
-use Rattle.schema_reader.specs.Machine.{Spot, Addition, type_of, after_word, after_mark, after_end, after, State, state, blank, start, added, step, run}
-use Rattle.schema_reader.proofs.Truths.{Truth, yes', no', truth, Found, nothing', something', found}
+use Rattle.schema_reader.specs.Machine.{Spot, Addition, type_of, State, state, blank, start, added, step, run}
 
 -- a run over two lists, one behind the other
 pub run-append : (st : State) (us ts : List Token) → run st (us ++ ts) ≡ option_and_then (λ next. run next ts) (run st us)

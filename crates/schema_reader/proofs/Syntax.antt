@@ -1,12 +1,12 @@
 -- The machine stops at the first wrong token, and reaches the end where a schema is written.
-use Rattle.std.proofs.Common.{◌≡◌, ◌≢◌, ℕ, suc, ◌+◌, ◌≤◌, ◌<◌, List, [], ◌∷◌, ◌++◌, map, length, refl, sym, ◌∙◌, ap, subst, append_assoc, append-nil, Option, Some, None, codes, arith, ◌⊎◌, inl, inr}
-use Rattle.std.specs.Option.{option_map, option_and_then}
+use Rattle.std.proofs.Common.{◌≡◌, ◌≢◌, ℕ, suc, ◌+◌, ◌≤◌, ◌<◌, List, [], ◌∷◌, ◌++◌, length, refl, sym, ◌∙◌, ap, subst, append_assoc, append-nil, Option, Some, None, codes, arith, inl, inr}
+use Rattle.std.specs.Option.{option_and_then}
 use Rattle.std.specs.List.{AllByRecursion as Each, AllZip, flat_map}
-use Rattle.nq_model.specs.SchemaTokens.{Mark, Symbol, Token, token, IsWord, Piece, IsCut, FitFrom, bytes_of, piece_tokens, tokens_from, end_token, HasTokens, HasStray}
-use Rattle.nq_model.specs.SchemaTexts.{Name, WrittenColumn, WrittenTable, Slot, Fills, table_slots, schema_slots, KeyNeedsColumn, IsWritten, IsSymbol, IsOpen, HasWrongToken, WritesTables, FaultySyntaxAt, IsSyntaxPlace}
-use Rattle.schema_reader.specs.Machine.{Spot, Addition, State, state, blank, start, added, step, run}
-use Rattle.schema_reader.proofs.Truths.{Truth, yes', no', truth, Found, nothing', something', found}
-use Rattle.schema_reader.proofs.Cuts.{Ascend, Ascend-append, tokens_ascend, far, far_length, SameCut, same_cut, Rest, cut_rest, Each-append}
+use Rattle.nq_model.specs.SchemaTokens.{Mark, Symbol, Token, token, Piece, IsCut, bytes_of, piece_tokens, tokens_from, end_token, HasTokens}
+use Rattle.nq_model.specs.SchemaTexts.{WrittenTable, Slot, Fills, table_slots, schema_slots, KeyNeedsColumn, IsWritten, IsSymbol, IsOpen, HasWrongToken, WritesTables, FaultySyntaxAt, IsSyntaxPlace}
+use Rattle.schema_reader.specs.Machine.{Spot, State, state, blank, start, step, run}
+use Rattle.schema_reader.proofs.Truths.{Found, nothing', something', found}
+use Rattle.schema_reader.proofs.Cuts.{Ascend, tokens_ascend, far, far_length, same_cut, Rest, cut_rest, Each-append}
 use Rattle.schema_reader.proofs.Steps.{run-append, reads_written, AllZip-parts}
 use Rattle.schema_reader.proofs.Fronts
 use Rattle.schema_reader.proofs.Fronts.{Reads, Then, goes}

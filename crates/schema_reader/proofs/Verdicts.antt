@@ -1,19 +1,19 @@
 -- A text spells one schema, or it has one fault.
-use Rattle.std.proofs.Common.{◌≡◌, ◌≢◌, ℕ, zero, suc, ◌+◌, ◌≤◌, ◌<◌, Bool, true, false, List, [], ◌∷◌, ◌++◌, length, take, refl, sym, ◌∙◌, ap, subst, arith, ◌⊎◌, inl, inr, true≢false, nat_lt, take_all, Option, Some, None}
+use Rattle.std.proofs.Common.{◌≡◌, ℕ, zero, suc, ◌≤◌, ◌<◌, false, List, [], ◌∷◌, length, take, refl, sym, ◌∙◌, ap, subst, arith, ◌⊎◌, inl, inr, true≢false, nat_lt, take_all, Some, None}
 use Rattle.std.specs.List.{flat_map}
 use Rattle.std.specs.Str.{IsUtf8, IsValidUpTo, is_utf8}
 use Rattle.std.proofs.lemmas.Bool.Decides.{Decides-ltb, nat_tests}
 use Rattle.std.proofs.lemmas.Str.{IsUtf8-from_is_utf8, is_utf8-from_IsUtf8, IsUtf8-nil}
 use Rattle.nq_model.specs.Tables.{IsProperSchema}
-use Rattle.nq_model.specs.SchemaTokens.{Token, Piece, IsCut, tokens_from, end_token, HasTokens}
-use Rattle.nq_model.specs.SchemaTexts.{WrittenTable, IsWritten, IsSymbol, WritesTables, IsSyntaxPlace, FaultySyntaxAt, Fault, rank, FaultAt, NotLater, HasFault, Spells, schema_of}
+use Rattle.nq_model.specs.SchemaTokens.{Token, tokens_from, end_token, HasTokens}
+use Rattle.nq_model.specs.SchemaTexts.{WrittenTable, IsSymbol, WritesTables, IsSyntaxPlace, Fault, rank, FaultAt, NotLater, HasFault, Spells, schema_of}
 use Rattle.nq_model.specs.declared.table.Schema.{Schema}
 use Rattle.schema_reader.specs.Shapes.{tables_fault}
 use Rattle.schema_reader.proofs.Truths.{Truth, yes', no', truth, Found, nothing', something', found}
-use Rattle.schema_reader.proofs.Cuts.{Ascend, Ascend-append, AreSymbols, Each-append, tokens_ascend, tokens_symbols, far}
+use Rattle.schema_reader.proofs.Cuts.{Ascend, Ascend-append, AreSymbols, Each-append, tokens_ascend, tokens_symbols}
 use Rattle.schema_reader.proofs.Syntax.{cut_far, Judged, faulty, written, judged, one_place, one_tables, no_syntax_fault}
 use Rattle.schema_reader.proofs.Conditions.{Rise, names_in, walk_none, walk_some}
-use Rattle.schema_reader.proofs.Names.{AreWords, schema_rise, schema_words, schema_proper}
+use Rattle.schema_reader.proofs.Names.{schema_rise, schema_words, schema_proper}
 
 -- what is known of the tokens of a text
 pub record Ordered (tokens : List Token) : Type 0 where

@@ -1,5 +1,5 @@
 -- What a judgement of written tables answers.
-use Rattle.std.specs.Prelude.{◌≡◌, ℕ, ⊤, List, Option, Some, None, Result, Ok, Err, IfSome, ◌⊎◌}
+use Rattle.std.specs.Prelude.{◌≡◌, ℕ, List, Option, Some, None, Result, Ok, Err, IfSome, ◌⊎◌}
 use Rattle.nq_model.specs.SchemaTexts.{Fault, WrittenColumn, HasFault, Spells}
 use Rattle.nq_model.specs.declared.table.Schema.{Schema}
 use Rattle.nq_model.specs.declared.table.ColumnType.{ColumnType}

@@ -1,5 +1,5 @@
 -- What reading the tokens gives.
-use Rattle.std.specs.Prelude.{◌≡◌, ℕ, ⊤, List, map, Option, Some, None, Result, Ok, Err}
+use Rattle.std.specs.Prelude.{◌≡◌, ℕ, ⊤, List, map, Some, None, Result, Ok, Err}
 use Rattle.nq_model.specs.SchemaTokens.{Symbol, Token, token}
 use Rattle.nq_model.specs.SchemaTexts.{WrittenTable, WritesTables, IsSyntaxPlace}
 use Rattle.schema_reader.specs.Machine.{Spot, State, state, step}

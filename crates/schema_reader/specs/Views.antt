@@ -1,7 +1,6 @@
 -- What the reader holds, without where it lies in memory.
-use Rattle.std.specs.Prelude.{ℕ, List, map}
-use Rattle.nq_model.specs.SchemaTexts.{Name, WrittenColumn, WrittenTable}
-use Rattle.schema_reader.specs.Machine.{Spot, Addition, State, state}
+use Rattle.nq_model.specs.SchemaTexts.{Name, WrittenColumn}
+use Rattle.schema_reader.specs.Machine.{Spot, Addition}
 use Rattle.schema_reader.specs.declared.grammar.Name.{Name as CodeName}
 use Rattle.schema_reader.specs.declared.grammar.WrittenColumn.{WrittenColumn as CodeColumn}
 use Rattle.schema_reader.specs.declared.grammar.Spot.{Spot as CodeSpot}

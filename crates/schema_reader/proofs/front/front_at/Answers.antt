@@ -1,6 +1,6 @@
 use Rattle.std.proofs.Common.{sym, ◌∙◌}
 use Rattle.schema_reader.specs.Fronts.{mark_view}
-use Rattle.schema_reader.proofs.Pieces.{has_white, has_comment, has_word, has_mark, has_order_mark, stuck_at}
+use Rattle.schema_reader.proofs.Pieces.{has_white, has_comment, has_word, has_mark}
 use Rattle.schema_reader.proofs.front.front_at.Goals as goal
 
 pub returns-then-is_white : goal.returns-then-is_white

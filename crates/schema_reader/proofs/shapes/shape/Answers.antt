@@ -1,6 +1,5 @@
-use Rattle.std.proofs.Common.{◌≡◌, [], map, None, sym, ◌∙◌, ap}
+use Rattle.std.proofs.Common.{◌≡◌, [], map, None, ◌∙◌}
 use Rattle.std.proofs.lemmas.Result.{err_from_is_err_and}
-use Rattle.nq_model.specs.Tables.{names_of}
 use Rattle.nq_model.specs.SchemaTexts.{column_names}
 use Rattle.schema_reader.specs.Shapes.{columns_fault, keys_fault}
 use Rattle.schema_reader.specs.Views.{name_view, column_view}
