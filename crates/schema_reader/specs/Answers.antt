@@ -21,6 +21,7 @@ fault_view (code.OverLimit p) = Some (Fault.over_limit, p)
 abbrev pub Tells : SchemaFault → Option (Fault × ℕ) → Type 0
 Tells e found = IfSome (fault_view e) (λ x. found ≡ Some x)
 
+-- an `Ok` says that no fault was found
 abbrev pub Judges : Result (Unit {0}) SchemaFault → Option (Fault × ℕ) → Type 0
 Judges (Ok _) found = found ≡ None
 Judges (Err e) found = Tells e found
@@ -30,6 +31,7 @@ abbrev pub Answers : {A : Type 0} → Result A SchemaFault → Option (Fault × 
 Answers (Ok x) found y = (found ≡ None) × (x ≡ y)
 Answers (Err e) found y = Tells e found
 
+-- a column of a schema, of a written one
 abbrev pub pair_of : WrittenColumn → List ℕ × ColumnType
 pair_of c = (c.name.text, c.kind)
 
@@ -37,9 +39,11 @@ pair_of c = (c.name.text, c.kind)
 abbrev pub HasCause : List ℕ → SchemaFault → Type 0
 HasCause text e = IfSome (fault_view e) (λ x. HasFault text x.0 x.1)
 
+-- the error is want of memory, or this fault at this place
 abbrev pub IsFault : Fault → ℕ → SchemaFault → Type 0
 IsFault f place e = (e ≡ code.Memory) ⊎ (fault_view e ≡ Some (f, place))
 
+-- the text spells the schema, or it has the fault
 abbrev pub Reads : Result Schema SchemaFault → List ℕ → Type 0
 Reads (Ok schema) text = Spells text schema
 Reads (Err e) text = HasCause text e

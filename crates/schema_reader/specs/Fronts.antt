@@ -8,6 +8,7 @@ use Rattle.schema_reader.specs.declared.front.Symbol.TheVariants as symbols
 use Rattle.schema_reader.specs.declared.front.Front.{Front}
 use Rattle.schema_reader.specs.declared.front.Front.TheVariants as fronts
 
+-- a mark of the reader
 abbrev pub mark_view : CodeMark → Mark
 mark_view marks.Opening = Mark.opening
 mark_view marks.Closing = Mark.closing
@@ -15,6 +16,7 @@ mark_view marks.Comma = Mark.comma
 mark_view marks.Colon = Mark.colon
 mark_view marks.Semicolon = Mark.semicolon
 
+-- a symbol of the reader
 abbrev pub symbol_view : CodeSymbol → Symbol
 symbol_view (symbols.Word w) = Symbol.word w.now
 symbol_view (symbols.Mark m) = Symbol.mark (mark_view m)
@@ -27,6 +29,7 @@ mark_of b = if b == 40 then Some Mark.opening
     else (if b == 58 then Some Mark.colon
     else (if b == 59 then Some Mark.semicolon else None))))
 
+-- the first byte begins a word
 abbrev pub BeginsWord : List ℕ → Type 0
 BeginsWord [] = ⊥
 BeginsWord (b ∷ bs) = begins_word b ≡ true
@@ -39,6 +42,7 @@ pub record HasFront (place : ℕ) (bytes : List ℕ) (n : ℕ) (tokens : List To
   pub size : length (bytes_of piece) ≡ n
   pub says : piece_tokens place piece ≡ tokens
 
+-- what the answer says of the front of the bytes at a place
 abbrev pub IsFront : ℕ → List ℕ → Front → Type 0
 IsFront place bytes fronts.End = bytes ≡ []
 IsFront place bytes fronts.Stray = (bytes ≢ []) × IsStuck place bytes

@@ -32,11 +32,13 @@ pub data Addition : Type 0 where
   key_part : Name → Addition
   whole : Addition
 
+-- the type that a word names
 abbrev pub type_of : List ℕ → Option ColumnType
 type_of w = if bytes_eq w (codes "int") then Some column.Int
     else (if bytes_eq w (codes "bool") then Some column.Bool
     else (if bytes_eq w (codes "text") then Some column.Text else None))
 
+-- behind a word: the next spot, and what the word adds; nothing where it may not stand
 abbrev pub after_word : Spot → Name → Option (Spot × Addition)
 after_word Spot.between n = if bytes_eq n.text (codes "table") then Some (Spot.titled, Addition.nothing) else None
 after_word Spot.titled n = Some (Spot.named, Addition.table_name n)
@@ -46,6 +48,7 @@ after_word (Spot.typed m) n = option_map (λ kind. (Spot.column_end, Addition.a_
 after_word Spot.key_name n = Some (Spot.key_word, Addition.key_part n)
 after_word _ n = None
 
+-- behind a mark
 abbrev pub after_mark : Spot → Mark → Option (Spot × Addition)
 after_mark Spot.named Mark.opening = Some (Spot.first, Addition.nothing)
 after_mark Spot.first Mark.closing = Some (Spot.closed, Addition.nothing)
@@ -60,10 +63,12 @@ after_mark Spot.key_end Mark.closing = Some (Spot.closed, Addition.nothing)
 after_mark Spot.closed Mark.semicolon = Some (Spot.between, Addition.whole)
 after_mark _ m = None
 
+-- behind the end of the text
 abbrev pub after_end : Spot → Option (Spot × Addition)
 after_end Spot.between = Some (Spot.done, Addition.nothing)
 after_end _ = None
 
+-- behind a token at a place
 abbrev pub after : Spot → ℕ → Symbol → Option (Spot × Addition)
 after spot place (Symbol.word w) = after_word spot (record { place = place; text = w })
 after spot place (Symbol.mark m) = after_mark spot m
@@ -75,15 +80,19 @@ pub record State : Type 0 where
   pub table : WrittenTable
   pub spot : Spot
 
+-- a state, part by part
 abbrev pub state : List WrittenTable → WrittenTable → Spot → State
 state tables table spot = record { tables = tables; table = table; spot = spot }
 
+-- a table of which nothing was read
 abbrev pub blank : WrittenTable
 blank = record { name = record { place = 0; text = [] }; columns = []; key = [] }
 
+-- before any token
 abbrev pub start : State
 start = state [] blank Spot.between
 
+-- the state with what a token adds
 abbrev pub added : List WrittenTable → WrittenTable → Spot → Addition → State
 added ts t spot Addition.nothing = state ts t spot
 added ts t spot (Addition.table_name n) = state ts (record { name = n; columns = t.columns; key = t.key }) spot
@@ -95,6 +104,7 @@ added ts t spot Addition.whole = state (ts ++ t ∷ []) blank spot
 abbrev pub step : State → Token → Option State
 step st t = option_map (λ x. added st.tables st.table x.0 x.1) (after st.spot t.place t.symbol)
 
+-- the state behind some tokens
 abbrev pub run : State → List Token → Option State
 run st [] = Some st
 run st (t ∷ ts) = option_and_then (λ next. run next ts) (step st t)

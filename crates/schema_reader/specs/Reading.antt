@@ -9,9 +9,11 @@ use Rattle.schema_reader.specs.declared.fault.SchemaFault.TheVariants.{Memory, S
 use Rattle.schema_reader.specs.declared.written.WrittenTable.{WrittenTable as CodeTable}
 use Rattle.schema_reader.specs.declared.written.Reader.{Reader}
 
+-- a written table of the reader
 abbrev pub table_view : CodeTable → WrittenTable
 table_view t = record { name = name_view t.name; columns = map column_view t.columns; key = map name_view t.key }
 
+-- the state that the reader is in
 abbrev pub reader_view : Reader → State
 reader_view r = state (map table_view r.tables) (table_view r.table) (spot_view r.spot)
 

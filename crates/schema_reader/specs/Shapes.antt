@@ -28,6 +28,7 @@ column_fault names c = if has names c.name.text then Some Fault.twice_column
 abbrev pub key_fault : List (List ℕ) → List (List ℕ) → Name → Option Fault
 key_fault columns names n = if has columns n.text && not (has names n.text) then None else Some Fault.key_column
 
+-- the fault, if there is one, with its place
 abbrev pub placed : ℕ → Option Fault → Option (Fault × ℕ)
 placed place fault = option_map (λ f. (f, place)) fault
 
@@ -37,9 +38,11 @@ first_fault name fault names [] = None
 first_fault name fault names (x ∷ xs) =
     option_or (placed (name x).place (fault names x)) (first_fault name fault (names ++ (name x).text ∷ []) xs)
 
+-- the first fault of columns, behind columns of these names
 abbrev pub columns_fault : List (List ℕ) → List WrittenColumn → Option (Fault × ℕ)
 columns_fault = first_fault (λ c. c.name) column_fault
 
+-- the first fault of a key's words, in a table of these columns and behind these words
 abbrev pub keys_fault : List (List ℕ) → List (List ℕ) → List Name → Option (Fault × ℕ)
 keys_fault columns = first_fault (λ n. n) (key_fault columns)
 
@@ -49,6 +52,7 @@ shape_fault names t =
     option_or (placed t.name.place (table_fault names t))
     (option_or (columns_fault [] t.columns) (keys_fault (column_names t.columns) [] t.key))
 
+-- the first fault of tables, behind tables of these names
 abbrev pub tables_fault : List (List ℕ) → List WrittenTable → Option (Fault × ℕ)
 tables_fault names [] = None
 tables_fault names (t ∷ ts) = option_or (shape_fault names t) (tables_fault (names ++ t.name.text ∷ []) ts)

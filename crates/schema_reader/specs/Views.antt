@@ -8,12 +8,15 @@ use Rattle.schema_reader.specs.declared.grammar.Spot.TheVariants as spots
 use Rattle.schema_reader.specs.declared.grammar.Addition.{Addition as CodeAddition}
 use Rattle.schema_reader.specs.declared.grammar.Addition.TheVariants as additions
 
+-- a name, with the bytes that it refers to
 abbrev pub name_view : CodeName → Name
 name_view n = record { place = n.place; text = n.text.now }
 
+-- a written column
 abbrev pub column_view : CodeColumn → WrittenColumn
 column_view c = record { name = name_view c.name; kind = c.kind }
 
+-- a spot
 abbrev pub spot_view : CodeSpot → Spot
 spot_view spots.Between = Spot.between
 spot_view spots.Titled = Spot.titled
@@ -29,6 +32,7 @@ spot_view spots.KeyWord = Spot.key_word
 spot_view spots.KeyEnd = Spot.key_end
 spot_view spots.Closed = Spot.closed
 
+-- what a token adds
 abbrev pub addition_view : CodeAddition → Addition
 addition_view additions.Nothing = Addition.nothing
 addition_view (additions.TableName n) = Addition.table_name (name_view n)

@@ -1,14 +1,15 @@
 // What stands at the front of a text: white space, a comment, a token, or none of these.
-ghost use Rattle.std.specs.Prelude.{◌≡◌, ◌≤◌, ◌+◌, ℕ, length, take, option_map};
+ghost use Rattle.std.specs.Prelude.{◌≡◌, take, option_map};
 ghost use Rattle.std.specs.List.{prefix_len};
 ghost use Rattle.nq_model.specs.SchemaTokens.{is_white, begins_word, is_word_byte, is_comment_byte};
 ghost use Rattle.schema_reader.specs.Fronts.{mark_of, mark_view, IsFront, BeginsWord};
 
 use std::str;
 
-/// The bytes EF BB BF, which count as white space at the beginning of a text.
+// The bytes EF BB BF, which count as white space at the beginning of a text.
 const BYTE_ORDER_MARK: [u8; 3] = [0xEF, 0xBB, 0xBF];
 
+/// A token that is no word.
 #[derive(Clone, Copy, Debug, PartialEq, Eq)]
 pub enum Mark {
     Opening,
@@ -18,12 +19,14 @@ pub enum Mark {
     Semicolon,
 }
 
+/// What a token says.
 #[derive(Clone, Copy)]
 pub enum Symbol<'a> {
     Word(&'a str),
     Mark(Mark),
 }
 
+/// What stands at the front of a text.
 #[derive(Clone, Copy)]
 pub enum Front<'a> {
     /// Nothing.
@@ -67,7 +70,7 @@ fn mark_of(byte: u8) -> Option<Mark>
     }
 }
 
-// How many bytes stand before a line feed, or before the end.
+// How many bytes stand before the first line feed, or before the end.
 fn comment_len(bytes: &[u8]) -> usize
     ensures { result ≡ prefix_len is_comment_byte bytes.now }
 {
@@ -79,7 +82,7 @@ fn comment_len(bytes: &[u8]) -> usize
     bytes.len()
 }
 
-// How many bytes stand before one that is in no word.
+// How many bytes stand before the first that is in no word, or before the end.
 fn word_len(bytes: &[u8]) -> usize
     ensures { result ≡ prefix_len is_word_byte bytes.now }
 {

@@ -1,6 +1,6 @@
 // Makes a schema of written tables, or finds their first fault.
-ghost use Rattle.std.specs.Prelude.{◌≡◌, ◌==◌, ◌||◌, ℕ, [], map, length};
-ghost use Rattle.nq_model.specs.SchemaTexts.{shape_of, schema_of, column_names};
+ghost use Rattle.std.specs.Prelude.{◌≡◌, [], map};
+ghost use Rattle.nq_model.specs.SchemaTexts.{shape_of, schema_of};
 ghost use Rattle.nq_model.specs.Tables.{names_of};
 ghost use Rattle.schema_reader.specs.Shapes.{has, table_fault, column_fault, key_fault, placed, columns_fault, keys_fault, shape_fault, tables_fault};
 ghost use Rattle.schema_reader.specs.Views.{name_view, column_view};
@@ -13,7 +13,7 @@ use crate::written::WrittenTable;
 use nq_model::{ColumnType, Label, List, Schema, TableShape};
 use std::alloc::Global;
 
-/// How many tables a schema may have, how many columns a table, and how many bytes a name.
+// How many tables a schema may have, how many columns a table, and how many bytes a name.
 const LIMIT: usize = 64;
 
 fn has_table(tables: &[TableShape], name: &str) -> bool
@@ -90,6 +90,7 @@ fn judge_key(columns: &[(Label, ColumnType)], key: &[Label], name: &Name) -> Res
     Err(SchemaFault::KeyColumn { place: name.place })
 }
 
+// The columns of a table.
 fn columns_of(
     alloc: Global,
     written: &[WrittenColumn],
@@ -104,6 +105,7 @@ fn columns_of(
     Ok(columns)
 }
 
+// The key of a table with these columns.
 fn key_of(
     alloc: Global,
     columns: &[(Label, ColumnType)],

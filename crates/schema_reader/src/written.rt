@@ -22,6 +22,7 @@ pub struct WrittenTable<'a> {
 }
 
 impl<'a> WrittenTable<'a> {
+    // A table of which nothing was read.
     fn blank(alloc: Global) -> WrittenTable<'a>
         ensures { table_view result ≡ blank }
     {
@@ -52,6 +53,7 @@ impl<'a> Reader<'a> {
         }
     }
 
+    // Adds what a token says.
     fn add(&mut self, alloc: Global, addition: Addition<'a>) -> Result<(), Memory>
         ensures { OnOk result (reader_view self.new
             ≡ added (map table_view self.old.tables) (table_view self.old.table) (spot_view self.old.spot) (addition_view addition.entry)) }
