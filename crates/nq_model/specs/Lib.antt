@@ -6,3 +6,5 @@ pub mod Cells
 pub mod Values
 pub mod Canonical
 pub mod Tables
+pub mod SchemaTokens
+pub mod SchemaTexts

@@ -1,0 +1,12 @@
+pub mod Truths
+pub mod Cuts
+pub mod Pieces
+pub mod Steps
+pub mod Fronts
+pub mod Syntax
+pub mod Progress
+pub mod Told
+pub mod Conditions
+pub mod Names
+pub mod Verdicts
+pub mod Outcomes
