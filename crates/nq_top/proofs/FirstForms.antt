@@ -62,37 +62,3 @@ first_byte (b ∷ bs) some blank word = pieces_byte b bs blank word
 pub pieces_none : (text : List ℕ) (at : ℕ) → length text ≤ at → pieces (drop at text) ≡ []
 unfolding pieces
 pieces_none text at past = rw (drop_all at text past) refl
-
-not_utf8_by : (b : Bool) → (b ≡ true → ⊥) → b ≡ false
-not_utf8_by true never = absurd (never refl)
-not_utf8_by false never = refl
-
-pub not_utf8 : (bytes : List ℕ) → (IsUtf8 bytes → ⊥) → is_utf8 bytes ≡ false
-not_utf8 bytes never = not_utf8_by (is_utf8 bytes) (λ e. never (IsUtf8-from_is_utf8 bytes e))
-
-pub ruleset utf8_rules = (not_utf8, is_utf8-from_IsUtf8)
-
-both_true : (a b : Bool) → (a && b) ≡ true → (a ≡ true) × (b ≡ true)
-both_true true b h = (refl, h)
-both_true false b h = cc
-
-none_equal : (l : List ℕ) (ls : List (List ℕ)) → not (list_any (λ m. bytes_eq l m) ls) ≡ true → Each (λ m. l ≢ m) ls
-none_equal l [] h = tt
-none_equal l (m ∷ ls) h = go (bytes_eq l m) refl h (λ f. none_equal l ls f)
-  where
-    go : (b : Bool) → bytes_eq l m ≡ b → not (b || list_any (λ k. bytes_eq l k) ls) ≡ true
-        → (not (list_any (λ k. bytes_eq l k) ls) ≡ true → Each (λ k. l ≢ k) ls) → Each (λ k. l ≢ k) (m ∷ ls)
-    go true e f later = absurd (true≢false (sym f))
-    go false e f later =
-        let other : l ≢ m = λ same. true≢false (sym ((bytes_eq-Decides l m).1 same) ∙ e) in
-        (other, later f)
-
--- names that differ by the test are distinct
-pub differ_distinct : (ls : List (List ℕ)) → differ ls ≡ true → AreDistinct ls
-differ_distinct [] h = tt
-differ_distinct (l ∷ ls) h =
-    let parts = both_true (not (list_any (λ m. bytes_eq l m) ls)) (differ ls) h in
-    (none_equal l ls parts.0, differ_distinct ls parts.1)
-
-pub table_distinct : (columns : Columns) → is_table columns ≡ true → AreDistinct (names_of columns)
-table_distinct columns h = differ_distinct (names_of columns) (both_true (nat_le (length columns) 64) (differ (names_of columns)) h).1

@@ -8,18 +8,19 @@ use Rattle.nq_model.specs.Cells.{RowFits}
 use Rattle.nq_model.specs.Orders.{AreDistinct}
 use Rattle.nq_model.specs.Tables.{names_of, types_of}
 use Rattle.nq_model.specs.declared.table.Cell.{Cell}
+use Rattle.nq_model.specs.declared.table.Schema.{Schema}
 use Rattle.nq_model.specs.declared.table.TableShape.{TableShape}
 use Rattle.nq_edge.specs.Edge.{Files, bytes_at, IsLonger, TellsMore}
 use Rattle.sql_profile.specs.Servers.{table_names}
 use Rattle.sql_profile.specs.declared.server.Loaded.{Loaded}
-use Rattle.std.specs.Result.{result_ok}
-use Rattle.table_reader.specs.Tables.{table_of, rows_of}
+use Rattle.schema_reader.specs.declared.fault.SchemaFault.{SchemaFault}
 use Rattle.table_reader.specs.declared.TableFault.{TableFault}
-use Rattle.nq_top.specs.Judging.{Verdict, Judgement, refused, accepted, after, at_once, judged, fetched_then, built, loaded_as}
-use Rattle.nq_top.specs.Gathering.{Told, Judges, FetchedSome, FetchedUpTo, RefusalTells, GatherTells, FetchedWithin, FetchRefused, FetchNames, AreServable, CanGather}
+use Rattle.nq_top.specs.Judging.{Verdict, Judgement, refused, accepted, after, at_once, judged, fetched_then, SchemaReading, schema_said, query_said, table_said, loaded_as}
+use Rattle.nq_top.specs.Gathering.{Told, Judges, FetchedSome, FetchedUpTo, RefusalTells, GatherTells, FetchedWithin, FetchRefused, FetchNames, SchemaRefuses, RowsRefused, IsUnquoted, AreServable, CanGather}
 use Rattle.nq_top.specs.declared.gather.Gathered.{Gathered}
 use Rattle.nq_top.specs.declared.refusal.Refused.{Refused}
 use Rattle.nq_top.specs.declared.refusal.Refused.TheVariants.{TooLong, NotBuilt}
+use Rattle.nq_top.specs.declared.refusal.Refused.TheVariants as refusals
 use Rattle.nq_top.specs.declared.refusal.InputRefusal.{InputRefusal}
 use Rattle.nq_top.specs.declared.refusal.InputRefusal.TheVariants as input
 
@@ -92,14 +93,51 @@ fetch_refused files name limit next old new (input.Failed failed) says fetched =
     let P : List ℕ → Type 0 = λ n. TellsMore old new (n ∷ []) in
     record { front = []; back = names.0; all = names.1 ∙ ap (λ (n : List ℕ). n ∷ names.0) (sym says); fetched = subst P (sym says) fetched }
 
--- what is not of the form ends the judgement
-pub not_built : {T : Type 0} (o : Option T) (next : T → Judgement) → o ≡ None → built o next ≡ at_once (refused NotBuilt)
-not_built None next e = refl
-not_built (Some x) next e = absurd (cc)
+-- the query names no table of the schema
+pub query_refused : (o : Option ℕ) (next : ℕ → Judgement) → o ≡ None → query_said o next ≡ at_once (refused NotBuilt)
+query_refused None next e = refl
+query_refused (Some x) next e = absurd (cc)
 
-pub built_next : {T : Type 0} (o : Option T) (x : T) (next : T → Judgement) → o ≡ Some x → built o next ≡ next x
-built_next None x next e = absurd (cc)
-built_next (Some y) x next e = let same : y ≡ x = cc in ap next same
+pub query_next : (o : Option ℕ) (x : ℕ) (next : ℕ → Judgement) → o ≡ Some x → query_said o next ≡ next x
+query_next None x next e = absurd (cc)
+query_next (Some y) x next e = let same : y ≡ x = cc in ap next same
+
+-- the text spells this schema
+pub schema_next : (says : Result Schema SchemaFault) (schema : Schema) (next : Schema → Judgement) → says ≡ Ok schema → schema_said says next ≡ next schema
+schema_next says schema next e = ap (λ (r : Result Schema SchemaFault). schema_said r next) e
+
+-- the table text gives these rows
+pub table_next : (name : List ℕ) (given : Result (List (List Cell)) TableFault) (rows : List (List Cell)) (next : List (List Cell) → Judgement)
+    → given ≡ Ok rows → table_said name given next ≡ next rows
+table_next name given rows next e = ap (λ (r : Result (List (List Cell)) TableFault). table_said name r next) e
+
+-- a refused schema text is a refusal of the whole
+pub schema_refused : (says : Result Schema SchemaFault) (next : Schema → Judgement) (old new : Told) (r : InputRefusal)
+    → SchemaRefuses says r → new ≡ old → RefusalTells (schema_said says next) old new r
+schema_refused says next old new input.Memory refuses same =
+    record { front = []; back = (schema_said says next).names; all = refl; fetched = tells_nothing old new same }
+schema_refused says next old new (input.Refused refusals.Usage) refuses same = absurd refuses
+schema_refused says next old new (input.Refused (refusals.TooLong name limit)) refuses same = absurd refuses
+schema_refused says next old new (input.Refused (refusals.Schema fault)) refuses same =
+    let is : schema_said says next ≡ at_once (refused (refusals.Schema fault)) = ap (λ (r : Result Schema SchemaFault). schema_said r next) refuses in
+    record { comes_to = ap (λ (j : Judgement). j.verdict) is; fetched = rw is (tells_nothing old new same) }
+schema_refused says next old new (input.Refused refusals.NotBuilt) refuses same = absurd refuses
+schema_refused says next old new (input.Refused (refusals.Table name fault)) refuses same = absurd refuses
+schema_refused says next old new (input.Failed name) refuses same = absurd refuses
+
+-- and so is a refused table text
+pub table_refused : (given : Result (List (List Cell)) TableFault) (name : List ℕ) (next : List (List Cell) → Judgement) (old new : Told) (r : InputRefusal)
+    → RowsRefused given name r → new ≡ old → RefusalTells (table_said name given next) old new r
+table_refused given name next old new input.Memory refuses same =
+    record { front = []; back = (table_said name given next).names; all = refl; fetched = tells_nothing old new same }
+table_refused given name next old new (input.Refused refusals.Usage) refuses same = absurd refuses
+table_refused given name next old new (input.Refused (refusals.TooLong failed limit)) refuses same = absurd refuses
+table_refused given name next old new (input.Refused (refusals.Schema fault)) refuses same = absurd refuses
+table_refused given name next old new (input.Refused refusals.NotBuilt) refuses same = absurd refuses
+table_refused given name next old new (input.Refused (refusals.Table failed fault)) refuses same =
+    let is : table_said name given next ≡ at_once (refused (refusals.Table name fault)) = ap (λ (r : Result (List (List Cell)) TableFault). table_said name r next) refuses.1 in
+    record { comes_to = ap (λ (j : Judgement). j.verdict) is ∙ ap (λ (n : List ℕ). refused (refusals.Table n fault)) (sym refuses.0); fetched = rw is (tells_nothing old new same) }
+table_refused given name next old new (input.Failed failed) refuses same = absurd refuses
 
 -- one more table was read
 pub can_gather_more : (done : List Loaded) (shape : TableShape) (shapes : List TableShape) (asked : ℕ) (rows : List (List Cell))
@@ -109,7 +147,8 @@ can_gather_more done shape shapes asked rows can fit =
     let P : List (List ℕ) → Type 0 = AreDistinct in
     let names : table_names done ++ map (λ s. s.name) (shape ∷ shapes) ≡ table_names (done ++ table ∷ []) ++ map (λ s. s.name) shapes = sym (ap (λ (l : List (List ℕ)). l ++ map (λ s. s.name) shapes) (map-append (λ (t : Loaded). t.name) done (table ∷ [])) ∙ append_assoc (table_names done) (shape.name ∷ []) (map (λ s. s.name) shapes)) in
     record {
-      alone = let known = can.alone in omega (arith, length-append done (table ∷ []), known);
+      done_unquoted = All-push (λ (t : Loaded). IsUnquoted t.name) done table can.done_unquoted (All-head (λ (s : TableShape). IsUnquoted s.name) shape shapes can.unquoted);
+      unquoted = All-tail (λ (s : TableShape). IsUnquoted s.name) shape shapes can.unquoted;
       among = let known = can.among in omega (arith, length-append done (table ∷ []), known);
       names_differ = subst P names can.names_differ;
       columns_differ = All-tail (λ (s : TableShape). AreDistinct (names_of s.columns)) shape shapes can.columns_differ;
@@ -122,23 +161,11 @@ pub can_gather_all : (done : List Loaded) (asked : ℕ) → CanGather done [] as
 can_gather_all done asked can =
     let P : List (List ℕ) → Type 0 = AreDistinct in
     record {
-      alone = let known = can.alone in omega (arith, known);
+      unquoted = can.done_unquoted;
       among = let known = can.among in omega (arith, known);
       names_differ = subst P (append-nil (table_names done)) can.names_differ;
       columns_differ = can.done_differ;
       fit = can.done_fit;
     }
 
-pub ruleset gather_rules = (gather_after, refusal_after, fetch_next, fetch_refused, not_built, built_next, can_gather_more, can_gather_all, tells_nothing)
-
--- the rows of a table text that was read
-pub rows_read : (shape : TableShape) (text : List ℕ) (rows : List (List Cell)) → table_of shape text ≡ Ok rows → rows_of shape text ≡ Some rows
-unfolding rows_of
-rows_read shape text rows is = ap result_ok is
-
--- a table text with a fault gives none
-pub rows_refused : (shape : TableShape) (text : List ℕ) (fault : TableFault) → table_of shape text ≡ Err fault → rows_of shape text ≡ None
-unfolding rows_of
-rows_refused shape text fault is = ap result_ok is
-
-pub ruleset row_rules = (rows_read, rows_refused)
+pub ruleset gather_rules = (gather_after, refusal_after, fetch_next, fetch_refused, query_refused, query_next, schema_next, schema_refused, table_next, table_refused, can_gather_more, can_gather_all, tells_nothing)

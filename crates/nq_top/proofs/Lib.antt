@@ -1,5 +1,5 @@
 pub mod FirstForms
-pub mod Columns
+pub mod SchemaTexts
 pub mod Gathers
 pub mod Records
 pub mod Meaning

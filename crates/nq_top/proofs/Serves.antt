@@ -18,7 +18,7 @@ use Rattle.sql_profile.specs.Servers.{Asks, with_ask}
 use Rattle.sql_profile.specs.declared.answer.Answer.{Answer}
 use Rattle.sql_profile.specs.declared.server.Loaded.{Loaded}
 use Rattle.sql_profile.proofs.Misfits.{fits_without_misfit}
-use Rattle.sql_profile.proofs.ScanLaws.{allowed_of_one, allowed_fits}
+use Rattle.sql_profile.proofs.ScanLaws.{allowed_among, allowed_fits}
 use Rattle.nq_top.proofs.Loads.{can_load}
 use Rattle.nq_top.proofs.Meaning.{allowed_value}
 use Rattle.nq_top.specs.Gathering.{AreServable}
@@ -54,17 +54,11 @@ pub scan_among : (tables : List Loaded) (asked : ℕ) (table : Loaded) (text : L
 scan_among tables asked table text within is scan =
     record { table = table; among = (asked, within, sym is); scan = scan }
 
-only_one : (tables : List Loaded) (asked : ℕ) (table : Loaded) → length tables ≡ 1 → slice_get tables asked ≡ Some table → tables ≡ table ∷ []
-only_one [] asked table alone is = absurd (omega (arith, alone))
-only_one (t ∷ []) zero table alone is = let same : t ≡ table = cc in ap (λ (x : Loaded). x ∷ []) same
-only_one (t ∷ []) (suc asked) table alone is = absurd (cc)
-only_one (t ∷ u ∷ tables) asked table alone is = absurd (omega (arith, alone))
-
--- the rows that SQL allows to the scan text of the one table
-allowed_rows : (tables : List Loaded) (asked : ℕ) (table : Loaded) (text : List ℕ) (rows : List (List Cell)) → length tables ≡ 1 → slice_get tables asked ≡ Some table
-    → Allows tables text rows → Reordered (map (scan_row (names_of table.columns)) table.rows) rows
-allowed_rows tables asked table text rows alone is allows =
-    allowed_of_one table text rows (subst (λ (ts : List Loaded). Allows ts text rows) (only_one tables asked table alone is) allows)
+-- the rows that SQL allows to the scan text of a table
+allowed_rows : (tables : List Loaded) (asked : ℕ) (table : Loaded) (text : List ℕ) (rows : List (List Cell)) → AreServable tables asked → table ≡ get_or tables asked table
+    → text ≡ scan_text table.name table.columns → Allows tables text rows → Reordered (map (scan_row (names_of table.columns)) table.rows) rows
+allowed_rows tables asked table text rows servable is scan allows =
+    allowed_among tables table rows servable.names_differ servable.unquoted (asked, servable.among, sym is) (subst (λ (t : List ℕ). Allows tables t rows) scan allows)
 
 meaning_text : (tables : List Loaded) (asked : ℕ) (table : Loaded) (value : Nested) → slice_get tables asked ≡ Some table
     → canonical value ≡ canonical (table_value table.columns table.rows) → canonical_text value ≡ canonical_text (query_meaning tables asked)
@@ -99,7 +93,7 @@ serves_text tables asked table labels types question rows old new honest text se
       was_asked = record { is = at; holds = holds; told = told ∙ ap (λ (q : List ℕ). with_ask q (record { rows = rows }) old.asks) scan };
       fits = subst (λ (ts : List ColumnType). All (RowFits ts) rows) typed written.0;
       of_answer = of_answer;
-      of_meaning = λ h. of_answer ∙ meaning_text tables asked table (answer_value (names_of (by_label table.columns)) rows) at (allowed_value table.columns table.rows rows fit (allowed_rows tables asked table question rows servable.alone at (allows h)));
+      of_meaning = λ h. of_answer ∙ meaning_text tables asked table (answer_value (names_of (by_label table.columns)) rows) at (allowed_value table.columns table.rows rows fit (allowed_rows tables asked table question rows servable is scan (allows h)));
     }
 
 -- an answer that does not fit
@@ -120,7 +114,7 @@ answers_badly tables asked table types question rows old new honest number row c
       rows = rows;
       was_asked = record { is = at; holds = holds; told = told ∙ ap (λ (q : List ℕ). with_ask q (record { rows = rows }) old.asks) scan };
       misfit = misfit;
-      blamed = λ h. fits_without_misfit rows (scan_types table.columns) (record { row = row; column = column }) (allowed_fits table rows fit (allowed_rows tables asked table question rows servable.alone at (allows h))) misfit;
+      blamed = λ h. fits_without_misfit rows (scan_types table.columns) (record { row = row; column = column }) (allowed_fits table rows fit (allowed_rows tables asked table question rows servable is scan (allows h))) misfit;
     }
 
 -- the answer's text, or why there is none

@@ -145,4 +145,5 @@ pub comes_of : (held : Option Files) (tells : Files → Answer → Type 0) (note
 comes_of held tells notes_old notes_new before now status a is notes told = record { answer = a; is = is; notes = notes; told = told }
 
 pub ruleset status_rules = (inputs_at, output_at, server_at, puts_at, keeps_at, usage_at, blames_at, comes_of)
+
 pub ruleset main_rules = (inputs_at)

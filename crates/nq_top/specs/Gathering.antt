@@ -1,16 +1,20 @@
 -- What the gathering of inputs says of the calls and of what is held.
-use Rattle.std.specs.Prelude.{◌≡◌, ◌<◌, ◌≤◌, ◌+◌, ℕ, ⊤, List, [], ◌∷◌, ◌++◌, length, map, All, Option, Some, None, Result, Ok, Err}
+use Rattle.std.specs.Prelude.{◌≡◌, ◌<◌, ◌≤◌, ◌+◌, ℕ, ⊤, List, [], ◌∷◌, ◌++◌, length, map, All, Contains, Option, Some, None, Result, Ok, Err}
 use Rattle.nq_edge.specs.Edge.{Rose, TellsMore, IsLonger}
 use Rattle.nq_model.specs.Cells.{RowFits}
 use Rattle.nq_model.specs.Orders.{AreDistinct}
 use Rattle.nq_model.specs.Tables.{names_of, types_of}
+use Rattle.nq_model.specs.declared.table.Cell.{Cell}
+use Rattle.nq_model.specs.declared.table.Schema.{Schema}
 use Rattle.nq_model.specs.declared.table.TableShape.{TableShape}
 use Rattle.sql_profile.specs.Servers.{table_names}
 use Rattle.sql_profile.specs.declared.server.Loaded.{Loaded}
+use Rattle.schema_reader.specs.declared.fault.SchemaFault.{SchemaFault}
+use Rattle.table_reader.specs.declared.TableFault.{TableFault}
 use Rattle.nq_top.specs.Judging.{Judgement, Verdict, refused, accepted}
 use Rattle.nq_top.specs.declared.gather.Gathered.{Gathered}
 use Rattle.nq_top.specs.declared.refusal.Refused.{Refused}
-use Rattle.nq_top.specs.declared.refusal.Refused.TheVariants.{TooLong}
+use Rattle.nq_top.specs.declared.refusal.Refused.TheVariants.{Usage, TooLong, NotBuilt, Schema as SchemaRefused, Table as TableRefused}
 use Rattle.nq_top.specs.declared.refusal.InputRefusal.{InputRefusal}
 use Rattle.nq_top.specs.declared.refusal.InputRefusal.TheVariants as input
 
@@ -50,6 +54,34 @@ RefusalTells judgement old new input.Memory = FetchedSome judgement.names old ne
 RefusalTells judgement old new (input.Refused r) = Judges judgement (refused r) old new
 RefusalTells judgement old new (input.Failed name) = FetchedUpTo name judgement.names old new
 
+-- what the reading of a schema text says
+abbrev pub SchemaRefuses : Result Schema SchemaFault → InputRefusal → Type 0
+SchemaRefuses given input.Memory = ⊤
+SchemaRefuses given (input.Refused Usage) = ⊥
+SchemaRefuses given (input.Refused (TooLong failed limit)) = ⊥
+SchemaRefuses given (input.Refused (SchemaRefused fault)) = given ≡ Err fault
+SchemaRefuses given (input.Refused NotBuilt) = ⊥
+SchemaRefuses given (input.Refused (TableRefused failed fault)) = ⊥
+SchemaRefuses given (input.Failed failed) = ⊥
+
+abbrev pub SchemaSays : Result Schema SchemaFault → Result Schema InputRefusal → Type 0
+SchemaSays given (Ok schema) = given ≡ Ok schema
+SchemaSays given (Err r) = SchemaRefuses given r
+
+-- what the reading of a table text says
+abbrev pub RowsRefused : Result (List (List Cell)) TableFault → List ℕ → InputRefusal → Type 0
+RowsRefused given name input.Memory = ⊤
+RowsRefused given name (input.Refused Usage) = ⊥
+RowsRefused given name (input.Refused (TooLong failed limit)) = ⊥
+RowsRefused given name (input.Refused (SchemaRefused fault)) = ⊥
+RowsRefused given name (input.Refused NotBuilt) = ⊥
+RowsRefused given name (input.Refused (TableRefused failed fault)) = (failed ≡ name) × (given ≡ Err fault)
+RowsRefused given name (input.Failed failed) = ⊥
+
+abbrev pub RowsSay : Result (List (List Cell)) TableFault → List ℕ → Result (List (List Cell)) InputRefusal → Type 0
+RowsSay given name (Ok rows) = given ≡ Ok rows
+RowsSay given name (Err r) = RowsRefused given name r
+
 abbrev pub GatherTells : Judgement → Told → Told → Result Gathered InputRefusal → Type 0
 GatherTells judgement old new (Ok gathered) = Judges judgement (accepted gathered.tables gathered.asked) old new
 GatherTells judgement old new (Err r) = RefusalTells judgement old new r
@@ -75,9 +107,13 @@ FetchNames name old new (Err input.Memory) = new ≡ old
 FetchNames name old new (Err (input.Refused r)) = TellsMore old new (name ∷ [])
 FetchNames name old new (Err (input.Failed failed)) = TellsMore old new (name ∷ [])
 
--- the tables, of which there is one, may be loaded one after the other, and one of them is asked for
+-- a name without a double quote
+abbrev pub IsUnquoted : List ℕ → Type 0
+IsUnquoted name = Contains name 34 → ⊥
+
+-- the tables may be loaded one after the other, and one of them may be asked for by its name
 pub record AreServable (tables : List Loaded) (asked : ℕ) : Type 0 where
-  pub alone : length tables ≡ 1
+  pub unquoted : All (λ table. IsUnquoted table.name) tables
   pub among : asked < length tables
   pub names_differ : AreDistinct (table_names tables)
   pub columns_differ : All (λ table. AreDistinct (names_of table.columns)) tables
@@ -85,7 +121,8 @@ pub record AreServable (tables : List Loaded) (asked : ℕ) : Type 0 where
 
 -- tables that were read and shapes that are still to be read make tables that may be loaded
 pub record CanGather (done : List Loaded) (shapes : List TableShape) (asked : ℕ) : Type 0 where
-  pub alone : length done + length shapes ≡ 1
+  pub done_unquoted : All (λ table. IsUnquoted table.name) done
+  pub unquoted : All (λ shape. IsUnquoted shape.name) shapes
   pub among : asked < length done + length shapes
   pub names_differ : AreDistinct (table_names done ++ map (λ shape. shape.name) shapes)
   pub columns_differ : All (λ shape. AreDistinct (names_of shape.columns)) shapes

@@ -1,6 +1,5 @@
 pub mod Commands
 pub mod FirstForm
-pub mod FirstFormSteps
 pub mod Words
 pub mod Refusals
 pub mod Judging

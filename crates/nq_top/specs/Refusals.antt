@@ -1,5 +1,9 @@
 -- The status and the note line of a refusal.
 use Rattle.std.specs.Prelude.{ℕ, List, ◌++◌, codes, decimal, Result, Ok, Err}
+use Rattle.schema_reader.specs.declared.fault.SchemaFault.{SchemaFault}
+use Rattle.schema_reader.specs.declared.fault.SchemaFault.TheVariants as schema
+use Rattle.table_reader.specs.declared.TableFault.{TableFault}
+use Rattle.table_reader.specs.declared.TableFault.TheVariants as table
 use Rattle.nq_top.specs.declared.refusal.Refused.{Refused}
 use Rattle.nq_top.specs.declared.refusal.Refused.TheVariants as refused
 use Rattle.nq_top.specs.declared.refusal.InputRefusal.{InputRefusal}
@@ -12,7 +16,9 @@ use Rattle.nq_top.specs.declared.refusal.Refusal.TheVariants as refusal
 abbrev pub refused_status : Refused → ℕ
 refused_status refused.Usage = 2
 refused_status (refused.TooLong name limit) = 10
+refused_status (refused.Schema fault) = 3
 refused_status refused.NotBuilt = 13
+refused_status (refused.Table name fault) = 6
 
 abbrev pub input_status : InputRefusal → ℕ
 input_status input.Memory = 1
@@ -38,10 +44,41 @@ status_of (Err r) = refusal_status r
 abbrev pub memory_note : List ℕ
 memory_note = codes "nq: want of memory\n"
 
+-- the line of a fault of a schema text; want of memory is none
+abbrev pub schema_fault_note : List ℕ → ℕ → List ℕ
+schema_fault_note fault place = codes "nq: schema refused: " ++ (fault ++ (codes " at " ++ (decimal place ++ codes "\n")))
+
+abbrev pub schema_note : SchemaFault → List ℕ
+schema_note schema.Memory = memory_note
+schema_note (schema.NotUtf8 place) = schema_fault_note (codes "NotUtf8") place
+schema_note (schema.Syntax place) = schema_fault_note (codes "Syntax") place
+schema_note (schema.TwiceTable place) = schema_fault_note (codes "TwiceTable") place
+schema_note (schema.TwiceColumn place) = schema_fault_note (codes "TwiceColumn") place
+schema_note (schema.NoColumn place) = schema_fault_note (codes "NoColumn") place
+schema_note (schema.KeyColumn place) = schema_fault_note (codes "KeyColumn") place
+schema_note (schema.OverLimit place) = schema_fault_note (codes "OverLimit") place
+
+-- the line of a fault of a table text with two numbers, each after its words
+abbrev pub table_fault_note : List ℕ → List ℕ → ℕ → List ℕ → ℕ → List ℕ
+table_fault_note name words first more second =
+    codes "nq: table " ++ (name ++ (words ++ (decimal first ++ (more ++ (decimal second ++ codes "\n")))))
+
+-- the line of a fault of a table text; want of memory is none
+abbrev pub table_note : List ℕ → TableFault → List ℕ
+table_note name table.Memory = memory_note
+table_note name table.Header = codes "nq: table " ++ (name ++ codes " refused: Header\n")
+table_note name (table.Width row) = codes "nq: table " ++ (name ++ (codes " refused: Width row " ++ (decimal row ++ codes "\n")))
+table_note name (table.NotUtf8 row column) = table_fault_note name (codes " refused: NotUtf8 row ") row (codes " column ") column
+table_note name (table.BadInt row column) = table_fault_note name (codes " refused: BadInt row ") row (codes " column ") column
+table_note name (table.BadBool row column) = table_fault_note name (codes " refused: BadBool row ") row (codes " column ") column
+table_note name (table.TwiceKey row earlier) = table_fault_note name (codes " refused: TwiceKey row ") row (codes " earlier ") earlier
+
 abbrev pub refused_note : Refused → List ℕ
 refused_note refused.Usage = codes "nq: usage\n"
 refused_note (refused.TooLong name limit) = codes "nq: input too long: " ++ (name ++ (codes " over " ++ (decimal limit ++ codes "\n")))
+refused_note (refused.Schema fault) = schema_note fault
 refused_note refused.NotBuilt = codes "nq: not built\n"
+refused_note (refused.Table name fault) = table_note name fault
 
 abbrev pub input_note : InputRefusal → List ℕ
 input_note input.Memory = memory_note

@@ -6,16 +6,17 @@ ghost use Rattle.nq_model.specs.Tables.{names_of, types_of};
 ghost use Rattle.nq_edge.specs.Edge.{bytes_at};
 ghost use Rattle.sql_profile.specs.Servers.{table_names};
 ghost use Rattle.nq_top.specs.Commands.{command_of, file_of};
-ghost use Rattle.nq_top.specs.FirstForm.{first_schema, is_first_query};
-ghost use Rattle.table_reader.specs.Tables.{rows_of};
-ghost use Rattle.nq_top.specs.Judging.{Judgement, judgement, schema_judged, query_judged, tables_judged, asked_place, loaded_as};
-ghost use Rattle.nq_top.specs.Gathering.{InputCounts, GatherTells, RefusalTells, FetchSays, FetchNames, AreServable, CanGather};
+ghost use Rattle.nq_top.specs.FirstForm.{is_first_query};
+ghost use Rattle.table_reader.specs.Tables.{table_of};
+ghost use Rattle.nq_top.specs.Judging.{SchemaReading, Judgement, judgement, schema_judged, query_judged, tables_judged, asked_place, loaded_as};
+ghost use Rattle.nq_top.specs.Gathering.{InputCounts, GatherTells, RefusalTells, FetchSays, FetchNames, RowsSay, SchemaSays, IsUnquoted, AreServable, CanGather};
 
-use crate::first_form::{first_schema, is_first_query};
+use crate::first_form::{is_table_query, query_pieces};
 use crate::refusal::{InputRefusal, Refused};
 use crate::words::command_of;
 use nq_edge::{FetchFault, Inputs};
-use nq_model::{Cell, ColumnType, Label, List, Memory, TableShape, Text};
+use nq_model::{Cell, ColumnType, Label, List, Memory, Schema, TableShape, Text};
+use schema_reader::{SchemaFault, read_schema};
 use sql_profile::Loaded;
 use std::alloc::Global;
 use table_reader::{TableFault, read_table};
@@ -89,20 +90,22 @@ fn loaded_as(alloc: Global, shape: &TableShape, rows: List<List<Cell>>) -> Resul
     })
 }
 
-// The rows that a table text gives, if it is without fault. The text is given up once it was read.
-#[tactic(auto, using(crate::proofs::Gathers::row_rules))]
+// The rows that a table text gives, or its fault. The text is given up once it was read.
 fn read_rows(
     alloc: Global,
     shape: &TableShape,
     text: List<u8>,
-) -> Result<Option<List<List<Cell>>>, Memory>
-    ensures given { IfOk result (λ rows. rows ≡ rows_of shape.now text) }
-    ensures fit { IfOk result (λ rows. IfSome rows (All (RowFits (types_of shape.now.columns)))) }
+) -> Result<List<List<Cell>>, InputRefusal>
+    ensures says { RowsSay (table_of shape.now text) shape.now.name result }
+    ensures fit { IfOk result (All (RowFits (types_of shape.now.columns))) }
 {
     match read_table(alloc, shape, text.as_slice()) {
-        Ok(table) => Ok(Some(table.rows)),
-        Err(TableFault::Memory) => Err(Memory),
-        Err(_) => Ok(None),
+        Ok(table) => Ok(table.rows),
+        Err(TableFault::Memory) => Err(InputRefusal::Memory),
+        Err(fault) => {
+            let name = shape.name.copy(alloc)?;
+            Err(InputRefusal::Refused(Refused::Table(name, fault)))
+        }
     }
 }
 
@@ -153,13 +156,9 @@ fn gather_tables<I: Inputs>(
     let name = file_of(alloc, folder, shape.name.as_str())?;
     let text = fetch_input(alloc, inputs, name, left)?;
     let rest = left - text.len() as u64;
-    match read_rows(alloc, shape, text)? {
-        Some(rows) => {
-            let tables = with_table(alloc, done, shape, later, asked, rows)?;
-            gather_tables(alloc, inputs, folder, later, rest, tables, asked)
-        }
-        None => Err(InputRefusal::Refused(Refused::NotBuilt)),
-    }
+    let rows = read_rows(alloc, shape, text)?;
+    let tables = with_table(alloc, done, shape, later, asked, rows)?;
+    gather_tables(alloc, inputs, folder, later, rest, tables, asked)
 }
 
 // The place of the table that a query of the first form names.
@@ -168,8 +167,9 @@ fn asked_place(alloc: Global, shapes: &[TableShape], text: &[u8]) -> Result<Opti
     ensures place { IfOk result (λ place. place ≡ asked_place shapes.now text.now) }
     ensures within { IfOk result (λ place. IfSome place (λ at. at < length shapes.now)) }
 {
+    let found = query_pieces(alloc, text)?;
     for (place, shape) in shapes.iter().enumerate() {
-        if is_first_query(alloc, shape.name.as_str(), text)? {
+        if is_table_query(shape.name.as_str(), found.as_slice()) {
             return Ok(Some(place));
         }
     }
@@ -185,7 +185,7 @@ fn gather_query<I: Inputs>(
     folder: &str,
     shapes: &[TableShape],
 ) -> Result<Gathered, InputRefusal>
-    requires alone { length shapes.now ≡ 1 }
+    requires unquoted { All (λ shape. IsUnquoted shape.name) shapes.now }
     requires differ { AreDistinct (map (λ shape. shape.name) shapes.now) }
     requires columns_differ { All (λ shape. AreDistinct (names_of shape.columns)) shapes.now }
     ensures counts { InputCounts (I.faults inputs.old) (I.faults inputs.new) result }
@@ -205,6 +205,22 @@ fn gather_query<I: Inputs>(
     }
 }
 
+// The schema that a text spells, or its fault. The text is given up once it was read.
+#[tactic(auto, using(crate::proofs::SchemaTexts::schema_rules))]
+fn read_found(alloc: Global, text: List<u8>) -> Result<Schema, InputRefusal>
+    ensures says { (reading : SchemaReading) → SchemaSays (reading.says text) result }
+    ensures differ { IfOk result (λ found. AreDistinct (map (λ shape. shape.name) found.tables)) }
+    ensures columns_differ { IfOk result (λ found. All (λ shape. AreDistinct (names_of shape.columns)) found.tables) }
+    ensures unquoted { IfOk result (λ found. All (λ shape. IsUnquoted shape.name) found.tables) }
+    ensures listed { result ≢ Err (InputRefusal.Refused Refused.Usage) }
+{
+    match read_schema(alloc, text.as_slice()) {
+        Ok(schema) => Ok(schema),
+        Err(SchemaFault::Memory) => Err(InputRefusal::Memory),
+        Err(fault) => Err(InputRefusal::Refused(Refused::Schema(fault))),
+    }
+}
+
 // Reads the schema, and then the other inputs.
 #[tactic(auto, using(crate::proofs::Gathers::gather_rules))]
 fn gather_schema<I: Inputs>(
@@ -218,14 +234,12 @@ fn gather_schema<I: Inputs>(
     ensures listed { result ≢ Err (InputRefusal.Refused Refused.Usage) }
     ensures servable { IfOk result (λ gathered. AreServable gathered.tables gathered.asked) }
     ensures tells { IfSome (I.held inputs.old) (λ files.
-        GatherTells (schema_judged files schema.now query.now folder.now) (I.fetched inputs.old) (I.fetched inputs.new) result) }
+        (reading : SchemaReading) → GatherTells (schema_judged reading files schema.now query.now folder.now) (I.fetched inputs.old) (I.fetched inputs.new) result) }
 {
     let name = Text::from_str(alloc, schema)?;
     let text = fetch_input(alloc, inputs, name, TEXT_LIMIT)?;
-    match first_schema(alloc, text.as_slice())? {
-        Some(shape) => gather_query(alloc, inputs, query, folder, &[shape]),
-        None => Err(InputRefusal::Refused(Refused::NotBuilt)),
-    }
+    let found = read_found(alloc, text)?;
+    gather_query(alloc, inputs, query, folder, found.tables.as_slice())
 }
 
 /// Reads the inputs of the command that words are: the schema, the query, and the text of each table in
@@ -241,7 +255,7 @@ pub fn gather<I: Inputs>(
         ↔ (command_of (map (λ word. string_bytes word) words.now) ≡ None) }
     ensures servable { IfOk result (λ gathered. AreServable gathered.tables gathered.asked) }
     ensures tells { IfSome (I.held inputs.old) (λ files.
-        GatherTells (judgement (map (λ word. string_bytes word) words.now) files) (I.fetched inputs.old) (I.fetched inputs.new) result) }
+        (reading : SchemaReading) → GatherTells (judgement reading (map (λ word. string_bytes word) words.now) files) (I.fetched inputs.old) (I.fetched inputs.new) result) }
 {
     match command_of(words) {
         Some(command) => gather_schema(

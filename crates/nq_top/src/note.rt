@@ -1,11 +1,13 @@
 // The note line of an answer, put in pieces, which takes no memory.
 ghost use Rattle.nq_edge.specs.Lines.{PutsLine};
-ghost use Rattle.nq_top.specs.Refusals.{refused_note, input_note, server_note, note_of};
+ghost use Rattle.nq_top.specs.Refusals.{schema_fault_note, schema_note, table_fault_note, table_note, refused_note, input_note, server_note, note_of};
 ghost use Rattle.nq_top.specs.Noting.{Notes};
 
 use crate::refusal::{InputRefusal, Refusal, Refused, ServerRefusal};
 use itoa::Buffer;
 use nq_edge::{Sink, put_five, put_one, put_seven, put_three};
+use schema_reader::SchemaFault;
+use table_reader::TableFault;
 
 // Puts that an input is too long.
 fn put_too_long<N: Sink>(notes: &mut N, name: &[u8], limit: u64)
@@ -24,6 +26,130 @@ fn put_too_long<N: Sink>(notes: &mut N, name: &[u8], limit: u64)
     );
 }
 
+// Puts that a schema text has a fault at a place.
+fn put_schema_fault<N: Sink>(notes: &mut N, fault: &[u8], place: u64)
+    ensures { PutsLine (N.written notes.old) (N.written notes.new) (N.faults notes.old) (N.faults notes.new)
+        (schema_fault_note fault.now place) }
+{
+    let mut digits = Buffer::new();
+    let place = digits.format(place).as_bytes();
+    put_five(notes, b"nq: schema refused: ", fault, b" at ", place, b"\n");
+}
+
+// Puts the fault of a schema text.
+fn put_schema<N: Sink>(notes: &mut N, fault: &SchemaFault)
+    ensures { PutsLine (N.written notes.old) (N.written notes.new) (N.faults notes.old) (N.faults notes.new)
+        (schema_note fault.now) }
+{
+    match *fault {
+        SchemaFault::Memory => put_one(notes, b"nq: want of memory\n"),
+        SchemaFault::NotUtf8 { place } => put_schema_fault(notes, b"NotUtf8", place),
+        SchemaFault::Syntax { place } => put_schema_fault(notes, b"Syntax", place),
+        SchemaFault::TwiceTable { place } => put_schema_fault(notes, b"TwiceTable", place),
+        SchemaFault::TwiceColumn { place } => put_schema_fault(notes, b"TwiceColumn", place),
+        SchemaFault::NoColumn { place } => put_schema_fault(notes, b"NoColumn", place),
+        SchemaFault::KeyColumn { place } => put_schema_fault(notes, b"KeyColumn", place),
+        SchemaFault::OverLimit { place } => put_schema_fault(notes, b"OverLimit", place),
+    }
+}
+
+// Puts that a row of a table text has another number of cells.
+fn put_width<N: Sink>(notes: &mut N, name: &[u8], row: u64)
+    ensures { PutsLine (N.written notes.old) (N.written notes.new) (N.faults notes.old) (N.faults notes.new)
+        (table_note name.now (TableFault.Width row)) }
+{
+    let mut digits = Buffer::new();
+    let row = digits.format(row).as_bytes();
+    put_five(
+        notes,
+        b"nq: table ",
+        name,
+        b" refused: Width row ",
+        row,
+        b"\n",
+    );
+}
+
+// Puts that a table text has a fault with two numbers, each after its words.
+fn put_table_fault<N: Sink>(
+    notes: &mut N,
+    name: &[u8],
+    words: &[u8],
+    first: u64,
+    more: &[u8],
+    second: u64,
+)
+    ensures { PutsLine (N.written notes.old) (N.written notes.new) (N.faults notes.old) (N.faults notes.new)
+        (table_fault_note name.now words.now first more.now second) }
+{
+    let mut first_digits = Buffer::new();
+    let mut second_digits = Buffer::new();
+    let first = first_digits.format(first).as_bytes();
+    let second = second_digits.format(second).as_bytes();
+    put_seven(
+        notes,
+        b"nq: table ",
+        name,
+        words,
+        first,
+        more,
+        second,
+        b"\n",
+    );
+}
+
+// Puts the fault of a table text.
+fn put_table<N: Sink>(notes: &mut N, name: &[u8], fault: &TableFault)
+    ensures { PutsLine (N.written notes.old) (N.written notes.new) (N.faults notes.old) (N.faults notes.new)
+        (table_note name.now fault.now) }
+{
+    match *fault {
+        TableFault::Memory => put_one(notes, b"nq: want of memory\n"),
+        TableFault::Header => put_three(notes, b"nq: table ", name, b" refused: Header\n"),
+        TableFault::Width { row } => put_width(notes, name, row),
+        TableFault::NotUtf8 { row, column } => {
+            put_table_fault(
+                notes,
+                name,
+                b" refused: NotUtf8 row ",
+                row,
+                b" column ",
+                column,
+            );
+        }
+        TableFault::BadInt { row, column } => {
+            put_table_fault(
+                notes,
+                name,
+                b" refused: BadInt row ",
+                row,
+                b" column ",
+                column,
+            );
+        }
+        TableFault::BadBool { row, column } => {
+            put_table_fault(
+                notes,
+                name,
+                b" refused: BadBool row ",
+                row,
+                b" column ",
+                column,
+            );
+        }
+        TableFault::TwiceKey { row, earlier } => {
+            put_table_fault(
+                notes,
+                name,
+                b" refused: TwiceKey row ",
+                row,
+                b" earlier ",
+                earlier,
+            );
+        }
+    }
+}
+
 // Puts what the words and the inputs are refused for.
 fn put_refused<N: Sink>(notes: &mut N, refused: &Refused)
     ensures { PutsLine (N.written notes.old) (N.written notes.new) (N.faults notes.old) (N.faults notes.new)
@@ -34,7 +160,9 @@ fn put_refused<N: Sink>(notes: &mut N, refused: &Refused)
         Refused::TooLong(name, limit) => {
             put_too_long(notes, name.as_str().as_bytes(), *limit);
         }
+        Refused::Schema(fault) => put_schema(notes, fault),
         Refused::NotBuilt => put_one(notes, b"nq: not built\n"),
+        Refused::Table(name, fault) => put_table(notes, name.as_str().as_bytes(), fault),
     }
 }
 

@@ -1,5 +1,7 @@
 // Why a command gives no text.
 use nq_model::{Label, Memory, Text};
+use schema_reader::SchemaFault;
+use table_reader::TableFault;
 
 /// What the words and the inputs are refused for.
 #[derive(Drop)]
@@ -8,8 +10,12 @@ pub enum Refused {
     Usage,
     /// The input of this name has more bytes than this limit.
     TooLong(Text, u64),
-    /// The schema, the query or the table text is not of a form that is built.
+    /// The bytes of the schema spell none.
+    Schema(SchemaFault),
+    /// The query is not of a form that is built.
     NotBuilt,
+    /// The text of the table of this name is refused.
+    Table(Label, TableFault),
 }
 
 /// Why no inputs were gathered.

@@ -1,7 +1,7 @@
 // A whole run, but for its note.
 ghost use Rattle.std.specs.Prelude.{◌≡◌, ◌↔◌, [], List, ℕ, map, None, Err, IfSome, string_bytes};
 ghost use Rattle.nq_top.specs.Commands.{command_of};
-ghost use Rattle.nq_top.specs.Judging.{judgement};
+ghost use Rattle.nq_top.specs.Judging.{SchemaReading, judgement};
 ghost use Rattle.nq_top.specs.Serving.{StaysHonest, ServeTells};
 ghost use Rattle.nq_top.specs.Running.{InputCount, OutputCount, ServerCount, PutsOnly, Keeps, Blames, Tells};
 
@@ -34,11 +34,11 @@ pub fn run<I: Inputs, O: Sink>(
     ensures constants { StaysHonest (honest server.old) (honest server.new)
         (bound server.old) (bound server.new) (asks server.old) (asks server.new) }
     ensures blames { Blames (honest server.old) result }
-    ensures tells { IfSome (I.held inputs.old) (λ files. Tells
+    ensures tells { IfSome (I.held inputs.old) (λ files. (reading : SchemaReading) → Tells
         (λ tables asked. ServeTells tables asked
         (record { loaded = loaded server.old; asks = asks server.old }) (record { loaded = loaded server.new; asks = asks server.new })
         (honest server.old))
-        (judgement (map (λ word. string_bytes word) words.now) files)
+        (judgement reading (map (λ word. string_bytes word) words.now) files)
         (I.fetched inputs.old) (I.fetched inputs.new) (O.written out.old) (O.written out.new) result) }
 {
     let gathered = gather(alloc, words, inputs)?;

@@ -3,7 +3,7 @@ ghost use Rattle.std.specs.Prelude.{◌≡◌, ◌<◌, ◌↔◌, ◌⊎◌, []
 ghost use Rattle.nq_edge.specs.Edge.{Rose};
 ghost use Rattle.sql_profile.specs.Servers.{RoseBelow};
 ghost use Rattle.nq_top.specs.Commands.{command_of};
-ghost use Rattle.nq_top.specs.Judging.{judgement};
+ghost use Rattle.nq_top.specs.Judging.{SchemaReading, judgement};
 ghost use Rattle.nq_top.specs.Refusals.{status_of};
 ghost use Rattle.nq_top.specs.Serving.{StaysHonest, ServeTells};
 ghost use Rattle.nq_top.specs.Running.{RoseAt, ServerRoseAt, PutsAt, KeepsAt, Tells, Means, Comes, Completes, IsFair};
@@ -22,7 +22,9 @@ fn refused_status(refused: &Refused) -> u8
     match refused {
         Refused::Usage => 2,
         Refused::TooLong(..) => 10,
+        Refused::Schema(_) => 3,
         Refused::NotBuilt => 13,
+        Refused::Table(..) => 6,
     }
 }
 
@@ -75,15 +77,15 @@ pub fn nq_lent<I: Inputs, O: Sink, N: Sink>(
         (bound server.old) (bound server.new) (asks server.old) (asks server.new) }
     ensures blames { result ≡ 11 → honest server.old ≡ true → ⊥ }
     ensures comes { Comes (I.held inputs.old)
-        (λ files. Tells
+        (λ files answer. (reading : SchemaReading) → Tells
         (λ tables asked. ServeTells tables asked
         (record { loaded = loaded server.old; asks = asks server.old }) (record { loaded = loaded server.new; asks = asks server.new })
         (honest server.old))
-        (judgement (map (λ word. string_bytes word) words.now) files)
-        (I.fetched inputs.old) (I.fetched inputs.new) (O.written out.old) (O.written out.new))
+        (judgement reading (map (λ word. string_bytes word) words.now) files)
+        (I.fetched inputs.old) (I.fetched inputs.new) (O.written out.old) (O.written out.new) answer)
         (N.written notes.old) (N.written notes.new) (N.faults notes.old) (N.faults notes.new) result }
-    ensures completes { IfSome (I.held inputs.old) (λ files. Completes
-        (judgement (map (λ word. string_bytes word) words.now) files)
+    ensures completes { IfSome (I.held inputs.old) (λ files. (reading : SchemaReading) → Completes
+        (judgement reading (map (λ word. string_bytes word) words.now) files)
         (Rose (I.faults inputs.old) (I.faults inputs.new) ⊎ (Rose (O.faults out.old) (O.faults out.new)
         ⊎ RoseBelow (bound server.old) (failures server.old) (failures server.new)))
         (IsFair (honest server.old) (asks server.old) (asks server.new)) result) }
@@ -116,12 +118,12 @@ pub fn nq_main<I: Inputs, O: Sink, N: Sink>(
     ensures puts { PutsAt (O.written out.old) (O.written out.new) result }
     ensures blames { result ≡ 11 → honest server ≡ true → ⊥ }
     ensures comes { Comes (I.held inputs.old)
-        (λ files. Tells (Means (honest server))
-        (judgement (map (λ word. string_bytes word) words.now) files)
-        (I.fetched inputs.old) (I.fetched inputs.new) (O.written out.old) (O.written out.new))
+        (λ files answer. (reading : SchemaReading) → Tells (Means (honest server))
+        (judgement reading (map (λ word. string_bytes word) words.now) files)
+        (I.fetched inputs.old) (I.fetched inputs.new) (O.written out.old) (O.written out.new) answer)
         (N.written notes.old) (N.written notes.new) (N.faults notes.old) (N.faults notes.new) result }
-    ensures completes { IfSome (I.held inputs.old) (λ files. Completes
-        (judgement (map (λ word. string_bytes word) words.now) files)
+    ensures completes { IfSome (I.held inputs.old) (λ files. (reading : SchemaReading) → Completes
+        (judgement reading (map (λ word. string_bytes word) words.now) files)
         (Rose (I.faults inputs.old) (I.faults inputs.new) ⊎ Rose (O.faults out.old) (O.faults out.new))
         (λ tables asked. (failures server ≡ bound server) × (honest server ≡ true)) result) }
 {
