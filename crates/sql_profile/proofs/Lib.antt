@@ -2,3 +2,4 @@ pub mod Misfits
 pub mod ScanTexts
 pub mod ScanRows
 pub mod ScanLaws
+pub mod ScanNames

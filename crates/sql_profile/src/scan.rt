@@ -1,10 +1,12 @@
 // The text that asks for all rows of a table.
-ghost use Rattle.std.specs.Prelude.{◌≡◌, [], ◌∷◌, ◌++◌, ℕ, List, All, OnOk, IfOk, codes, map};
+ghost use Rattle.std.specs.Prelude.{◌≡◌, [], ◌∷◌, ◌++◌, ℕ, List, All, Contains, OnOk, IfOk, codes, map};
 ghost use Rattle.nq_model.specs.Bags.{Reordered};
 ghost use Rattle.nq_model.specs.Cells.{RowFits};
+ghost use Rattle.nq_model.specs.Orders.{AreDistinct};
 ghost use Rattle.nq_model.specs.Tables.{names_of, types_of};
 ghost use Rattle.nq_model.specs.declared.table.Cell.{Cell};
 ghost use Rattle.sql_profile.specs.Scans.{Allows, IsScan, item_of, joined, scan_items, scan_row, scan_text, scan_types};
+ghost use Rattle.sql_profile.specs.Servers.{table_names};
 ghost use Rattle.sql_profile.specs.declared.server.Loaded.{Loaded};
 
 use nq_model::{ColumnType, Label, List, Memory, label_order};
@@ -48,11 +50,16 @@ pub fn scan_text(
 }
 
 /// Over the one table that is held, its scan text may be asked, the answers that SQL allows are its rows,
-/// and they fit the columns of the answer.
+/// and they fit the columns of the answer. Over several tables of distinct names with no double quote,
+/// the answers that SQL allows to the scan text of one are the rows of that very table.
 pub fn scan_laws()
     ensures asked { (table : Loaded) → IsScan (table ∷ []) (scan_text table.name table.columns) }
     ensures answered { (table : Loaded) (text : List ℕ) (rows : List (List Cell))
         → Allows (table ∷ []) text rows → Reordered (map (scan_row (names_of table.columns)) table.rows) rows }
+    ensures answered_among { (tables : List Loaded) (table : Loaded) (rows : List (List Cell))
+        → AreDistinct (table_names tables) → All (λ t. Contains t.name 34 → ⊥) tables → Contains tables table
+        → Allows tables (scan_text table.name table.columns) rows
+        → Reordered (map (scan_row (names_of table.columns)) table.rows) rows }
     ensures fitting { (table : Loaded) (rows : List (List Cell)) → All (RowFits (types_of table.columns)) table.rows
         → Reordered (map (scan_row (names_of table.columns)) table.rows) rows → All (RowFits (scan_types table.columns)) rows }
 {}
