@@ -9,8 +9,8 @@ use crate::order::compare;
 use nq_model::{Label, List, Memory, Value};
 use std::alloc::Global;
 
-/// The canonical form of the value: each bag in canonical order, at every depth. The value is taken
-/// apart and its parts are moved, so that it is gone where memory wants.
+/// The canonical form of the value: each bag in canonical order, at every depth. The value's parts are
+/// moved and not copied. The only error is that memory wants, and the value is gone then too.
 #[cycle(sort)]
 pub fn sort_deep(alloc: Global, value: Value) -> Result<Value, Memory>
     ensures { IfOk result (λ sorted. nested sorted ≡ canonical (nested value)) }

@@ -12,7 +12,7 @@ use std::alloc::Global;
 
 /// The text of the value as it stands, and a newline: records as `(a = V, b = W)`, bags as `{V, W}`,
 /// texts between single quotes, with each single quote doubled. Of a value that is sorted at every depth
-/// this is the canonical text.
+/// this is the canonical text. The only error is that memory wants.
 pub fn write(alloc: Global, value: &Value) -> Result<List<u8>, Memory>
     ensures text { IfOk result (λ text. text ≡ written (nested value.now) ++ codes "\n") }
     ensures canonical { IfOk result (λ text. IsSortedDeep (nested value.now) → text ≡ canonical_text (nested value.now)) }

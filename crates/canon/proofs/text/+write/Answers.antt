@@ -1,5 +1,4 @@
-use Rattle.std.proofs.Common.{◌≡◌, ◌++◌, sym, ◌∙◌, ap, List, ℕ, append_assoc, codes, arith, append-nil, string_bytes}
-use Rattle.nq_model.specs.Values.{nested}
+use Rattle.std.proofs.Common.{arith}
 use Rattle.canon.proofs.Writing.{appended, three_pieces, elements_more, fields_more}
 use Rattle.canon.proofs.text.+write.Goals as goal
 

@@ -1,6 +1,5 @@
-use Rattle.std.proofs.Common.{rules, ◌≡◌, ◌++◌, sym, ◌∙◌, ap, lit<, List, ℕ, append_assoc, codes}
+use Rattle.std.proofs.Common.{rules, lit<}
 use Rattle.std.proofs.lemmas.Str.Pattern.{split_parts}
-use Rattle.nq_model.specs.Canonical.{doubled_quotes}
 use Rattle.canon.proofs.Writing.{quote_written, quoted_ends}
 use Rattle.canon.proofs.text.write_quoted.Goals as goal
 
