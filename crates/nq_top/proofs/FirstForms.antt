@@ -1,14 +1,9 @@
 -- The pieces of a text, from the front.
 use Rattle.std.proofs.Common.{◌≡◌, ◌<◌, ◌≤◌, ◌+◌, ℕ, zero, suc, Bool, true, false, List, [], ◌∷◌, ◌++◌, length, take, drop, cond, refl, sym, ap, ◌∙◌, arith, ◌&&◌, nat_le, true≢false, slice_index, drop-cons, ◌≢◌, ◌||◌, not}
-use Rattle.std.specs.List.{prefix_len, list_any, AllByRecursion as Each}
-use Rattle.std.proofs.lemmas.Slice.Eq.{bytes_eq-Decides}
-use Rattle.nq_model.specs.Orders.{AreDistinct}
-use Rattle.nq_model.specs.Tables.{Columns, names_of}
+use Rattle.std.specs.List.{prefix_len}
 use Rattle.std.proofs.lemmas.Bool.Decides.{nat_tests}
 use Rattle.std.proofs.lemmas.List.{drop_all}
-use Rattle.std.specs.Str.{is_utf8, IsUtf8, bytes_eq}
-use Rattle.std.proofs.lemmas.Str.{IsUtf8-from_is_utf8, is_utf8-from_IsUtf8}
-use Rattle.nq_top.specs.FirstForm.{is_blank, is_word_start, is_word_byte, begins_in_word, with_byte, pieces, differ, is_table}
+use Rattle.nq_top.specs.FirstForm.{is_blank, is_word_start, is_word_byte, begins_in_word, with_byte, pieces}
 
 word_is_not_blank : (b : ℕ) → is_word_byte b ≡ true → is_blank b ≡ false
 word_is_not_blank b word = grind (arith, nat_tests)

@@ -1,5 +1,5 @@
 -- How the judgement of the inputs follows from the fetches.
-use Rattle.std.proofs.Common.{◌≡◌, ◌≢◌, ◌<◌, ◌≤◌, ◌+◌, ◌-◌, ℕ, suc, Bool, true, false, List, [], ◌∷◌, ◌++◌, length, map, Some, None, Option, Result, Ok, Err, arith, refl, sym, ap, subst, ◌∙◌, nat_lt, cond, append_assoc, append-nil, All, length-append}
+use Rattle.std.proofs.Common.{◌≡◌, ◌≢◌, ◌<◌, ◌≤◌, ◌+◌, ◌-◌, ℕ, suc, Bool, true, false, List, [], ◌∷◌, ◌++◌, length, map, Some, None, Option, Result, Ok, Err, arith, refl, sym, ap, subst, ◌∙◌, nat_lt, cond, append_assoc, append-nil, All, length-append, IfSome}
 use Rattle.std.specs.Option.{option_map}
 use Rattle.std.specs.List.{AllByRecursion as Each}
 use Rattle.std.proofs.lemmas.List.Elements.{All-head, All-tail, All-push}
@@ -15,7 +15,7 @@ use Rattle.sql_profile.specs.Servers.{table_names}
 use Rattle.sql_profile.specs.declared.server.Loaded.{Loaded}
 use Rattle.schema_reader.specs.declared.fault.SchemaFault.{SchemaFault}
 use Rattle.table_reader.specs.declared.TableFault.{TableFault}
-use Rattle.nq_top.specs.Judging.{Verdict, Judgement, refused, accepted, after, at_once, judged, fetched_then, SchemaReading, schema_said, query_said, table_said, loaded_as}
+use Rattle.nq_top.specs.Judging.{Verdict, Judgement, refused, accepted, after, at_once, judged, fetched_then, SchemaReading, schema_said, query_said, query_judged, schema_judged, table_said, loaded_as}
 use Rattle.nq_top.specs.Gathering.{Told, Judges, FetchedSome, FetchedUpTo, RefusalTells, GatherTells, FetchedWithin, FetchRefused, FetchNames, SchemaRefuses, RowsRefused, IsUnquoted, AreServable, CanGather}
 use Rattle.nq_top.specs.declared.gather.Gathered.{Gathered}
 use Rattle.nq_top.specs.declared.refusal.Refused.{Refused}
@@ -138,6 +138,18 @@ table_refused given name next old new (input.Refused (refusals.Table failed faul
     let is : table_said name given next ≡ at_once (refused (refusals.Table name fault)) = ap (λ (r : Result (List (List Cell)) TableFault). table_said name r next) refuses.1 in
     record { comes_to = ap (λ (j : Judgement). j.verdict) is ∙ ap (λ (n : List ℕ). refused (refusals.Table n fault)) (sym refuses.0); fetched = rw is (tells_nothing old new same) }
 table_refused given name next old new (input.Failed failed) refuses same = absurd refuses
+
+-- the schema text is refused
+pub schema_stops : (held : Option Files) (schema query folder text : List ℕ) (old mid new : Told) (r : InputRefusal)
+    → IfSome held (λ files. FetchedWithin (bytes_at files schema) 1048576 text) → TellsMore old mid (schema ∷ []) → new ≡ mid
+    → ((reading : SchemaReading) → SchemaRefuses (reading.says text) r)
+    → IfSome held (λ files. (reading : SchemaReading) → GatherTells (schema_judged reading files schema query folder) old new (Err r))
+schema_stops None schema query folder text old mid new r within told same refuses = tt
+schema_stops (Some files) schema query folder text old mid new r within told same refuses = λ reading.
+    let next : List ℕ → Judgement = λ bytes. schema_said (reading.says bytes) (λ found. query_judged files query folder found.tables) in
+    let P : Judgement → Type 0 = λ j. RefusalTells j old new r in
+    subst P (sym (fetch_next files schema 1048576 next text within))
+    (refusal_after schema (next text) old mid new r told (schema_refused (reading.says text) (λ found. query_judged files query folder found.tables) mid new r (refuses reading) same))
 
 -- one more table was read
 pub can_gather_more : (done : List Loaded) (shape : TableShape) (shapes : List TableShape) (asked : ℕ) (rows : List (List Cell))

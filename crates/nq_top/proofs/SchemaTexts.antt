@@ -13,7 +13,7 @@ use Rattle.nq_top.specs.Gathering.{IsUnquoted}
 use Rattle.nq_top.specs.Judging.{SchemaReading}
 
 -- the fault of what is seen of it
-fault_of : Option (Fault × ℕ) → SchemaFault
+abbrev fault_of : Option (Fault × ℕ) → SchemaFault
 fault_of None = code.Memory
 fault_of (Some (Fault.not_utf8, p)) = code.NotUtf8 p
 fault_of (Some (Fault.syntax, p)) = code.Syntax p

@@ -54,6 +54,16 @@ RefusalTells judgement old new input.Memory = FetchedSome judgement.names old ne
 RefusalTells judgement old new (input.Refused r) = Judges judgement (refused r) old new
 RefusalTells judgement old new (input.Failed name) = FetchedUpTo name judgement.names old new
 
+-- want of memory, or the refusal of a schema text
+abbrev pub IsOfText : InputRefusal → Type 0
+IsOfText input.Memory = ⊤
+IsOfText (input.Refused Usage) = ⊥
+IsOfText (input.Refused (TooLong failed limit)) = ⊥
+IsOfText (input.Refused (SchemaRefused fault)) = ⊤
+IsOfText (input.Refused NotBuilt) = ⊥
+IsOfText (input.Refused (TableRefused failed fault)) = ⊥
+IsOfText (input.Failed failed) = ⊥
+
 -- what the reading of a schema text says
 abbrev pub SchemaRefuses : Result Schema SchemaFault → InputRefusal → Type 0
 SchemaRefuses given input.Memory = ⊤

@@ -21,7 +21,7 @@ fn without_mark(text: &[u8]) -> &[u8]
 /// The pieces of a query, without the mark of UTF-8 at its beginning.
 #[tactic(auto, unfolding(crate::specs::FirstForm::query_pieces))]
 pub fn query_pieces<'a>(alloc: Global, text: &'a [u8]) -> Result<Vec<&'a [u8]>, Memory>
-    ensures { IfOk result (λ found. map (λ piece. piece.now) found ≡ query_pieces text.now) }
+    ensures { IfOk result (λ found. map (λ piece. piece.now) found.items ≡ query_pieces text.now) }
 {
     pieces(alloc, without_mark(text))
 }

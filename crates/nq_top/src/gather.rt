@@ -1,5 +1,5 @@
 // Reads the inputs of a command, each judged before the next.
-ghost use Rattle.std.specs.Prelude.{◌≡◌, ◌≢◌, ◌≤◌, ◌<◌, ◌+◌, ◌-◌, ◌++◌, ◌∷◌, [], ◌↔◌, ℕ, List, All, IfOk, IfSome, Some, None, Err, length, map, string_bytes};
+ghost use Rattle.std.specs.Prelude.{◌≡◌, ◌≢◌, ◌≤◌, ◌<◌, ◌+◌, ◌-◌, ◌++◌, ◌∷◌, [], ◌↔◌, ℕ, List, All, IfOk, IfErr, IfSome, Some, None, Err, length, map, string_bytes};
 ghost use Rattle.nq_model.specs.Cells.{RowFits};
 ghost use Rattle.nq_model.specs.Orders.{AreDistinct};
 ghost use Rattle.nq_model.specs.Tables.{names_of, types_of};
@@ -9,7 +9,7 @@ ghost use Rattle.nq_top.specs.Commands.{command_of, file_of};
 ghost use Rattle.nq_top.specs.FirstForm.{is_first_query};
 ghost use Rattle.table_reader.specs.Tables.{table_of};
 ghost use Rattle.nq_top.specs.Judging.{SchemaReading, Judgement, judgement, schema_judged, query_judged, tables_judged, asked_place, loaded_as};
-ghost use Rattle.nq_top.specs.Gathering.{InputCounts, GatherTells, RefusalTells, FetchSays, FetchNames, RowsSay, SchemaSays, IsUnquoted, AreServable, CanGather};
+ghost use Rattle.nq_top.specs.Gathering.{InputCounts, GatherTells, RefusalTells, FetchSays, FetchNames, RowsSay, SchemaSays, IsOfText, IsUnquoted, AreServable, CanGather};
 
 use crate::first_form::{is_table_query, query_pieces};
 use crate::refusal::{InputRefusal, Refused};
@@ -205,19 +205,23 @@ fn gather_query<I: Inputs>(
     }
 }
 
-// The schema that a text spells, or its fault. The text is given up once it was read.
+// The schema that a text spells, or its fault.
 #[tactic(auto, using(crate::proofs::SchemaTexts::schema_rules))]
-fn read_found(alloc: Global, text: List<u8>) -> Result<Schema, InputRefusal>
-    ensures says { (reading : SchemaReading) → SchemaSays (reading.says text) result }
+fn read_found(alloc: Global, text: &[u8]) -> Result<Schema, InputRefusal>
+    ensures says { (reading : SchemaReading) → SchemaSays (reading.says text.now) result }
     ensures differ { IfOk result (λ found. AreDistinct (map (λ shape. shape.name) found.tables)) }
     ensures columns_differ { IfOk result (λ found. All (λ shape. AreDistinct (names_of shape.columns)) found.tables) }
     ensures unquoted { IfOk result (λ found. All (λ shape. IsUnquoted shape.name) found.tables) }
-    ensures listed { result ≢ Err (InputRefusal.Refused Refused.Usage) }
+    ensures refused { IfErr result IsOfText }
 {
-    match read_schema(alloc, text.as_slice()) {
+    match read_schema(alloc, text) {
         Ok(schema) => Ok(schema),
-        Err(SchemaFault::Memory) => Err(InputRefusal::Memory),
-        Err(fault) => Err(InputRefusal::Refused(Refused::Schema(fault))),
+        Err(fault) => {
+            if fault == SchemaFault::Memory {
+                return Err(InputRefusal::Memory);
+            }
+            Err(InputRefusal::Refused(Refused::Schema(fault)))
+        }
     }
 }
 
@@ -238,8 +242,10 @@ fn gather_schema<I: Inputs>(
 {
     let name = Text::from_str(alloc, schema)?;
     let text = fetch_input(alloc, inputs, name, TEXT_LIMIT)?;
-    let found = read_found(alloc, text)?;
-    gather_query(alloc, inputs, query, folder, found.tables.as_slice())
+    match read_found(alloc, text.as_slice()) {
+        Ok(found) => gather_query(alloc, inputs, query, folder, found.tables.as_slice()),
+        Err(refusal) => Err(refusal),
+    }
 }
 
 /// Reads the inputs of the command that words are: the schema, the query, and the text of each table in
