@@ -1,7 +1,6 @@
 -- The rows of a text fit the columns, and their cells are sound.
-use Rattle.std.proofs.Common.{◌≡◌, ◌<◌, ◌+◌, ◌^◌, ◌==◌, ℕ, ℤ, zero, suc, pos, neg_ℤ, Bool, true, false, if◌then◌else◌, Option, Some, None, option_map, Ok, List, [], ◌∷◌, length, map, zip, drop, FitsSigned, w64, refl, sym, ap, ap₂, subst, ◌∙◌, arith, All}
+use Rattle.std.proofs.Common.{◌≡◌, ◌<◌, ◌+◌, ◌^◌, ◌==◌, ℕ, ℤ, zero, suc, pos, neg_ℤ, Bool, true, false, if◌then◌else◌, Option, Some, None, option_map, Ok, List, [], ◌∷◌, length, zip, FitsSigned, w64, refl, subst, arith, All}
 use Rattle.std.specs.List.{AllZip}
-use Rattle.std.specs.Str.{is_utf8, IsUtf8}
 use Rattle.std.specs.Str.Parse.{digits_value}
 use Rattle.std.proofs.lemmas.List.Elements.{All-nil, All-cons}
 use Rattle.std.proofs.lemmas.Str.{IsUtf8-from_is_utf8}
@@ -13,9 +12,9 @@ use Rattle.nq_model.specs.declared.table.ColumnType.{ColumnType}
 use Rattle.nq_model.specs.declared.table.ColumnType.TheVariants as column
 use Rattle.nq_model.specs.declared.table.TableShape.{TableShape}
 use Rattle.table_reader.specs.Records.{Record}
-use Rattle.table_reader.specs.Spelling.{is_numeral, minus_of, plain_of, int_of, bool_of, cell_of, IsSound}
+use Rattle.table_reader.specs.Spelling.{is_numeral, minus_of, plain_of, int_of, bool_of, IsSound}
 use Rattle.table_reader.specs.Tables.{table_of, IsTableOf}
-use Rattle.table_reader.specs.Faults.{Spells, SpellsRow, GivesRows}
+use Rattle.table_reader.specs.Faults.{Spells, SpellsRow}
 use Rattle.table_reader.proofs.Parses.{numeral_to}
 use Rattle.table_reader.proofs.TableFacts.{under_given}
 

@@ -1,5 +1,5 @@
 -- Keys: the parts of a row, and what an index of first rows finds.
-use Rattle.std.proofs.Common.{◌≡◌, ◌<◌, ◌+◌, ◌&&◌, ℕ, suc, List, [], ◌∷◌, ◌++◌, length, take, map, get_or, zip, find, option_map, Option, Some, None, Bool, true, false, cond, ap, sym, subst, ◌∙◌, refl, arith, add-one, add-zero, Ordering, true≢false, string_bytes, slice_get}
+use Rattle.std.proofs.Common.{◌≡◌, ◌<◌, ◌+◌, ◌&&◌, ℕ, suc, List, [], ◌∷◌, ◌++◌, length, take, map, get_or, zip, find, option_map, Option, Some, None, Bool, true, false, cond, ap, sym, ◌∙◌, refl, arith, add-one, add-zero, Ordering, true≢false, string_bytes, slice_get}
 use Rattle.std.specs.List.{filter_map, cons_option, position_from}
 use Rattle.std.specs.Option.{option_and_then, option_or}
 use Rattle.std.specs.Map.{lookup}
@@ -17,7 +17,6 @@ use Rattle.std.proofs.lemmas.Iterator.Adapters.{position_from-zero}
 use Rattle.nq_model.specs.Cells.{cell_eq, bool_eq}
 use Rattle.nq_model.specs.Tables.{Columns, names_of}
 use Rattle.nq_model.specs.declared.table.Cell.{Cell}
-use Rattle.nq_model.specs.declared.table.ColumnType.{ColumnType}
 use Rattle.nq_model.specs.declared.table.TableShape.{TableShape}
 use Rattle.nq_model.proofs.Sameness.{cell_Decides}
 use Rattle.table_reader.specs.Keys.{cell_under, key_of, first_with}

@@ -1,5 +1,5 @@
 -- The header of a text, and its rows one after the other.
-use Rattle.std.proofs.Common.{◌≡◌, ◌≢◌, ℕ, length, map, List, [], ◌∷◌, ◌++◌, Bool, true, false, Result, Ok, Err, Bor, refl, sym, ap, ◌∙◌}
+use Rattle.std.proofs.Common.{◌≡◌, ◌≢◌, ℕ, length, List, [], ◌∷◌, ◌++◌, Bool, true, false, Result, Ok, Err, Bor, refl, sym}
 use Rattle.std.specs.Str.{bytes_eq}
 use Rattle.std.specs.Cmp.Lexicographic.{pointwise, unequal}
 use Rattle.std.proofs.lemmas.List.{length-map}
@@ -9,9 +9,9 @@ use Rattle.nq_model.specs.declared.table.Cell.{Cell}
 use Rattle.nq_model.specs.declared.table.TableShape.{TableShape}
 use Rattle.table_reader.specs.declared.TableFault.{TableFault}
 use Rattle.table_reader.specs.declared.TableFault.TheVariants as fault
-use Rattle.table_reader.specs.Records.{Record, HasRead, ReadsOne, records_of}
+use Rattle.table_reader.specs.Records.{Record, HasRead, records_of}
 use Rattle.table_reader.specs.Spelling.{and_then}
-use Rattle.table_reader.specs.Tables.{is_header, next_row, rows_after, rows_under, table_of}
+use Rattle.table_reader.specs.Tables.{is_header, next_row, rows_after, table_of}
 use Rattle.table_reader.specs.Progress.{HasRows, ReadsHeader}
 use Rattle.table_reader.proofs.RecordFacts.{begins_with_read}
 

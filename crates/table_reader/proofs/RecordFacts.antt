@@ -1,8 +1,8 @@
 -- What one read of a record does, and that the records that were read to the end are all.
-use Rattle.std.proofs.Common.{◌≡◌, ◌<◌, ◌≤◌, ◌+◌, ◌-◌, ℕ, zero, suc, Bool, true, false, List, [], ◌∷◌, ◌++◌, length, Some, None, Option, arith, rules, refl, sym, ap, subst, ◌∙◌, Bor, inl, if◌then◌else◌}
+use Rattle.std.proofs.Common.{◌≡◌, ◌<◌, ◌≤◌, ◌+◌, ◌-◌, ℕ, zero, suc, Bool, true, false, List, [], ◌∷◌, ◌++◌, length, Some, None, Option, arith, refl, sym, subst, ◌∙◌, Bor, inl, if◌then◌else◌}
 use Rattle.std.proofs.Math.Nat.{sub-zero}
 use Rattle.csv.specs.Machine.{Read, next_record, step, is_end, ends_at_end, fields_after, field_after}
-use Rattle.csv.specs.Reading.{Reached, Ready, ReadRecord, reader_trim, took_first, reader_state, records, records_from, records_next, default_config, strip_bom}
+use Rattle.csv.specs.Reading.{Reached, Ready, ReadRecord, reader_trim, took_first, reader_state, records_from, default_config, strip_bom}
 use Rattle.csv.specs.declared.parser.Config.{Config}
 use Rattle.csv.specs.declared.parser.State.{State}
 use Rattle.csv.specs.declared.parser.State.TheVariants as st

@@ -1,27 +1,25 @@
 -- What the records of a text give, and its first fault.
-use Rattle.std.proofs.Common.{◌≡◌, ◌≢◌, ◌≤◌, ◌+◌, ◌-◌, ℕ, zero, suc, Bool, true, false, if◌then◌else◌, Option, Some, None, Result, Ok, Err, List, [], ◌∷◌, ◌++◌, length, map, take, drop, slice_get, refl, sym, ap, subst, inl, inr, ◌⊎◌, ◌∙◌, arith, true≢false, append-nil, append_assoc}
-use Rattle.std.specs.List.{AllZip, AllByRecursion as Each}
+use Rattle.std.proofs.Common.{◌≡◌, ◌≢◌, ◌+◌, ℕ, zero, suc, Bool, true, false, if◌then◌else◌, Option, Some, None, Result, Ok, Err, List, [], ◌∷◌, ◌++◌, length, map, take, drop, refl, sym, ap, subst, inl, inr, ◌⊎◌, ◌∙◌, arith, true≢false, append-nil, append_assoc}
+use Rattle.std.specs.List.{AllZip}
 use Rattle.std.specs.Result.{result_ok}
-use Rattle.std.specs.Str.{bytes_eq}
-use Rattle.std.specs.Cmp.Lexicographic.{pointwise, pointwise_decides, bytes_decides}
+use Rattle.std.specs.Cmp.Lexicographic.{pointwise_decides, bytes_decides}
 use Rattle.std.proofs.lemmas.List.{map-append, length-take}
 use Rattle.std.proofs.lemmas.Option.{slice_get_within}
 use Rattle.std.proofs.lemmas.Slice.Zip.{AllZip-long}
 use Rattle.std.proofs.Math.Seq.{take-append_seam}
-use Rattle.nq_model.specs.Orders.{AreDistinct}
 use Rattle.nq_model.specs.Tables.{names_of, types_of}
 use Rattle.nq_model.specs.declared.table.Cell.{Cell}
 use Rattle.nq_model.specs.declared.table.TableShape.{TableShape}
 use Rattle.table_reader.specs.declared.TableFault.{TableFault}
 use Rattle.table_reader.specs.declared.TableFault.TheVariants as fault
 use Rattle.table_reader.specs.Records.{Record}
-use Rattle.table_reader.specs.Spelling.{and_then, row_at}
+use Rattle.table_reader.specs.Spelling.{row_at}
 use Rattle.table_reader.specs.Keys.{key_of, KeysDiffer, twin_of}
 use Rattle.table_reader.specs.Tables.{unless_twin, next_row, rows_after, is_header, rows_under}
 use Rattle.table_reader.specs.Faults.{SpellsRow, GivesRows, IsFirstFault, IsFirstTwin, HasFault}
 use Rattle.table_reader.proofs.ReadFacts.{rows_after-append}
 use Rattle.table_reader.proofs.SpellingFacts.{split_at, get_seam, then_ok, then_err, row_spelled, spelled_row, IsWrongRow, row_wrong, wrong_row}
-use Rattle.table_reader.proofs.TwinFacts.{distinct_more, distinct_apart, each_mapped, mapped_each, Differs, no_twin, twin_none, twin_first, first_twin}
+use Rattle.table_reader.proofs.TwinFacts.{distinct_more, distinct_apart, each_mapped, mapped_each, no_twin, twin_none, twin_first, first_twin}
 
 module _ (shape : TableShape) where
   -- one row more, whose key cells no row before it has

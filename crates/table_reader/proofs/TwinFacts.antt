@@ -1,23 +1,12 @@
 -- The first row that has the key cells of another.
-use Rattle.std.proofs.Common.{◌≡◌, ◌≢◌, ◌≤◌, ◌<◌, ◌+◌, ◌-◌, ◌==◌, ℕ, zero, suc, Bool, true, false, cond, if◌then◌else◌, Option, Some, None, option_map, Result, Ok, Err, List, [], ◌∷◌, ◌++◌, length, map, zip, take, drop, slice_get, refl, sym, ap, subst, inl, inr, ◌⊎◌, ◌∙◌, arith, rules, add-zero, true≢false, append-nil}
-use Rattle.std.specs.List.{AllZip, AllByRecursion as Each, position_from}
-use Rattle.std.specs.Option.{option_or}
-use Rattle.std.proofs.lemmas.Option.{slice_get_within}
-use Rattle.std.proofs.Math.Seq.{take-append_seam}
+use Rattle.std.proofs.Common.{◌≡◌, ◌≢◌, ◌≤◌, ◌+◌, ◌-◌, ℕ, zero, suc, Bool, true, false, cond, Some, None, List, [], ◌∷◌, ◌++◌, map, take, slice_get, refl, sym, ap, ◌∙◌, arith, add-zero, true≢false}
+use Rattle.std.specs.List.{AllByRecursion as Each, position_from}
 use Rattle.nq_model.specs.Orders.{AreDistinct}
-use Rattle.nq_model.specs.Tables.{names_of, types_of}
 use Rattle.nq_model.specs.declared.table.Cell.{Cell}
 use Rattle.nq_model.specs.declared.table.TableShape.{TableShape}
-use Rattle.table_reader.specs.declared.TableFault.{TableFault}
-use Rattle.table_reader.specs.declared.TableFault.TheVariants as fault
-use Rattle.table_reader.specs.Records.{Record}
-use Rattle.table_reader.specs.Spelling.{and_then, row_at}
-use Rattle.table_reader.specs.Keys.{key_of, KeysDiffer, first_with, if_keyed, twin_of}
-use Rattle.table_reader.specs.Tables.{unless_twin, next_row, rows_after, is_header, rows_under}
-use Rattle.table_reader.specs.Faults.{SpellsRow, GivesRows, IsFirstFault, IsFirstTwin, HasFault}
-use Rattle.table_reader.proofs.KeyFacts.{cells_eq, cells_Decides, position-append}
-use Rattle.table_reader.proofs.ReadFacts.{rows_after-append}
-use Rattle.table_reader.proofs.SpellingFacts.{split_at, get_seam, then_ok, then_err, row_spelled, spelled_row, IsWrongRow, row_wrong, wrong_row}
+use Rattle.table_reader.specs.Keys.{key_of, first_with, if_keyed, twin_of}
+use Rattle.table_reader.specs.Faults.{IsFirstTwin}
+use Rattle.table_reader.proofs.KeyFacts.{cells_eq, cells_Decides}
 
 module _ {X : Type 0} (t : X → Bool) where
   -- the first place at which a test passes, in its own words

@@ -1,5 +1,5 @@
 -- When a table text gives rows, and when it has a fault, in the words of tables.
-use Rattle.std.specs.Prelude.{◌≡◌, ◌≢◌, ◌≤◌, ◌-◌, ℕ, Bool, true, false, List, [], length, zip, take, drop, Option, Some, None, slice_get}
+use Rattle.std.specs.Prelude.{◌≡◌, ◌≢◌, ◌≤◌, ◌-◌, ℕ, true, false, List, [], length, zip, take, drop, Some, None, slice_get}
 use Rattle.std.specs.List.{AllZip, AllByRecursion as Each}
 use Rattle.std.specs.Str.{is_utf8}
 use Rattle.nq_model.specs.Tables.{names_of, types_of}

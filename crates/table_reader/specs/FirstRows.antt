@@ -1,5 +1,5 @@
 -- What an index of first rows by their keys holds.
-use Rattle.std.specs.Prelude.{◌≡◌, ◌≢◌, ℕ, ◌∷◌, ◌++◌, [], List, map, Option, Some, None, string_bytes, slice_get}
+use Rattle.std.specs.Prelude.{◌≡◌, ◌≢◌, ℕ, ◌∷◌, ◌++◌, [], List, map, Option, Some, None, string_bytes}
 use Rattle.std.specs.List.{filter_map, position}
 use Rattle.std.specs.Map.{lookup}
 use Rattle.std.specs.Cmp.Lexicographic.{pointwise}

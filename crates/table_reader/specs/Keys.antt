@@ -25,7 +25,7 @@ KeysDiffer shape rows = shape.key ≢ [] → AreDistinct (map (key_of shape) row
 abbrev pub first_with : TableShape → List Cell → List (List Cell) → Option ℕ
 first_with shape key rows = position_from (λ row. pointwise cell_eq key (key_of shape row)) 1 rows
 
--- what a key of these columns tells, if there are any
+-- what a key of these columns tells: without columns there is no key, and it tells nothing
 abbrev pub if_keyed : List (List ℕ) → Option ℕ → Option ℕ
 if_keyed [] first = None
 if_keyed (name ∷ names) first = first

@@ -5,8 +5,6 @@ use Rattle.csv.specs.declared.reader.Reader.{Reader}
 use Rattle.nq_model.specs.declared.table.Cell.{Cell}
 use Rattle.nq_model.specs.declared.table.TableShape.{TableShape}
 use Rattle.table_reader.specs.declared.TableFault.TheVariants as fault
-use Rattle.table_reader.specs.declared.keys.KeyIndex.{KeyIndex}
-use Rattle.table_reader.specs.FirstRows.{KeepsIndex}
 use Rattle.table_reader.specs.Records.{Record, HasRead}
 use Rattle.table_reader.specs.Tables.{is_header, rows_after, table_of}
 

@@ -1,5 +1,5 @@
 -- The records of a text, as the crate `csv` defines them.
-use Rattle.std.specs.Prelude.{◌≡◌, ℕ, Bool, true, false, List, [], ◌∷◌, ◌++◌, Option, Some, None}
+use Rattle.std.specs.Prelude.{◌≡◌, ℕ, Bool, true, false, List, [], ◌∷◌, ◌++◌, Some}
 use Rattle.std.specs.Borrow.{Bor}
 use Rattle.csv.specs.Reading.{default_config, records, strip_bom, Ready, Reached, source_of, reader_trim, reader_config, reader_state}
 use Rattle.csv.specs.declared.parser.State.TheVariants as state

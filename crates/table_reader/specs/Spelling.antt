@@ -16,9 +16,11 @@ use Rattle.table_reader.specs.Records.{Record}
 abbrev pub is_numeral : List ℕ → ℕ → Bool
 is_numeral digits limit = all_ascii_digits digits && (nat_lt 0 (length digits) && nat_lt (digits_value 10 digits) limit)
 
+-- the number that digits after a minus sign spell
 abbrev pub minus_of : List ℕ → Option ℤ
 minus_of digits = if is_numeral digits (2 ^ 63 + 1) then Some (neg_ℤ (pos (digits_value 10 digits))) else None
 
+-- the number that digits alone spell
 abbrev pub plain_of : List ℕ → Option ℤ
 plain_of digits = if is_numeral digits (2 ^ 63) then Some (pos (digits_value 10 digits)) else None
 
@@ -46,7 +48,7 @@ cell_of column.Int field = option_map cell.Int (int_of field)
 cell_of column.Bool field = option_map cell.Bool (bool_of field)
 cell_of column.Text field = Some (cell.Text field)
 
--- what is wrong with a field of UTF-8 that spells none
+-- what is wrong with a field of UTF-8 that spells none, as no field of a text column does
 abbrev pub fault_of : ColumnType → ℕ → ℕ → TableFault
 fault_of column.Int row at = fault.BadInt row at
 fault_of column.Bool row at = fault.BadBool row at

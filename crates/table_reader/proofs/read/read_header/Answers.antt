@@ -1,6 +1,5 @@
-use Rattle.std.proofs.Common.{◌∷◌, [], sym, ap}
+use Rattle.std.proofs.Common.{[], sym}
 use Rattle.csv.specs.Records.{fields_of}
-use Rattle.table_reader.specs.Records.{ReadsOne}
 use Rattle.table_reader.proofs.ReadFacts.{nothing_read, header_read}
 use Rattle.table_reader.proofs.read.read_header.Goals as goal
 

@@ -1,4 +1,4 @@
-use Rattle.std.proofs.Common.{◌∷◌, [], sym, ap, refl, arith, length-append}
+use Rattle.std.proofs.Common.{◌∷◌, refl, arith, length-append}
 use Rattle.std.proofs.lemmas.Result.{err_from_is_err_and}
 use Rattle.csv.specs.Records.{fields_of}
 use Rattle.table_reader.proofs.ReadFacts.{rows_end, rows_more, rows_stop}

@@ -1,4 +1,4 @@
-use Rattle.std.proofs.Common.{refl, inr, ◌∙◌, sym, rules}
+use Rattle.std.proofs.Common.{refl, inr, ◌∙◌, sym}
 use Rattle.csv.specs.Reading.{Reached, strip_bom}
 use Rattle.table_reader.proofs.records.reader_of.Goals as goal
 
