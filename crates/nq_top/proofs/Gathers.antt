@@ -15,7 +15,8 @@ use Rattle.sql_profile.specs.Servers.{table_names}
 use Rattle.sql_profile.specs.declared.server.Loaded.{Loaded}
 use Rattle.schema_reader.specs.declared.fault.SchemaFault.{SchemaFault}
 use Rattle.table_reader.specs.declared.TableFault.{TableFault}
-use Rattle.nq_top.specs.Judging.{Verdict, Judgement, refused, accepted, after, at_once, judged, fetched_then, SchemaReading, schema_said, query_said, query_judged, schema_judged, table_said, loaded_as}
+use Rattle.nq_top.specs.Commands.{Command, command_of}
+use Rattle.nq_top.specs.Judging.{Verdict, Judgement, refused, accepted, after, at_once, judged, fetched_then, SchemaReading, schema_said, query_said, query_judged, schema_judged, command_judged, judgement, table_said, loaded_as}
 use Rattle.nq_top.specs.Gathering.{Told, Judges, FetchedSome, FetchedUpTo, RefusalTells, GatherTells, FetchedWithin, FetchRefused, FetchNames, SchemaRefuses, RowsRefused, IsUnquoted, AreServable, CanGather}
 use Rattle.nq_top.specs.declared.gather.Gathered.{Gathered}
 use Rattle.nq_top.specs.declared.refusal.Refused.{Refused}
@@ -150,6 +151,45 @@ schema_stops (Some files) schema query folder text old mid new r within told sam
     let P : Judgement → Type 0 = λ j. RefusalTells j old new r in
     subst P (sym (fetch_next files schema 1048576 next text within))
     (refusal_after schema (next text) old mid new r told (schema_refused (reading.says text) (λ found. query_judged files query folder found.tables) mid new r (refuses reading) same))
+
+-- the same, with the name and the bytes as the program has them
+pub schema_stops_at : (held : Option Files) (name schema query folder text bytes : List ℕ) (old mid : Told) (r : InputRefusal)
+    → name ≡ schema → bytes ≡ text → IfSome held (λ files. FetchedWithin (bytes_at files name) 1048576 text) → TellsMore old mid (name ∷ [])
+    → ((reading : SchemaReading) → SchemaRefuses (reading.says bytes) r)
+    → IfSome held (λ files. (reading : SchemaReading) → GatherTells (schema_judged reading files schema query folder) old mid (Err r))
+schema_stops_at held name schema query folder text bytes old mid r named same within told refuses =
+    let P : List ℕ → Type 0 = λ n. IfSome held (λ files. FetchedWithin (bytes_at files n) 1048576 text) in
+    let Q : List ℕ → Type 0 = λ n. TellsMore old mid (n ∷ []) in
+    schema_stops held schema query folder text old mid mid r (subst P named within) (subst Q named told) refl
+    (λ reading. subst (λ (b : List ℕ). SchemaRefuses (reading.says b) r) same (refuses reading))
+
+-- the schema text spells a schema, on which the query is judged
+pub schema_goes : (held mid_held : Option Files) (schema query folder text : List ℕ) (old mid new : Told) (found : Schema) (result : Result Gathered InputRefusal)
+    → mid_held ≡ held → IfSome held (λ files. FetchedWithin (bytes_at files schema) 1048576 text) → TellsMore old mid (schema ∷ [])
+    → ((reading : SchemaReading) → reading.says text ≡ Ok found)
+    → IfSome mid_held (λ files. GatherTells (query_judged files query folder found.tables) mid new result)
+    → IfSome held (λ files. (reading : SchemaReading) → GatherTells (schema_judged reading files schema query folder) old new result)
+schema_goes None mid_held schema query folder text old mid new found result same within told says tells = tt
+schema_goes (Some files) mid_held schema query folder text old mid new found result same within told says tells = λ reading.
+    let next : List ℕ → Judgement = λ bytes. schema_said (reading.says bytes) (λ s. query_judged files query folder s.tables) in
+    let later : Option Files → Type 0 = λ held. IfSome held (λ fs. GatherTells (query_judged fs query folder found.tables) mid new result) in
+    let here : GatherTells (query_judged files query folder found.tables) mid new result = subst later same tells in
+    let goes : next text ≡ query_judged files query folder found.tables = schema_next (reading.says text) found (λ s. query_judged files query folder s.tables) (says reading) in
+    let P : Judgement → Type 0 = λ j. GatherTells j old new result in
+    let Q : Judgement → Type 0 = λ j. GatherTells j mid new result in
+    subst P (sym (fetch_next files schema 1048576 next text within))
+    (gather_after schema (next text) old mid new result told (subst Q (sym goes) here))
+
+-- the words are a command, whose inputs are judged
+pub command_goes : (held : Option Files) (words : List (List ℕ)) (command : Command) (old new : Told) (result : Result Gathered InputRefusal)
+    → command_of words ≡ Some command
+    → IfSome held (λ files. (reading : SchemaReading) → GatherTells (schema_judged reading files command.schema command.query command.folder) old new result)
+    → IfSome held (λ files. (reading : SchemaReading) → GatherTells (judgement reading words files) old new result)
+unfolding judgement
+command_goes None words command old new result is tells = tt
+command_goes (Some files) words command old new result is tells = λ reading.
+    let P : Option Command → Type 0 = λ c. GatherTells (command_judged reading c files) old new result in
+    subst P (sym is) (tells reading)
 
 -- one more table was read
 pub can_gather_more : (done : List Loaded) (shape : TableShape) (shapes : List TableShape) (asked : ℕ) (rows : List (List Cell))

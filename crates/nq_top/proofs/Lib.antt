@@ -7,3 +7,4 @@ pub mod Loads
 pub mod Serves
 pub mod Runs
 pub mod Statuses
+pub mod Completeness

@@ -9,7 +9,7 @@ use Rattle.nq_model.specs.declared.table.TableShape.{TableShape}
 use Rattle.schema_reader.specs.Answers.{fault_view, IsFault, Reads}
 use Rattle.schema_reader.specs.declared.fault.SchemaFault.{SchemaFault}
 use Rattle.schema_reader.specs.declared.fault.SchemaFault.TheVariants as code
-use Rattle.nq_top.specs.Gathering.{IsUnquoted}
+use Rattle.nq_top.specs.Gathering.{IsOfText, refusal_of, SchemaRefuses, IsUnquoted}
 use Rattle.nq_top.specs.Judging.{SchemaReading}
 
 -- the fault of what is seen of it
@@ -75,7 +75,7 @@ found_said reading text result schema spelled faulty is =
     subst P is all
 
 -- a fault that was found
-pub fault_said : (reading : SchemaReading) (text : List ℕ) (result : Result Schema SchemaFault) (e : SchemaFault)
+fault_said : (reading : SchemaReading) (text : List ℕ) (result : Result Schema SchemaFault) (e : SchemaFault)
     → ((s : Schema) → Spells text s → MatchResult result (λ found. found ≡ s) (λ e. e ≡ code.Memory))
     → ((f : Fault) (place : ℕ) → HasFault text f place → IsErrAnd result (IsFault f place))
     → result ≡ Err e → e ≢ code.Memory → reading.says text ≡ Err e
@@ -88,6 +88,30 @@ fault_said reading text result e spelled faulty is certain =
     go (inl memory) = absurd (certain memory)
     go (inr same) = same
 
+-- the refusal for a fault that was found
+pub refusal_said : (reading : SchemaReading) (text : List ℕ) (result : Result Schema SchemaFault) (e : SchemaFault)
+    → ((s : Schema) → Spells text s → MatchResult result (λ found. found ≡ s) (λ e. e ≡ code.Memory))
+    → ((f : Fault) (place : ℕ) → HasFault text f place → IsErrAnd result (IsFault f place))
+    → result ≡ Err e → SchemaRefuses (reading.says text) (refusal_of e)
+refusal_said reading text result code.Memory spelled faulty is = tt
+refusal_said reading text result (code.NotUtf8 p) spelled faulty is = fault_said reading text result (code.NotUtf8 p) spelled faulty is (λ e. absurd (cc))
+refusal_said reading text result (code.Syntax p) spelled faulty is = fault_said reading text result (code.Syntax p) spelled faulty is (λ e. absurd (cc))
+refusal_said reading text result (code.TwiceTable p) spelled faulty is = fault_said reading text result (code.TwiceTable p) spelled faulty is (λ e. absurd (cc))
+refusal_said reading text result (code.TwiceColumn p) spelled faulty is = fault_said reading text result (code.TwiceColumn p) spelled faulty is (λ e. absurd (cc))
+refusal_said reading text result (code.NoColumn p) spelled faulty is = fault_said reading text result (code.NoColumn p) spelled faulty is (λ e. absurd (cc))
+refusal_said reading text result (code.KeyColumn p) spelled faulty is = fault_said reading text result (code.KeyColumn p) spelled faulty is (λ e. absurd (cc))
+refusal_said reading text result (code.OverLimit p) spelled faulty is = fault_said reading text result (code.OverLimit p) spelled faulty is (λ e. absurd (cc))
+
+pub refusal_of_text : (e : SchemaFault) → IsOfText (refusal_of e)
+refusal_of_text code.Memory = tt
+refusal_of_text (code.NotUtf8 p) = tt
+refusal_of_text (code.Syntax p) = tt
+refusal_of_text (code.TwiceTable p) = tt
+refusal_of_text (code.TwiceColumn p) = tt
+refusal_of_text (code.NoColumn p) = tt
+refusal_of_text (code.KeyColumn p) = tt
+refusal_of_text (code.OverLimit p) = tt
+
 -- the tables of a proper schema
 pub tables_differ : (schema : Schema) → IsProperSchema schema → AreDistinct (map (λ shape. shape.name) schema.tables)
 tables_differ schema proper = proper.tables_differ
@@ -99,4 +123,4 @@ columns_differ schema proper =
 pub unquoted : (schema : Schema) → IsProperSchema schema → All (λ shape. IsUnquoted shape.name) schema.tables
 unquoted schema proper = All-weaker IsProperShape (λ shape. IsUnquoted shape.name) (λ shape is. is.named.no_quote) schema.tables proper.proper
 
-pub ruleset schema_rules = (found_said, fault_said, tables_differ, columns_differ, unquoted)
+pub ruleset schema_rules = (found_said, refusal_said, refusal_of_text, tables_differ, columns_differ, unquoted)

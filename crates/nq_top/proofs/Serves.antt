@@ -18,7 +18,8 @@ use Rattle.sql_profile.specs.Servers.{Asks, with_ask}
 use Rattle.sql_profile.specs.declared.answer.Answer.{Answer}
 use Rattle.sql_profile.specs.declared.server.Loaded.{Loaded}
 use Rattle.sql_profile.proofs.Misfits.{fits_without_misfit}
-use Rattle.sql_profile.proofs.ScanLaws.{allowed_among, allowed_fits}
+use Rattle.sql_profile.proofs.ScanLaws.{allowed_fits}
+use Rattle.sql_profile.proofs.ScanNames.{allowed_among}
 use Rattle.nq_top.proofs.Loads.{can_load}
 use Rattle.nq_top.proofs.Meaning.{allowed_value}
 use Rattle.nq_top.specs.Gathering.{AreServable}

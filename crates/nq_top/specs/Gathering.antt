@@ -10,6 +10,7 @@ use Rattle.nq_model.specs.declared.table.TableShape.{TableShape}
 use Rattle.sql_profile.specs.Servers.{table_names}
 use Rattle.sql_profile.specs.declared.server.Loaded.{Loaded}
 use Rattle.schema_reader.specs.declared.fault.SchemaFault.{SchemaFault}
+use Rattle.schema_reader.specs.declared.fault.SchemaFault.TheVariants as schema
 use Rattle.table_reader.specs.declared.TableFault.{TableFault}
 use Rattle.nq_top.specs.Judging.{Judgement, Verdict, refused, accepted}
 use Rattle.nq_top.specs.declared.gather.Gathered.{Gathered}
@@ -63,6 +64,17 @@ IsOfText (input.Refused (SchemaRefused fault)) = ⊤
 IsOfText (input.Refused NotBuilt) = ⊥
 IsOfText (input.Refused (TableRefused failed fault)) = ⊥
 IsOfText (input.Failed failed) = ⊥
+
+-- the refusal for a fault of a schema text
+abbrev pub refusal_of : SchemaFault → InputRefusal
+refusal_of schema.Memory = input.Memory
+refusal_of (schema.NotUtf8 place) = input.Refused (SchemaRefused (schema.NotUtf8 place))
+refusal_of (schema.Syntax place) = input.Refused (SchemaRefused (schema.Syntax place))
+refusal_of (schema.TwiceTable place) = input.Refused (SchemaRefused (schema.TwiceTable place))
+refusal_of (schema.TwiceColumn place) = input.Refused (SchemaRefused (schema.TwiceColumn place))
+refusal_of (schema.NoColumn place) = input.Refused (SchemaRefused (schema.NoColumn place))
+refusal_of (schema.KeyColumn place) = input.Refused (SchemaRefused (schema.KeyColumn place))
+refusal_of (schema.OverLimit place) = input.Refused (SchemaRefused (schema.OverLimit place))
 
 -- what the reading of a schema text says
 abbrev pub SchemaRefuses : Result Schema SchemaFault → InputRefusal → Type 0

@@ -9,7 +9,7 @@ ghost use Rattle.nq_top.specs.Commands.{command_of, file_of};
 ghost use Rattle.nq_top.specs.FirstForm.{is_first_query};
 ghost use Rattle.table_reader.specs.Tables.{table_of};
 ghost use Rattle.nq_top.specs.Judging.{SchemaReading, Judgement, judgement, schema_judged, query_judged, tables_judged, asked_place, loaded_as};
-ghost use Rattle.nq_top.specs.Gathering.{InputCounts, GatherTells, RefusalTells, FetchSays, FetchNames, RowsSay, SchemaSays, IsOfText, IsUnquoted, AreServable, CanGather};
+ghost use Rattle.nq_top.specs.Gathering.{InputCounts, GatherTells, RefusalTells, FetchSays, FetchNames, RowsSay, SchemaSays, IsOfText, refusal_of, IsUnquoted, AreServable, CanGather};
 
 use crate::first_form::{is_table_query, query_pieces};
 use crate::refusal::{InputRefusal, Refused};
@@ -205,6 +205,22 @@ fn gather_query<I: Inputs>(
     }
 }
 
+// The refusal for a fault of a schema text.
+fn refusal_of(fault: SchemaFault) -> InputRefusal
+    ensures { result ≡ refusal_of fault }
+{
+    match fault {
+        SchemaFault::Memory => InputRefusal::Memory,
+        SchemaFault::NotUtf8 { .. } => InputRefusal::Refused(Refused::Schema(fault)),
+        SchemaFault::Syntax { .. } => InputRefusal::Refused(Refused::Schema(fault)),
+        SchemaFault::TwiceTable { .. } => InputRefusal::Refused(Refused::Schema(fault)),
+        SchemaFault::TwiceColumn { .. } => InputRefusal::Refused(Refused::Schema(fault)),
+        SchemaFault::NoColumn { .. } => InputRefusal::Refused(Refused::Schema(fault)),
+        SchemaFault::KeyColumn { .. } => InputRefusal::Refused(Refused::Schema(fault)),
+        SchemaFault::OverLimit { .. } => InputRefusal::Refused(Refused::Schema(fault)),
+    }
+}
+
 // The schema that a text spells, or its fault.
 #[tactic(auto, using(crate::proofs::SchemaTexts::schema_rules))]
 fn read_found(alloc: Global, text: &[u8]) -> Result<Schema, InputRefusal>
@@ -216,12 +232,7 @@ fn read_found(alloc: Global, text: &[u8]) -> Result<Schema, InputRefusal>
 {
     match read_schema(alloc, text) {
         Ok(schema) => Ok(schema),
-        Err(fault) => {
-            if fault == SchemaFault::Memory {
-                return Err(InputRefusal::Memory);
-            }
-            Err(InputRefusal::Refused(Refused::Schema(fault)))
-        }
+        Err(fault) => Err(refusal_of(fault)),
     }
 }
 

@@ -41,7 +41,10 @@ pub fn run<I: Inputs, O: Sink>(
         (judgement reading (map (λ word. string_bytes word) words.now) files)
         (I.fetched inputs.old) (I.fetched inputs.new) (O.written out.old) (O.written out.new) result) }
 {
-    let gathered = gather(alloc, words, inputs)?;
+    let gathered = match gather(alloc, words, inputs) {
+        Ok(gathered) => gathered,
+        Err(refusal) => return Err(Refusal::Input(refusal)),
+    };
     let text = serve(alloc, gathered, server)?;
     match out.put(text.as_slice()) {
         Ok(()) => Ok(()),
