@@ -1,5 +1,5 @@
 -- Laws of pairings in any order.
-use Rattle.std.proofs.Common.{◌≡◌, ℕ, suc, length, List, [], ◌∷◌, ◌++◌, map, refl, sym, ap, ◌∙◌, subst, flat_map, Bool, true, false, cond, filter, append_assoc, append-nil, subst₂}
+use Rattle.std.proofs.Common.{◌≡◌, suc, length, List, [], ◌∷◌, ◌++◌, map, refl, sym, ap, ◌∙◌, subst, flat_map, Bool, true, false, cond, filter, append_assoc, append-nil, subst₂}
 use Rattle.nq_model.specs.Bags.{Pick, here, there, Matched, Reordered}
 
 -- two picks in a row, in the other order

@@ -1,11 +1,10 @@
 -- Laws of the canonical order and form.
-use Rattle.std.proofs.Common.{◌≡◌, ℕ, suc, List, [], ◌∷◌, ◌++◌, map, refl, sym, ap, ap₂, ◌∙◌, subst, Bool, true, false, cond, length, arith, true≢false, zip, ℤ}
+use Rattle.std.proofs.Common.{◌≡◌, ℕ, List, [], ◌∷◌, map, refl, sym, ap, ap₂, ◌∙◌, subst, Bool, true, false, cond}
 use Rattle.std.specs.declared.cmp.Ordering.{Ordering}
 use Rattle.std.specs.declared.cmp.Ordering.TheVariants.{Less, Equal, Greater}
-use Rattle.std.specs.Ordering.{is_gt, is_lt, ordering_reverse, ordering_then, nat_cmp, int_cmp, bool_cmp}
-use Rattle.std.specs.Cmp.{IsTotalOrder, ranked, int_ranked, int_cmp_total, bool_cmp_total, nat_cmp_total}
+use Rattle.std.specs.Ordering.{is_gt, ordering_reverse, ordering_then, nat_cmp, bool_cmp}
+use Rattle.std.specs.Cmp.{ranked, int_ranked, int_cmp_total, bool_cmp_total}
 use Rattle.std.specs.Cmp.Lexicographic.{slice_cmp, nat_list_cmp_total, lists_total}
-use Rattle.std.specs.List.{AllByRecursion as Each}
 use Rattle.nq_model.specs.Bags.{Pick, here, there, Matched, Reordered}
 use Rattle.nq_model.specs.Orders.{put_by, sorted_by, label_cmp}
 use Rattle.nq_model.specs.Cells.{cell_cmp}
@@ -13,9 +12,8 @@ use Rattle.nq_model.specs.Values.{Nested, base, rec, bag, Elements, end, more, F
 use Rattle.nq_model.specs.Canonical.{value_cmp, fields_cmp, elements_cmp, canonical, canonical_fields, canonical_elements}
 use Rattle.nq_model.specs.declared.table.Cell.{Cell}
 use Rattle.nq_model.specs.declared.table.Cell.TheVariants.{Int, Bool as Truth, Text}
-use Rattle.nq_model.proofs.Bags.{matched_trans, matched_put, reordered_refl}
-use Rattle.nq_model.proofs.Orders.{IsStrictOrder, sorted_pick, put_twice}
-use Rattle.nq_model.proofs.Sameness.{elements_back, elements_of_back, same_refl, same_trans, same_sym, same_matched, matched_same, same_fields_refl}
+use Rattle.nq_model.proofs.Orders.{IsStrictOrder, sorted_pick}
+use Rattle.nq_model.proofs.Sameness.{elements_back, same_trans, same_sym, same_matched}
 
 -- two comparisons, one after the other
 then_ties : (r s : Ordering) → ordering_then r s ≡ Equal → (r ≡ Equal) × (s ≡ Equal)

@@ -1,13 +1,13 @@
 -- Laws of sorting by a comparison, and of labels in byte order.
-use Rattle.std.proofs.Common.{◌≡◌, ◌≢◌, ℕ, suc, ◌<◌, ◌≤◌, List, [], ◌∷◌, ◌++◌, map, refl, sym, ap, ◌∙◌, subst, Bool, true, false, cond, length, arith, true≢false, zip, zero, get_or, insert, ap₂, ◌+◌, ◌-◌, All}
+use Rattle.std.proofs.Common.{◌≡◌, ℕ, suc, ◌<◌, ◌≤◌, List, [], ◌∷◌, map, refl, sym, ap, ◌∙◌, subst, Bool, true, false, cond, length, arith, true≢false, zip, zero, get_or, insert, ap₂, ◌+◌, ◌-◌, All}
 use Rattle.std.specs.declared.cmp.Ordering.{Ordering}
 use Rattle.std.specs.declared.cmp.Ordering.TheVariants.{Less, Equal, Greater}
-use Rattle.std.specs.Ordering.{is_gt, is_lt, ordering_reverse, nat_cmp}
-use Rattle.std.specs.Cmp.{IsTotalOrder, upto, tied_itself}
+use Rattle.std.specs.Ordering.{is_gt, ordering_reverse}
+use Rattle.std.specs.Cmp.{IsTotalOrder, upto}
 use Rattle.std.specs.List.{AllByRecursion as Each, range_with_len}
 use Rattle.std.proofs.lemmas.List.Elements.{All-cons}
 use Rattle.std.proofs.lemmas.List.Sorted.{All-permutation, IsPermutation-insert}
-use Rattle.nq_model.specs.Bags.{Pick, here, there, Matched, Reordered}
+use Rattle.nq_model.specs.Bags.{Pick, here, there, Reordered}
 use Rattle.nq_model.specs.Orders.{put_by, sorted_by, label_cmp, label_at, place_cmp, label_order, by_label}
 
 -- a comparison by which two elements tie only where they are one

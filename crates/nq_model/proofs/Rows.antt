@@ -1,9 +1,9 @@
 -- Worked examples: what the definitions give, checked by computing them.
-use Rattle.std.proofs.Common.{◌≡◌, Bool, true, false, List, [], ◌∷◌, refl, codes, pos, negsuc, ℕ}
+use Rattle.std.proofs.Common.{◌≡◌, true, false, [], ◌∷◌, refl, codes, pos, negsuc, ℕ}
 use Rattle.std.specs.Fmt.{digits}
 use Rattle.nq_model.specs.Types.{int, bool, bag, fun, rec as rec_type, none as no_fields, field as field_type, is_plain, is_well_formed}
 use Rattle.nq_model.specs.Values.{Nested, base, bag_of, rec_of, same}
-use Rattle.nq_model.specs.Canonical.{canonical_text, value_cmp}
+use Rattle.nq_model.specs.Canonical.{canonical_text}
 use Rattle.nq_model.specs.Tables.{table_value, table_type}
 use Rattle.nq_model.specs.declared.table.Cell.TheVariants.{Int, Bool as Truth, Text}
 use Rattle.nq_model.specs.declared.table.ColumnType.TheVariants as column

@@ -1,13 +1,13 @@
 -- Laws of sameness.
-use Rattle.std.proofs.Common.{◌≡◌, ℕ, zero, suc, ◌+◌, List, [], ◌∷◌, ◌++◌, map, refl, sym, ap, ap₂, ◌∙◌, subst, Bool, true, false, cond, length, arith, Decides, ◌&&◌, nat_eq, true≢false, count_by, ◌⊎◌, inl, inr}
+use Rattle.std.proofs.Common.{◌≡◌, ℕ, suc, ◌+◌, List, [], ◌∷◌, refl, sym, ap, ap₂, ◌∙◌, subst, Bool, true, false, cond, length, arith, Decides, ◌&&◌, nat_eq, true≢false, count_by, ◌⊎◌, inl, inr}
 use Rattle.std.specs.Str.{bytes_eq}
 use Rattle.std.specs.Bool.{one_answer}
 use Rattle.std.specs.List.{AllByRecursion as Each}
 use Rattle.std.proofs.lemmas.Slice.Eq.{bytes_eq-Decides}
 use Rattle.std.proofs.lemmas.Bool.Decides.{Decides-eqb, Decides-int_eq}
 use Rattle.std.proofs.lemmas.List.Sums.{sum_by-cons}
-use Rattle.nq_model.specs.Bags.{Pick, here, there, Matched, Reordered}
-use Rattle.nq_model.specs.Cells.{cell_eq, bool_eq}
+use Rattle.nq_model.specs.Bags.{Pick, here, there, Matched}
+use Rattle.nq_model.specs.Cells.{cell_eq}
 use Rattle.nq_model.specs.declared.table.Cell.{Cell}
 use Rattle.nq_model.specs.declared.table.Cell.TheVariants.{Int, Bool as Truth, Text}
 use Rattle.nq_model.specs.Values.{Nested, base, rec, bag, Elements, end, more, Fields, none, field, elements, elements_of, bag_of, Same, SameFields, SameElements, same, same_fields, same_counts}

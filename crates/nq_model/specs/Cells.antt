@@ -1,8 +1,8 @@
 -- Cells: the values of base types, their types, equality and order.
-use Rattle.std.specs.Prelude.{◌≡◌, ℕ, ℤ, Bool, true, false, not, List, map}
+use Rattle.std.specs.Prelude.{◌≡◌, Bool, true, false, not, List, map}
 use Rattle.std.specs.Str.{bytes_eq}
 use Rattle.std.specs.declared.cmp.Ordering.{Ordering}
-use Rattle.std.specs.declared.cmp.Ordering.TheVariants.{Less, Equal, Greater}
+use Rattle.std.specs.declared.cmp.Ordering.TheVariants.{Less, Greater}
 use Rattle.std.specs.Ordering.{nat_cmp, int_cmp, int_eq, bool_cmp}
 use Rattle.std.specs.Cmp.Lexicographic.{slice_cmp}
 use Rattle.nq_model.specs.declared.table.Cell.{Cell}

@@ -1,5 +1,5 @@
 -- Proper schemas, and what a table means: the bag of its rows as records.
-use Rattle.std.specs.Prelude.{◌≡◌, ℕ, ◌<◌, ◌≤◌, ◌≢◌, ⊤, List, [], ◌∷◌, map, zip, length, Contains, All}
+use Rattle.std.specs.Prelude.{ℕ, ◌<◌, ◌≤◌, List, map, zip, length, Contains, All}
 use Rattle.nq_model.specs.Orders.{by_label, AreDistinct}
 use Rattle.nq_model.specs.Types.{TypeTree, int, bool, text, rec, bag, field_types_of}
 use Rattle.nq_model.specs.Values.{Nested, base, bag_of, rec_of}

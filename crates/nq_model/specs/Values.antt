@@ -1,7 +1,6 @@
 -- Values as plain trees, and when two are the same nested multiset.
-use Rattle.std.specs.Prelude.{◌≡◌, ℕ, ⊤, Bool, true, false, ◌&&◌, nat_eq, List, [], ◌∷◌, map, length, count_by}
+use Rattle.std.specs.Prelude.{◌≡◌, ℕ, ⊤, Bool, true, false, ◌&&◌, nat_eq, List, [], ◌∷◌, length, count_by}
 use Rattle.std.specs.Str.{bytes_eq}
-use Rattle.std.specs.List.{AllByRecursion as Each}
 use Rattle.nq_model.specs.Bags.{Pick}
 use Rattle.nq_model.specs.Cells.{cell_eq}
 use Rattle.nq_model.specs.Orders.{AreRising}

@@ -1,23 +1,20 @@
 -- What the top calls say of a run as a whole: that accepted inputs succeed, and what is left of the
 -- clauses where the server is not seen again.
-use Rattle.std.proofs.Common.{◌≡◌, ◌<◌, ◌⊎◌, ℕ, Bool, true, List, [], ◌∷◌, ◌++◌, Option, Some, None, Result, Ok, Err, refl, sym, ap, ◌∙◌, subst, arith, inl, inr, All, IfSome, slice_get}
-use Rattle.std.specs.Option.{option_map}
+use Rattle.std.proofs.Common.{◌≡◌, ◌⊎◌, ℕ, Bool, true, List, [], ◌∷◌, ◌++◌, Option, Some, None, Result, Ok, Err, refl, sym, ap, ◌∙◌, subst, arith, inl, inr, All, IfSome}
 use Rattle.std.proofs.lemmas.List.{append_cancel_left}
 use Rattle.std.proofs.lemmas.List.Elements.{All-head}
 use Rattle.nq_model.specs.Cells.{RowFits}
-use Rattle.nq_model.specs.declared.table.Cell.{Cell}
-use Rattle.nq_model.specs.declared.table.ColumnType.{ColumnType}
-use Rattle.nq_edge.specs.Edge.{Files, Rose, TellsMore, AppendsPrefix}
+use Rattle.nq_edge.specs.Edge.{Files, Rose}
 use Rattle.sql_profile.specs.Scans.{scan_text, scan_types}
 use Rattle.sql_profile.specs.Servers.{Asks, RoseBelow, with_ask}
 use Rattle.sql_profile.specs.declared.answer.Answer.{Answer as Rows}
 use Rattle.sql_profile.specs.declared.server.Loaded.{Loaded}
 use Rattle.sql_profile.proofs.Misfits.{fits_without_misfit}
-use Rattle.nq_top.specs.Gathering.{Told, Judges}
+use Rattle.nq_top.specs.Gathering.{Told}
 use Rattle.nq_top.specs.Judging.{Judgement, Verdict, SchemaReading, refused, accepted}
 use Rattle.nq_top.specs.Refusals.{status_of}
 use Rattle.nq_top.specs.Serving.{ServerState, AnswersBadly, ServeTells}
-use Rattle.nq_top.specs.Running.{Answer, Served, InputCount, OutputCount, ServerCount, Writes, ServesNone, Tells, Means, Comes, IsDone, Completes, ToldFit, IsFair}
+use Rattle.nq_top.specs.Running.{Answer, InputCount, OutputCount, ServerCount, Tells, Means, Comes, IsDone, Completes, ToldFit, IsFair}
 use Rattle.nq_top.proofs.Runs.{blames_of}
 use Rattle.nq_top.specs.declared.refusal.Refused.{Refused}
 use Rattle.nq_top.specs.declared.refusal.InputRefusal.TheVariants as input
@@ -45,7 +42,7 @@ bad_not_fit : (tables : List Loaded) (asked : ℕ) (old new : ServerState) (hone
 bad_not_fit tables asked old new honest text row column bad told =
     let table = bad.table in
     let one : (scan_text table.name table.columns, record { rows = bad.rows }) ∷ [] ≡ told.more =
-      told_one told.before told.more old.asks new.asks (scan_text table.name table.columns) (record { rows = bad.rows }) told.was told.is bad.was_asked.told in
+    told_one told.before told.more old.asks new.asks (scan_text table.name table.columns) (record { rows = bad.rows }) told.was told.is bad.was_asked.told in
     let P : List ℕ × Rows → Type 0 = λ ask. All (RowFits (scan_types table.columns)) ask.1.rows in
     let Q : Asks → Type 0 = λ asks. All P asks in
     let fits : All P ((scan_text table.name table.columns, record { rows = bad.rows }) ∷ []) = subst Q (sym one) (told.fit table bad.was_asked.is) in

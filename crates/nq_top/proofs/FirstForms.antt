@@ -1,9 +1,9 @@
 -- The pieces of a text, from the front.
-use Rattle.std.proofs.Common.{◌≡◌, ◌<◌, ◌≤◌, ◌+◌, ℕ, zero, suc, Bool, true, false, List, [], ◌∷◌, ◌++◌, length, take, drop, cond, refl, sym, ap, ◌∙◌, arith, ◌&&◌, nat_le, true≢false, slice_index, drop-cons, ◌≢◌, ◌||◌, not}
+use Rattle.std.proofs.Common.{◌≡◌, ◌<◌, ◌≤◌, ◌+◌, ℕ, suc, Bool, true, false, List, [], ◌∷◌, length, take, drop, cond, refl, ap, ◌∙◌, arith, ◌&&◌, true≢false, slice_index, drop-cons}
 use Rattle.std.specs.List.{prefix_len}
 use Rattle.std.proofs.lemmas.Bool.Decides.{nat_tests}
 use Rattle.std.proofs.lemmas.List.{drop_all}
-use Rattle.nq_top.specs.FirstForm.{is_blank, is_word_start, is_word_byte, begins_in_word, with_byte, pieces}
+use Rattle.nq_top.specs.FirstForm.{is_blank, is_word_byte, begins_in_word, with_byte, pieces}
 
 word_is_not_blank : (b : ℕ) → is_word_byte b ≡ true → is_blank b ≡ false
 word_is_not_blank b word = grind (arith, nat_tests)

@@ -1,7 +1,6 @@
 -- How the judgement of the inputs follows from the fetches.
-use Rattle.std.proofs.Common.{◌≡◌, ◌≢◌, ◌<◌, ◌≤◌, ◌+◌, ◌-◌, ℕ, suc, Bool, true, false, List, [], ◌∷◌, ◌++◌, length, map, Some, None, Option, Result, Ok, Err, arith, refl, sym, ap, subst, ◌∙◌, nat_lt, cond, append_assoc, append-nil, All, length-append, IfSome}
+use Rattle.std.proofs.Common.{◌≡◌, ◌≤◌, ℕ, Bool, true, false, List, [], ◌∷◌, ◌++◌, length, map, Some, None, Option, Result, Ok, Err, arith, refl, sym, ap, subst, ◌∙◌, nat_lt, cond, append_assoc, append-nil, All, length-append, IfSome}
 use Rattle.std.specs.Option.{option_map}
-use Rattle.std.specs.List.{AllByRecursion as Each}
 use Rattle.std.proofs.lemmas.List.Elements.{All-head, All-tail, All-push}
 use Rattle.std.proofs.lemmas.List.{map-append}
 use Rattle.nq_model.specs.Cells.{RowFits}
@@ -16,10 +15,9 @@ use Rattle.sql_profile.specs.declared.server.Loaded.{Loaded}
 use Rattle.schema_reader.specs.declared.fault.SchemaFault.{SchemaFault}
 use Rattle.table_reader.specs.declared.TableFault.{TableFault}
 use Rattle.nq_top.specs.Commands.{Command, command_of}
-use Rattle.nq_top.specs.Judging.{Verdict, Judgement, refused, accepted, after, at_once, judged, fetched_then, SchemaReading, schema_said, query_said, query_judged, schema_judged, command_judged, judgement, table_said, loaded_as}
-use Rattle.nq_top.specs.Gathering.{Told, Judges, FetchedSome, FetchedUpTo, RefusalTells, GatherTells, FetchedWithin, FetchRefused, FetchNames, SchemaRefuses, RowsRefused, IsUnquoted, AreServable, CanGather}
+use Rattle.nq_top.specs.Judging.{Judgement, refused, after, at_once, judged, fetched_then, SchemaReading, schema_said, query_said, query_judged, schema_judged, command_judged, judgement, table_said, loaded_as}
+use Rattle.nq_top.specs.Gathering.{Told, RefusalTells, GatherTells, FetchedWithin, FetchRefused, FetchNames, SchemaRefuses, RowsRefused, IsUnquoted, AreServable, CanGather}
 use Rattle.nq_top.specs.declared.gather.Gathered.{Gathered}
-use Rattle.nq_top.specs.declared.refusal.Refused.{Refused}
 use Rattle.nq_top.specs.declared.refusal.Refused.TheVariants.{TooLong, NotBuilt}
 use Rattle.nq_top.specs.declared.refusal.Refused.TheVariants as refusals
 use Rattle.nq_top.specs.declared.refusal.InputRefusal.{InputRefusal}

@@ -1,5 +1,5 @@
 -- Laws of tables that are loaded one after the other.
-use Rattle.std.proofs.Common.{◌≡◌, ◌≢◌, ◌<◌, ◌+◌, ℕ, zero, suc, List, [], ◌∷◌, ◌++◌, length, map, Result, Ok, Err, refl, sym, ap, ◌∙◌, subst, arith, append_assoc, append-nil, All, Contains, reverse, get_or}
+use Rattle.std.proofs.Common.{◌≡◌, ◌≢◌, ◌<◌, ℕ, zero, suc, List, [], ◌∷◌, ◌++◌, length, Result, Ok, Err, refl, sym, ap, ◌∙◌, subst, arith, append_assoc, append-nil, All, Contains, reverse, get_or}
 use Rattle.std.specs.List.{AllByRecursion as Each}
 use Rattle.std.proofs.lemmas.List.{map-append, reverse-append}
 use Rattle.std.proofs.lemmas.List.Elements.{All-head, All-tail}
@@ -8,7 +8,7 @@ use Rattle.nq_model.specs.Orders.{AreDistinct}
 use Rattle.nq_model.specs.Tables.{names_of, types_of}
 use Rattle.sql_profile.specs.Servers.{table_names}
 use Rattle.sql_profile.specs.declared.server.Loaded.{Loaded}
-use Rattle.nq_top.specs.Loading.{CanLoad, LoadedBefore, LoadFails, LoadTells}
+use Rattle.nq_top.specs.Loading.{CanLoad, LoadTells}
 use Rattle.nq_top.specs.Gathering.{AreServable}
 use Rattle.nq_top.specs.declared.refusal.ServerRefusal.{ServerRefusal}
 use Rattle.nq_top.specs.declared.refusal.ServerRefusal.TheVariants as server

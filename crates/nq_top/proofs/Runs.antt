@@ -1,11 +1,9 @@
 -- How a run follows from its parts.
-use Rattle.std.proofs.Common.{◌≡◌, ◌<◌, ℕ, Bool, true, List, Option, Some, None, Result, Ok, Err, refl, sym}
-use Rattle.nq_edge.specs.Edge.{Rose}
-use Rattle.sql_profile.specs.Servers.{Asks}
+use Rattle.std.proofs.Common.{ℕ, Bool, List, Ok, Err}
 use Rattle.sql_profile.specs.declared.server.Loaded.{Loaded}
-use Rattle.nq_top.specs.Gathering.{Told, InputCounts, Judges, RefusalTells}
+use Rattle.nq_top.specs.Gathering.{Told, InputCounts, Judges}
 use Rattle.nq_top.specs.Judging.{Judgement, accepted}
-use Rattle.nq_top.specs.Serving.{ServerState, ServerCounts, RefusalCounts, RefusalServes, RefusalBlames, ServeTells, StaysHonest}
+use Rattle.nq_top.specs.Serving.{ServerState, RefusalServes, RefusalBlames}
 use Rattle.nq_top.specs.Running.{Served, Writes, ServesNone}
 use Rattle.nq_top.specs.declared.gather.Gathered.{Gathered}
 use Rattle.nq_top.specs.declared.refusal.InputRefusal.{InputRefusal}

@@ -5,7 +5,6 @@ use Rattle.nq_model.specs.Orders.{AreDistinct}
 use Rattle.nq_model.specs.SchemaTexts.{Fault, HasFault, Spells}
 use Rattle.nq_model.specs.Tables.{IsProperShape, IsProperSchema, names_of}
 use Rattle.nq_model.specs.declared.table.Schema.{Schema}
-use Rattle.nq_model.specs.declared.table.TableShape.{TableShape}
 use Rattle.schema_reader.specs.Answers.{fault_view, IsFault, Reads}
 use Rattle.schema_reader.specs.declared.fault.SchemaFault.{SchemaFault}
 use Rattle.schema_reader.specs.declared.fault.SchemaFault.TheVariants as code

@@ -1,5 +1,5 @@
 -- How what is told of the server follows from its calls.
-use Rattle.std.proofs.Common.{◌≡◌, ◌<◌, ◌+◌, ℕ, Bool, true, List, [], ◌∷◌, ◌++◌, length, map, Option, Some, None, Result, Ok, Err, refl, sym, ap, ◌∙◌, subst, arith, All, Contains, slice_get, get_or, zero, suc, codes}
+use Rattle.std.proofs.Common.{◌≡◌, ◌<◌, ◌+◌, ℕ, Bool, true, List, [], ◌∷◌, ◌++◌, length, map, Option, Some, None, Result, Ok, Err, refl, sym, ap, ◌∙◌, subst, arith, All, slice_get, get_or, suc, codes}
 use Rattle.std.specs.Option.{is_some}
 use Rattle.std.proofs.lemmas.List.{length-map}
 use Rattle.std.proofs.lemmas.List.Elements.{All-weaker}
@@ -25,7 +25,7 @@ use Rattle.nq_top.proofs.Meaning.{allowed_value}
 use Rattle.nq_top.specs.Gathering.{AreServable}
 use Rattle.nq_top.specs.Meanings.{answer_value, meaning_at, query_meaning}
 use Rattle.nq_top.specs.Loading.{LoadFails}
-use Rattle.nq_top.specs.Serving.{ServerState, AnswerFails, FailsTable, FailsText, ServesText, AnswersBadly, AnswerTells, RefusalServes, ServeTells}
+use Rattle.nq_top.specs.Serving.{ServerState, AnswerFails, ServesText, AnswersBadly, AnswerTells, RefusalServes, ServeTells}
 use Rattle.nq_top.specs.declared.refusal.ServerRefusal.{ServerRefusal}
 use Rattle.nq_top.specs.declared.refusal.ServerRefusal.TheVariants as server
 

@@ -1,21 +1,12 @@
 -- What a status says, by the answer that it stands for.
-use Rattle.std.proofs.Common.{◌≡◌, ◌<◌, ◌⊎◌, ◌↔◌, ◌==◌, ℕ, Bool, true, List, [], ◌∷◌, ◌++◌, Option, Some, None, Result, Ok, Err, refl, sym, ap, ◌∙◌, subst, arith, inl, inr, All, IfSome, slice_get}
-use Rattle.nq_model.specs.Cells.{RowFits}
-use Rattle.nq_model.specs.declared.table.Cell.{Cell}
-use Rattle.nq_edge.specs.Edge.{Files, Rose, TellsMore, AppendsPrefix}
-use Rattle.sql_profile.specs.Scans.{scan_text, scan_types}
-use Rattle.sql_profile.specs.Servers.{Asks, RoseBelow, with_ask}
-use Rattle.sql_profile.specs.declared.server.Loaded.{Loaded}
-use Rattle.sql_profile.proofs.Misfits.{fits_without_misfit}
-use Rattle.nq_top.specs.Gathering.{Told, Judges, RefusalTells}
-use Rattle.nq_top.specs.Judging.{Judgement, Verdict, accepted}
+use Rattle.std.proofs.Common.{◌≡◌, ◌↔◌, ℕ, Bool, true, List, Option, Ok, Err, refl, sym, ap, ◌∙◌, subst, IfSome}
+use Rattle.nq_edge.specs.Edge.{Files}
 use Rattle.nq_top.specs.Noting.{Notes}
 use Rattle.nq_top.specs.Refusals.{status_of}
-use Rattle.nq_top.specs.Serving.{ServerState, AnswersBadly, ServeTells, RefusalBlames}
-use Rattle.nq_top.specs.Running.{Answer, Served, InputCount, OutputCount, ServerCount, PutsOnly, Keeps, Blames, Writes, ServesNone, Tells, Means, RoseAt, ServerRoseAt, PutsAt, KeepsAt, Comes, IsDone, Completes, ToldFit, IsFair}
+use Rattle.nq_top.specs.Serving.{ServerState}
+use Rattle.nq_top.specs.Running.{Answer, InputCount, OutputCount, ServerCount, PutsOnly, Keeps, Blames, RoseAt, ServerRoseAt, PutsAt, KeepsAt, Comes}
 use Rattle.nq_top.specs.declared.refusal.Refused.TheVariants as refused
 use Rattle.nq_top.specs.declared.refusal.InputRefusal.TheVariants as input
-use Rattle.nq_top.specs.declared.refusal.ServerRefusal.{ServerRefusal}
 use Rattle.nq_top.specs.declared.refusal.ServerRefusal.TheVariants as server
 use Rattle.nq_top.specs.declared.refusal.Refusal.TheVariants as refusal
 

@@ -1,11 +1,7 @@
 -- The first form of queries: `table` with the name of a table.
-use Rattle.std.specs.Prelude.{ℕ, ◌==◌, ◌&&◌, ◌||◌, not, nat_le, Bool, true, false, List, [], ◌∷◌, length, codes, Option, Some, None, cond, option_map, nat_eq, drop}
-use Rattle.std.specs.List.{list_any, starts_with}
-use Rattle.std.specs.Str.{bytes_eq, is_utf8}
-use Rattle.nq_model.specs.Tables.{Columns, names_of}
-use Rattle.nq_model.specs.declared.table.TableShape.{TableShape}
-use Rattle.nq_model.specs.declared.table.ColumnType.{ColumnType}
-use Rattle.nq_model.specs.declared.table.ColumnType.TheVariants as column
+use Rattle.std.specs.Prelude.{ℕ, ◌==◌, ◌&&◌, ◌||◌, nat_le, Bool, true, false, List, [], ◌∷◌, codes, cond, nat_eq, drop}
+use Rattle.std.specs.List.{starts_with}
+use Rattle.std.specs.Str.{bytes_eq}
 
 -- space, tab, line feed and carriage return
 abbrev pub is_blank : ℕ → Bool

@@ -1,5 +1,5 @@
 -- What the gathering of inputs says of the calls and of what is held.
-use Rattle.std.specs.Prelude.{◌≡◌, ◌<◌, ◌≤◌, ◌+◌, ℕ, ⊤, List, [], ◌∷◌, ◌++◌, length, map, All, Contains, Option, Some, None, Result, Ok, Err}
+use Rattle.std.specs.Prelude.{◌≡◌, ◌<◌, ◌≤◌, ◌+◌, ℕ, ⊤, List, [], ◌∷◌, ◌++◌, length, map, All, Contains, Option, Some, Result, Ok, Err}
 use Rattle.nq_edge.specs.Edge.{Rose, TellsMore, IsLonger}
 use Rattle.nq_model.specs.Cells.{RowFits}
 use Rattle.nq_model.specs.Orders.{AreDistinct}
@@ -14,7 +14,6 @@ use Rattle.schema_reader.specs.declared.fault.SchemaFault.TheVariants as schema
 use Rattle.table_reader.specs.declared.TableFault.{TableFault}
 use Rattle.nq_top.specs.Judging.{Judgement, Verdict, refused, accepted}
 use Rattle.nq_top.specs.declared.gather.Gathered.{Gathered}
-use Rattle.nq_top.specs.declared.refusal.Refused.{Refused}
 use Rattle.nq_top.specs.declared.refusal.Refused.TheVariants.{Usage, TooLong, NotBuilt, Schema as SchemaRefused, Table as TableRefused}
 use Rattle.nq_top.specs.declared.refusal.InputRefusal.{InputRefusal}
 use Rattle.nq_top.specs.declared.refusal.InputRefusal.TheVariants as input

@@ -1,5 +1,5 @@
 -- How tables are loaded into a server, one after the other.
-use Rattle.std.specs.Prelude.{◌≡◌, ℕ, ⊤, List, [], ◌∷◌, ◌++◌, All, Result, Ok, Err}
+use Rattle.std.specs.Prelude.{◌≡◌, ℕ, ⊤, List, ◌∷◌, ◌++◌, All, Result, Ok, Err}
 use Rattle.nq_model.specs.Cells.{RowFits}
 use Rattle.nq_model.specs.Orders.{AreDistinct}
 use Rattle.nq_model.specs.Tables.{names_of, types_of}

@@ -1,5 +1,5 @@
 -- What a query of a table means over tables, and the value that an answer stands for.
-use Rattle.std.specs.Prelude.{ℕ, Bool, true, false, ◌&&◌, List, [], ◌∷◌, map, filter, drop, zip, pos, slice_get, Option, Some, None}
+use Rattle.std.specs.Prelude.{ℕ, Bool, false, ◌&&◌, List, [], ◌∷◌, map, filter, drop, zip, pos, slice_get, Option, Some, None}
 use Rattle.std.specs.Ordering.{int_eq}
 use Rattle.nq_model.specs.Tables.{table_value}
 use Rattle.nq_model.specs.Values.{Nested, base, bag_of, rec_of}

@@ -1,5 +1,5 @@
 -- What a run comes to, whole.
-use Rattle.std.specs.Prelude.{◌≡◌, ◌<◌, ◌⊎◌, ◌==◌, ◌||◌, ℕ, Bool, true, ⊤, List, [], ◌∷◌, ◌++◌, All, MatchBool, Option, Some, slice_get, IfSome, Result, Ok, Err}
+use Rattle.std.specs.Prelude.{◌≡◌, ◌⊎◌, ◌==◌, ◌||◌, ℕ, Bool, true, ⊤, List, [], ◌∷◌, ◌++◌, All, MatchBool, Option, Some, slice_get, IfSome, Result, Ok, Err}
 use Rattle.std.specs.List.{list_any}
 use Rattle.nq_model.specs.Cells.{RowFits}
 use Rattle.nq_model.specs.Canonical.{canonical_text}
@@ -13,8 +13,6 @@ use Rattle.nq_top.specs.Meanings.{query_meaning}
 use Rattle.nq_top.specs.Noting.{Notes}
 use Rattle.nq_top.specs.Refusals.{status_of}
 use Rattle.nq_top.specs.Serving.{ServerState, RefusalCounts, RefusalBlames}
-use Rattle.nq_top.specs.declared.refusal.InputRefusal.{InputRefusal}
-use Rattle.nq_top.specs.declared.refusal.InputRefusal.TheVariants as input
 use Rattle.nq_top.specs.declared.refusal.ServerRefusal.{ServerRefusal}
 use Rattle.nq_top.specs.declared.refusal.Refusal.{Refusal}
 use Rattle.nq_top.specs.declared.refusal.Refusal.TheVariants as refusal

@@ -1,6 +1,6 @@
 -- What a run says of its server: the tables that it was loaded with, the text that it was asked, and its
 -- answer.
-use Rattle.std.specs.Prelude.{◌≡◌, ℕ, Bool, true, ⊤, List, [], ◌∷◌, ◌++◌, All, Option, Some, None, is_some, slice_get, Result, Ok, Err}
+use Rattle.std.specs.Prelude.{◌≡◌, ℕ, Bool, true, ⊤, List, ◌∷◌, ◌++◌, All, Option, Some, is_some, slice_get, Result, Ok, Err}
 use Rattle.nq_model.specs.Cells.{RowFits}
 use Rattle.nq_model.specs.Canonical.{canonical_text}
 use Rattle.nq_model.specs.Orders.{by_label}
@@ -10,7 +10,6 @@ use Rattle.nq_model.specs.declared.table.ColumnType.{ColumnType}
 use Rattle.sql_profile.specs.Fits.{IsFirstMisfit}
 use Rattle.sql_profile.specs.Scans.{scan_text, scan_types}
 use Rattle.sql_profile.specs.Servers.{Asks, with_ask, RoseBelow}
-use Rattle.sql_profile.specs.declared.answer.Answer.{Answer}
 use Rattle.sql_profile.specs.declared.server.Loaded.{Loaded}
 use Rattle.nq_top.specs.Meanings.{answer_value, query_meaning}
 use Rattle.nq_top.specs.declared.refusal.ServerRefusal.{ServerRefusal}

@@ -1,4 +1,4 @@
-use Rattle.std.proofs.Common.{◌≡◌, ◌+◌, drop}
+use Rattle.std.proofs.Common.{◌≡◌, drop}
 use Rattle.std.specs.List.{position_from}
 use Rattle.nq_top.specs.FirstForm.{is_first_query}
 use Rattle.nq_top.proofs.gather.asked_place.Given as goal

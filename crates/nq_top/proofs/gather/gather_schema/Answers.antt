@@ -1,4 +1,4 @@
-use Rattle.std.proofs.Common.{◌≡◌, List, ℕ, All, sym, subst}
+use Rattle.std.proofs.Common.{List, All, sym, subst}
 use Rattle.nq_model.specs.declared.table.TableShape.{TableShape}
 use Rattle.nq_top.specs.Gathering.{IsUnquoted}
 use Rattle.nq_top.proofs.Gathers.{schema_stops_at}

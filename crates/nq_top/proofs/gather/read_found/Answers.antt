@@ -1,6 +1,5 @@
-use Rattle.std.proofs.Common.{◌≡◌, List, ℕ, sym, subst}
+use Rattle.std.proofs.Common.{sym, subst}
 use Rattle.nq_top.specs.Gathering.{SchemaRefuses}
-use Rattle.nq_top.specs.Judging.{SchemaReading}
 use Rattle.nq_top.specs.declared.refusal.InputRefusal.{InputRefusal}
 use Rattle.nq_top.proofs.SchemaTexts.{found_said, refusal_said}
 use Rattle.nq_top.proofs.gather.read_found.Goals as goal

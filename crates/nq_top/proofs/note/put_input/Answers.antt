@@ -1,4 +1,3 @@
-use Rattle.std.proofs.Common.{◌≡◌, sym}
 use Rattle.nq_top.proofs.note.put_input.Goals as goal
 
 pub returns-in-Failed : goal.returns-in-Failed

@@ -1,4 +1,3 @@
-use Rattle.std.proofs.Common.{◌≡◌, sym}
 use Rattle.nq_top.proofs.note.put_server.Goals as goal
 
 pub returns-in-TableFailed : goal.returns-in-TableFailed

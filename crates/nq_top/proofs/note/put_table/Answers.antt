@@ -1,4 +1,3 @@
-use Rattle.std.proofs.Common.{◌≡◌, sym}
 use Rattle.nq_top.proofs.note.put_table.Goals as goal
 
 pub returns-in-NotUtf8 : goal.returns-in-NotUtf8

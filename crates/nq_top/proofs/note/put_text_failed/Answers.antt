@@ -1,4 +1,3 @@
-use Rattle.std.proofs.Common.{◌≡◌, sym}
 use Rattle.nq_top.proofs.note.put_text_failed.Goals as goal
 
 pub returns : goal.returns

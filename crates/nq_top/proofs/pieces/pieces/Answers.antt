@@ -1,4 +1,4 @@
-use Rattle.std.proofs.Common.{sym, ap, ◌∙◌, ◌++◌, map, List, arith, append-nil, drop, length, ℕ, ◌≡◌, []}
+use Rattle.std.proofs.Common.{sym, ap, ◌∙◌, ◌++◌, map, List, arith, append-nil, drop, ℕ, ◌≡◌, []}
 use Rattle.nq_top.specs.FirstForm.{pieces}
 use Rattle.nq_top.proofs.FirstForms.{pieces_blank, pieces_none}
 use Rattle.nq_top.proofs.pieces.pieces.Goals as goal
