@@ -123,17 +123,28 @@ const CASES: [Case; 13] = [
     },
 ];
 
-// The inputs of a case, with this much white space before its query.
-fn inputs_of(alloc: Global, case: &Case, blanks: usize) -> Result<HeldInputs, Fail> {
-    let mut query = List::new(alloc);
+// So many spaces, and then a text.
+fn padded(alloc: Global, blanks: usize, text: &str) -> Result<List<u8>, Fail> {
+    let mut bytes = List::new(alloc);
     for _ in 0..blanks {
-        query.push(b' ')?;
+        bytes.push(b' ')?;
     }
-    for byte in case.query.as_bytes() {
-        query.push(*byte)?;
+    for byte in text.as_bytes() {
+        bytes.push(*byte)?;
     }
-    let org = List::from_slice(alloc, case.schema.as_bytes())?;
-    let t = List::from_slice(alloc, case.t.as_bytes())?;
+    Ok(bytes)
+}
+
+// The inputs of a case, with so many spaces before its query and before the text of `t`.
+fn inputs_of(
+    alloc: Global,
+    case: &Case,
+    before_query: usize,
+    before_t: usize,
+) -> Result<HeldInputs, Fail> {
+    let org = padded(alloc, 0, case.schema)?;
+    let query = padded(alloc, before_query, case.query)?;
+    let t = padded(alloc, before_t, case.t)?;
     let failing = List::from_slice(alloc, case.failing)?;
     let mut files = List::new(alloc);
     files.push((Text::from_str(alloc, "org")?, org))?;
@@ -141,7 +152,7 @@ fn inputs_of(alloc: Global, case: &Case, blanks: usize) -> Result<HeldInputs, Fa
     files.push((Text::from_str(alloc, "data/t.csv")?, t))?;
     match case.departments {
         Some(rows) => {
-            let rows = List::from_slice(alloc, rows.as_bytes())?;
+            let rows = padded(alloc, 0, rows)?;
             files.push((Text::from_str(alloc, "data/departments.csv")?, rows))?;
             Ok(HeldInputs::new(alloc, files, failing)?)
         }
@@ -149,13 +160,19 @@ fn inputs_of(alloc: Global, case: &Case, blanks: usize) -> Result<HeldInputs, Fa
     }
 }
 
-// Runs a case with this much white space before its query.
-fn check(rt: &impl Abort, alloc: Global, case: &Case, blanks: usize) -> Result<(), Fail> {
+// Runs a case with so many spaces before its query and before the text of `t`.
+fn check(
+    rt: &impl Abort,
+    alloc: Global,
+    case: &Case,
+    before_query: usize,
+    before_t: usize,
+) -> Result<(), Fail> {
     let mut words = Vec::new(alloc);
     for word in case.words {
         words.push(String::from_str(alloc, word)?)?;
     }
-    let mut inputs = inputs_of(alloc, case, blanks)?;
+    let mut inputs = inputs_of(alloc, case, before_query, before_t)?;
     let mut out = HeldSink::new(alloc, case.room)?;
     let mut notes = HeldSink::new(alloc, 200)?;
     let server: Box<dyn SqlServer> = Box::new(alloc, ScanServer::new(alloc))?;
@@ -176,21 +193,43 @@ fn check(rt: &impl Abort, alloc: Global, case: &Case, blanks: usize) -> Result<(
 #[test]
 fn runs_each_case(rt: HostRuntime) -> Result<(), Fail> {
     for case in &CASES {
-        check(&rt, rt.alloc(), case, 0)?;
+        check(&rt, rt.alloc(), case, 0, 0)?;
     }
     Ok(())
 }
 
+// An input that is too long.
+const LONG: Case = Case {
+    schema: "table departments (name: text); table t (b: int, a: text);",
+    status: 10,
+    out: "",
+    ..ONE
+};
+
 #[test]
-fn takes_a_query_of_the_limit_and_none_longer(rt: HostRuntime) -> Result<(), Fail> {
-    check(&rt, rt.alloc(), &ONE, 1_048_576 - 17)?;
-    let long = Case {
-        status: 10,
-        out: "",
+fn takes_inputs_of_the_limit_and_none_longer(rt: HostRuntime) -> Result<(), Fail> {
+    let alloc = rt.alloc();
+    check(&rt, alloc, &ONE, 1_048_576 - 17, 0)?;
+    let long_query = Case {
         note: "nq: input too long: q over 1048576\n",
-        ..ONE
+        ..LONG
     };
-    check(&rt, rt.alloc(), &long, 1_048_576 - 16)
+    check(&rt, alloc, &long_query, 1_048_576 - 16, 0)?;
+    let long_table = Case {
+        schema: "table t (b: int, a: text);",
+        query: "table t",
+        t: "",
+        note: "nq: input too long: data/t.csv over 67108864\n",
+        ..LONG
+    };
+    check(&rt, alloc, &long_table, 0, 67_108_865)?;
+    // The text of `departments` takes 27 bytes of the limit.
+    let shared = Case {
+        t: "",
+        note: "nq: input too long: data/t.csv over 67108837\n",
+        ..LONG
+    };
+    check(&rt, alloc, &shared, 0, 67_108_838)
 }
 
 // A schema, two table texts, and the status and the note that refuse them.
