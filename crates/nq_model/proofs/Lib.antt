@@ -5,3 +5,15 @@ pub mod Counting
 pub mod Orders
 pub mod Canonical
 pub mod Rows
+pub mod Types
+pub mod Terms
+pub mod Numberings
+pub mod OpenLists
+pub mod TypeOf
+pub mod Typing
+pub mod Judging
+pub mod FieldOrders
+pub mod ProperTypes
+pub mod TypingRows
+pub mod Substitution
+pub mod Unfolding

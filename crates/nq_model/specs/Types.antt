@@ -2,6 +2,7 @@
 --
 -- After Cheney, Lindley and Wadler, "Query Shredding", SIGMOD 2014.
 use Rattle.std.specs.Prelude.{ℕ, Bool, true, false, ◌&&◌, List, [], ◌∷◌, map}
+use Rattle.std.specs.Str.{bytes_eq}
 use Rattle.nq_model.specs.declared.ty.Ty.{Ty, fold-Ty}
 use Rattle.nq_model.specs.declared.ty.Ty.TheOpen.{Ty-F}
 
@@ -65,3 +66,19 @@ abbrev mutual
   pub are_well_formed : FieldTypes → Bool
   are_well_formed none = true
   are_well_formed (field l t fields) = is_well_formed t && are_well_formed fields
+
+-- whether two types are one
+abbrev mutual
+  pub type_eq : TypeTree → TypeTree → Bool
+  type_eq int int = true
+  type_eq bool bool = true
+  type_eq text text = true
+  type_eq (rec fs) (rec gs) = field_types_eq fs gs
+  type_eq (bag a) (bag b) = type_eq a b
+  type_eq (fun a b) (fun c d) = type_eq a c && type_eq b d
+  type_eq _ _ = false
+
+  pub field_types_eq : FieldTypes → FieldTypes → Bool
+  field_types_eq none none = true
+  field_types_eq (field l a fs) (field m b gs) = bytes_eq l m && (type_eq a b && field_types_eq fs gs)
+  field_types_eq _ _ = false

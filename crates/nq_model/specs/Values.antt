@@ -1,5 +1,5 @@
 -- Values as plain trees, and when two are the same nested multiset.
-use Rattle.std.specs.Prelude.{◌≡◌, ℕ, ⊤, Bool, true, false, ◌&&◌, nat_eq, List, [], ◌∷◌, length, count_by}
+use Rattle.std.specs.Prelude.{◌≡◌, ℕ, ⊤, Bool, true, false, ◌&&◌, nat_eq, List, [], ◌∷◌, length, count_by, map}
 use Rattle.std.specs.Str.{bytes_eq}
 use Rattle.nq_model.specs.Bags.{Pick}
 use Rattle.nq_model.specs.Cells.{cell_eq}
@@ -57,6 +57,10 @@ value_layer (Value-F.Bag vs) = bag (elements_of vs)
 -- the tree of a value of the program
 abbrev pub nested : Value → Nested
 nested = fold-Value Nested value_layer
+
+-- each field's label and tree
+abbrev pub fields_view : List (List ℕ × Value) → List (List ℕ × Nested)
+fields_view fields = map (λ f. (f.0, nested f.1)) fields
 
 -- the labels of each record in the value differ and stand in byte order
 abbrev mutual

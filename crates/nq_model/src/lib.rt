@@ -1,20 +1,29 @@
-//! Types, values, schemas and tables, with the definitions that every other crate cites.
+//! Types, terms, values, schemas and tables, with the definitions that every other crate cites.
 #![tactic(auto)]
 
 mod laws;
 mod list;
 mod memory;
 mod order;
+mod shift;
+mod step_laws;
+mod subst;
 mod table;
+mod term;
+mod term_copy;
 mod text;
 mod ty;
+mod type_laws;
 mod value;
 
 pub use laws::{canonical_laws, sameness_laws};
 pub use list::List;
 pub use memory::{Memory, boxed};
 pub use order::label_order;
+pub use step_laws::{substitution_laws, unfolding_laws};
 pub use table::{Cell, ColumnType, Schema, Table, TableShape};
+pub use term::{Binary, Node, Term, Unary};
 pub use text::{Label, Text};
 pub use ty::Ty;
+pub use type_laws::{judging_laws, typing_laws};
 pub use value::Value;

@@ -1,9 +1,11 @@
 // Values.
-ghost use Rattle.std.specs.Prelude.{◌≡◌, ◌↔◌, map, count_by, IsTrue};
-ghost use Rattle.nq_model.specs.Values.{nested, fields_of, elements_of, Same, same, same_fields, same_counts};
+ghost use Rattle.std.specs.Prelude.{◌≡◌, ◌↔◌, map, count_by, IfOk, IsTrue};
+ghost use Rattle.nq_model.specs.Values.{nested, fields_view, fields_of, elements_of, Same, same, same_fields, same_counts};
 
 use crate::list::List;
+use crate::memory::Memory;
 use crate::text::{Label, Text};
+use std::alloc::Global;
 
 /// A value. The labels of a record differ and stand in byte order; the elements of a bag stand in any
 /// order, each as often as it is in the bag.
@@ -35,6 +37,21 @@ impl Value {
             (Value::Bag(left), Value::Bag(right)) => left.len() == right.len()
                 && same_counts(left.as_slice(), right.as_slice()),
             _ => false,
+        }
+    }
+
+    /// A copy of the value.
+    #[cycle(copy)]
+    #[tactic(auto, using(crate::proofs::Trees::nested_record, crate::proofs::Trees::nested_bag))]
+    pub fn copy(&self, alloc: Global) -> Result<Value, Memory>
+        ensures { IfOk result (λ copy. nested copy ≡ nested self.now) }
+    {
+        match self {
+            Value::Int(number) => Ok(Value::Int(*number)),
+            Value::Bool(truth) => Ok(Value::Bool(*truth)),
+            Value::Text(text) => Ok(Value::Text(text.copy(alloc)?)),
+            Value::Rec(fields) => Ok(Value::Rec(copy_fields(alloc, fields.as_slice())?)),
+            Value::Bag(elements) => Ok(Value::Bag(copy_elements(alloc, elements.as_slice())?)),
         }
     }
 }
@@ -79,4 +96,26 @@ fn count_same(value: &Value, among: &[Value]) -> usize
         }
     }
     count
+}
+
+#[cycle(copy)]
+fn copy_fields(alloc: Global, fields: &[(Label, Value)]) -> Result<List<(Label, Value)>, Memory>
+    ensures { IfOk result (λ copies. fields_view copies ≡ fields_view fields.now) }
+{
+    let mut copies = List::with_capacity(alloc, fields.len())?;
+    for field in fields {
+        copies.push((field.0.copy(alloc)?, field.1.copy(alloc)?))?;
+    }
+    Ok(copies)
+}
+
+#[cycle(copy)]
+fn copy_elements(alloc: Global, elements: &[Value]) -> Result<List<Value>, Memory>
+    ensures { IfOk result (λ copies. map nested copies ≡ map nested elements.now) }
+{
+    let mut copies = List::with_capacity(alloc, elements.len())?;
+    for element in elements {
+        copies.push(element.copy(alloc)?)?;
+    }
+    Ok(copies)
 }
