@@ -31,7 +31,7 @@ names_by_label columns =
 abbrev pub behind : List ℕ → List ℕ
 behind item = codes ", " ++ item
 
-joined_onto : (x : List ℕ) (xs : List (List ℕ)) → joined (codes ", ") (x ∷ xs) ≡ x ++ flat_map behind xs
+pub joined_onto : (x : List ℕ) (xs : List (List ℕ)) → joined (codes ", ") (x ∷ xs) ≡ x ++ flat_map behind xs
 joined_onto x [] = sym (append-nil x)
 joined_onto x (y ∷ ys) =
     ap (λ (l : List ℕ). x ++ (codes ", " ++ l)) (joined_onto y ys)

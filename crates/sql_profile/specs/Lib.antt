@@ -1,3 +1,13 @@
 pub mod Fits
 pub mod Servers
 pub mod Scans
+pub mod Trees
+pub mod AllowedAnswers
+pub mod ScanTrees
+pub mod Scope
+pub mod Tokens
+pub mod Grammar
+pub mod Machine
+pub mod Texts
+pub mod NumberedKeys
+pub mod WritableNames

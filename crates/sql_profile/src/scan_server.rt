@@ -40,7 +40,7 @@ fn scan_row(alloc: Global, order: &[usize], row: &[Cell]) -> Result<List<Cell>, 
     ensures { IfOk result (λ made. made
         ≡ Int (pos 0) ∷ Int (pos 1) ∷ map (λ place. slice_index_or row.now place (Int (pos 0))) order.now) }
 {
-    let mut made = List::new(alloc);
+    let mut made = List::with_capacity(alloc, order.len() + 2)?;
     made.push(Cell::Int(0))?;
     made.push(Cell::Int(1))?;
     for place in order {
@@ -55,7 +55,7 @@ fn scan_rows(alloc: Global, table: &Loaded) -> Result<List<List<Cell>>, Memory>
     ensures { IfOk result (λ rows. rows ≡ map (scan_row (names_of table.now.columns)) table.now.rows) }
 {
     let order = label_order(alloc, table.columns.as_slice())?;
-    let mut rows = List::new(alloc);
+    let mut rows = List::with_capacity(alloc, table.rows.len())?;
     for row in table.rows.as_slice() {
         rows.push(scan_row(alloc, order.as_slice(), row.as_slice())?)?;
     }

@@ -1,0 +1,6 @@
+pub mod Keys
+pub mod Dealing
+pub mod Choices
+pub mod Parts
+pub mod Besides
+pub mod Evaluating

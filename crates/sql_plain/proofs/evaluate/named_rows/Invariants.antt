@@ -1,0 +1,6 @@
+use Rattle.std.proofs.Common.{◌≡◌, take}
+use Rattle.sql_profile.specs.AllowedAnswers.{named}
+use Rattle.sql_plain.proofs.evaluate.named_rows.Given as goal
+
+abbrev pub invariant-loop-row : goal.invariant-loop-row
+invariant-loop-row l = l.listed ≡ named l.names (take l.row-index l.rows)

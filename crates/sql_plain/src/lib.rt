@@ -1,0 +1,16 @@
+//! A plain evaluator of SQL trees, for tests: nested loops over copies of the tables. Its contract is
+//! the relation of allowed answers.
+#![tactic(auto)]
+
+mod answer;
+mod cell;
+mod evaluate;
+mod number;
+mod scope;
+mod values;
+
+pub use evaluate::evaluate_text;
+pub use number::Ties;
+
+#[cfg(test)]
+mod tests;

@@ -1,0 +1,81 @@
+// Laws of the definitions, each on a function that does nothing.
+ghost use Rattle.std.specs.Prelude.{◌≡◌, ◌≢◌, ◌↔◌, ◌⊎◌, ◌++◌, ◌∷◌, ℕ, List, All, Contains, Some, None, false, length, map, zip};
+ghost use Rattle.std.specs.List.{AllByRecursion as Each};
+ghost use Rattle.nq_model.specs.Bags.{Reordered};
+ghost use Rattle.nq_model.specs.Cells.{RowFits};
+ghost use Rattle.nq_model.specs.Numberings.{Rises, key_lt};
+ghost use Rattle.nq_model.specs.Orders.{AreDistinct};
+ghost use Rattle.nq_model.specs.Tables.{Columns, names_of, types_of};
+ghost use Rattle.nq_model.specs.declared.table.Cell.{Cell};
+ghost use Rattle.sql_profile.specs.AllowedAnswers.{Scope, Tables, TreeAllows, ValueGives};
+ghost use Rattle.sql_profile.specs.NumberedKeys.{IsNthOf, keys_of, number_cells};
+ghost use Rattle.sql_profile.specs.ScanTrees.{scan_tree};
+ghost use Rattle.sql_profile.specs.Scans.{Allows, HasFullRows, IsScan, scan_row};
+ghost use Rattle.sql_profile.specs.Scope.{Broken, Fine, IsWellScoped, Shapes, among, found, judge, names_in, shapes_of};
+ghost use Rattle.sql_profile.specs.Servers.{table_names};
+ghost use Rattle.sql_profile.specs.Texts.{Fault, HasFault, IsAskable, Spells, TextAllows};
+ghost use Rattle.sql_profile.specs.Tokens.{Edition, First};
+ghost use Rattle.sql_profile.specs.Trees.{ExprTrees, PlacedSql, SqlTree, bare, number};
+ghost use Rattle.sql_profile.specs.WritableNames.{IsServable};
+ghost use Rattle.sql_profile.specs.declared.server.Loaded.{Loaded};
+
+/// A text spells exactly one tree, or has exactly one fault, at each depth. A depth of its own bytes is
+/// enough for every text that spells a tree at some depth.
+pub fn text_laws()
+    ensures one_tree { (edition : Edition) (d e : ℕ) (text : List ℕ) (tree other : PlacedSql)
+        → Spells edition d text tree → Spells edition e text other → tree ≡ other }
+    ensures one_fault { (edition : Edition) (d : ℕ) (text : List ℕ) (f g : Fault) (p q : ℕ)
+        → HasFault edition d text f p → HasFault edition d text g q → (f ≡ g) × (p ≡ q) }
+    ensures not_both { (edition : Edition) (d : ℕ) (text : List ℕ) (tree : PlacedSql) (f : Fault) (place : ℕ)
+        → Spells edition d text tree → HasFault edition d text f place → ⊥ }
+    ensures either { (edition : Edition) (d : ℕ) (text : List ℕ)
+        → ((tree : PlacedSql) × Spells edition d text tree) ⊎ ((f : Fault) × (place : ℕ) × HasFault edition d text f place) }
+    ensures bytes_are_deep { (edition : Edition) (d : ℕ) (text : List ℕ) (tree : PlacedSql)
+        → Spells edition d text tree → Spells edition (length text) text tree }
+{}
+
+/// The walk in the order of judging is fine with columns exactly where the tree is well scoped with
+/// them, and so breaks a rule exactly where it has none. What is found under a name is the first that
+/// stands there.
+pub fn scope_laws()
+    ensures agree { (tables : Shapes) (tree : PlacedSql) (columns : Columns)
+        → (judge tables tree ≡ Fine columns) ↔ IsWellScoped tables (bare tree) columns }
+    ensures broken { (tables : Shapes) (tree : PlacedSql) (columns : Columns) (rule place : ℕ)
+        → judge tables tree ≡ Broken rule place → IsWellScoped tables (bare tree) columns → ⊥ }
+    ensures first_found { (name : List ℕ) (before after : List (List ℕ × Columns)) (columns : Columns)
+        → Each (λ n. name ≢ n) (names_in before) → found name (before ++ (name, columns) ∷ after) ≡ Some columns }
+    ensures none_found { (name : List ℕ) (others : List (List ℕ × Columns))
+        → Each (λ n. name ≢ n) (names_in others) → found name others ≡ None }
+    ensures not_among { (name : List ℕ) (names : List (List ℕ)) → (among name names ≡ false) ↔ Each (λ n. name ≢ n) names }
+{}
+
+/// What SQL allows as an answer. A tree that is well scoped over tables whose rows fit allows only rows
+/// of its columns' types. However a numbering numbers ties, the combination with the number n has the
+/// n-th of the sorted key lists, and the pairs of number and key list are one multiset. To the tree of
+/// a scan text it allows what the trait of servers says of that text.
+pub fn answer_laws()
+    ensures fitting { (held : List Loaded) (tree : SqlTree) (columns : Columns) (rows : List (List Cell))
+        → All (λ table. All (RowFits (types_of table.columns)) table.rows) held
+        → IsWellScoped (shapes_of held) tree columns → TreeAllows held tree rows → All (RowFits (types_of columns)) rows }
+    ensures nth_key { (tables : Tables) (kept : List Scope) (keys : ExprTrees) (cells : List Cell) (sorted : List (List Cell))
+        → ValueGives tables kept (number keys) cells → Reordered (keys_of tables keys kept) sorted → Rises key_lt sorted
+        → Each (IsNthOf sorted) (zip cells (keys_of tables keys kept)) }
+    ensures numbers_fixed { (tables : Tables) (kept : List Scope) (keys : ExprTrees) (cells : List Cell) (sorted : List (List Cell))
+        → ValueGives tables kept (number keys) cells → Reordered (keys_of tables keys kept) sorted → Rises key_lt sorted
+        → Reordered (zip cells (keys_of tables keys kept)) (number_cells sorted) }
+    ensures scans { (held : List Loaded) (table : Loaded) → AreDistinct (table_names held) → AreDistinct (names_of table.columns)
+        → HasFullRows table → Contains held table → (rows : List (List Cell))
+        → Reordered (map (scan_row (names_of table.columns)) table.rows) rows ↔ TreeAllows held (scan_tree table.name table.columns) rows }
+{}
+
+/// What SQL allows as an answer to a text. The scan text of a held table may be asked, and SQL allows to
+/// it what the trait of servers says, and nothing else. An answer to a text that may be asked has the
+/// types of the text's columns.
+pub fn ask_laws()
+    ensures askable { (held : List Loaded) (text : List ℕ) → IsServable held → IsScan held text → IsAskable First held text }
+    ensures allowed { (held : List Loaded) (text : List ℕ) (rows : List (List Cell)) → IsServable held → IsScan held text
+        → Allows held text rows ↔ TextAllows First held text rows }
+    ensures fitting { (edition : Edition) (held : List Loaded) (text : List ℕ) (rows : List (List Cell))
+        → All (λ table. All (RowFits (types_of table.columns)) table.rows) held
+        → (asked : IsAskable edition held text) → TextAllows edition held text rows → All (RowFits (types_of asked.columns)) rows }
+{}
