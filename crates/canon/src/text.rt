@@ -7,6 +7,7 @@ ghost use Rattle.canon.specs.Trees.{fields_view};
 ghost use Rattle.canon.specs.Sorted.{IsSortedDeep};
 ghost use Rattle.canon.specs.Texts.{separator};
 
+use itoa::Buffer;
 use nq_model::{Label, List, Memory, Value};
 use std::alloc::Global;
 
@@ -28,7 +29,7 @@ fn write_value(text: &mut String, value: &Value) -> Result<(), Memory>
     ensures { OnOk result (string_bytes text.new ≡ string_bytes text.old ++ written (nested value.now)) }
 {
     match value {
-        Value::Int(number) => Ok(write!(text, "{number}")?),
+        Value::Int(number) => Ok(text.push_str(Buffer::new().format(*number))?),
         Value::Bool(truth) => Ok(write!(text, "{truth}")?),
         Value::Text(quoted) => write_quoted(text, quoted.as_str()),
         Value::Rec(fields) => write_record(text, fields.as_slice()),

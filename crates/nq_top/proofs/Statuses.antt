@@ -1,6 +1,7 @@
 -- What a status says, by the answer that it stands for.
-use Rattle.std.proofs.Common.{◌≡◌, ◌↔◌, ℕ, Bool, true, List, Option, Ok, Err, refl, sym, ap, ◌∙◌, subst, IfSome}
+use Rattle.std.proofs.Common.{◌≡◌, ◌<◌, ◌↔◌, ℕ, Bool, true, List, Option, Ok, Err, refl, sym, ap, ◌∙◌, subst, IfSome}
 use Rattle.nq_edge.specs.Edge.{Files}
+use Rattle.sql_profile.specs.Servers.{RoseBelow}
 use Rattle.nq_top.specs.Noting.{Notes}
 use Rattle.nq_top.specs.Refusals.{status_of}
 use Rattle.nq_top.specs.Serving.{ServerState}
@@ -151,4 +152,8 @@ comes_of held tells notes_old notes_new before now status a is notes told = reco
 
 pub ruleset status_rules = (inputs_at, output_at, server_at, puts_at, keeps_at, usage_at, blames_at, comes_of)
 
-pub ruleset main_rules = (inputs_at)
+-- status 9 comes only below the bound of the server's faults
+pub main_server : (bound before now status : ℕ) → ServerRoseAt 9 bound before now status → status ≡ 9 → before < bound
+main_server bound before now status h nine =
+    let rose : RoseBelow bound before now = subst (λ (s : ℕ). ServerRoseAt 9 bound before now s) nine h in
+    rose.room

@@ -9,13 +9,13 @@ use nq_model::{Cell, Label, List, Memory, Value};
 use std::alloc::Global;
 
 // The value that a cell stands for.
-fn value_of(alloc: Global, cell: &Cell) -> Result<Value, Memory>
-    ensures { IfOk result (λ value. nested value ≡ base cell.now) }
+fn value_of(cell: Cell) -> Value
+    ensures { nested result ≡ base cell }
 {
     match cell {
-        Cell::Int(number) => Ok(Value::Int(*number)),
-        Cell::Bool(truth) => Ok(Value::Bool(*truth)),
-        Cell::Text(text) => Ok(Value::Text(text.copy(alloc)?)),
+        Cell::Int(number) => Value::Int(number),
+        Cell::Bool(truth) => Value::Bool(truth),
+        Cell::Text(text) => Value::Text(text),
     }
 }
 
@@ -29,38 +29,40 @@ fn is_top(row: &[Cell]) -> bool
     }
 }
 
-// The record of cells beside their labels.
-
-fn record_of(alloc: Global, labels: &[Label], cells: &[Cell]) -> Result<Value, Memory>
-    requires { length cells.now ≡ length labels.now }
-    ensures { IfOk result (λ value. nested value ≡ rec_of (zip labels.now (map base cells.now))) }
+// The record of cells beside their labels. The cells are moved.
+fn record_of(alloc: Global, labels: &[Label], cells: Vec<Cell>) -> Result<Value, Memory>
+    requires { length cells.items ≡ length labels.now }
+    ensures { IfOk result (λ value. nested value ≡ rec_of (zip labels.now (map base cells.items))) }
 {
     let mut fields = List::with_capacity(alloc, labels.len())?;
-    for (place, label) in labels.iter().enumerate() {
-        fields.push((label.copy(alloc)?, value_of(alloc, &cells[place])?))?;
+    for cell in cells {
+        let label = labels[fields.len()].copy(alloc)?;
+        fields.push((label, value_of(cell)))?;
     }
     Ok(Value::Rec(fields))
 }
 
 // The element that a row stands for: its cells after the outer index, beside their labels.
-fn element_of(alloc: Global, labels: &[Label], row: &[Cell]) -> Result<Value, Memory>
-    requires { length row.now ≡ length labels.now + 2 }
-    ensures { IfOk result (λ value. nested value ≡ element_of labels.now row.now) }
+fn element_of(alloc: Global, labels: &[Label], row: List<Cell>) -> Result<Value, Memory>
+    requires { length row ≡ length labels.now + 2 }
+    ensures { IfOk result (λ value. nested value ≡ element_of labels.now row) }
 {
-    let (_, cells) = row.split_at(2);
+    let mut cells = row.into_vec();
+    let _tag = cells.remove(0);
+    let _number = cells.remove(0);
     record_of(alloc, labels, cells)
 }
 
-// The bag that rows stand for.
+// The bag that rows stand for. Each row is given up once its element was made.
 #[tactic(auto, using(nq_model::proofs::Trees::nested_bag), unfolding(crate::specs::Meanings::answer_value))]
-fn answer_value(alloc: Global, labels: &[Label], rows: &[List<Cell>]) -> Result<Value, Memory>
-    requires { All (λ row. length row ≡ length labels.now + 2) rows.now }
-    ensures { IfOk result (λ value. nested value ≡ answer_value labels.now rows.now) }
+fn answer_value(alloc: Global, labels: &[Label], rows: List<List<Cell>>) -> Result<Value, Memory>
+    requires { All (λ row. length row ≡ length labels.now + 2) rows }
+    ensures { IfOk result (λ value. nested value ≡ answer_value labels.now rows) }
 {
     let mut elements = List::with_capacity(alloc, rows.len())?;
-    for row in rows {
+    for row in rows.into_vec() {
         if is_top(row.as_slice()) {
-            elements.push(element_of(alloc, labels, row.as_slice())?)?;
+            elements.push(element_of(alloc, labels, row)?)?;
         }
     }
     Ok(Value::Bag(elements))
@@ -68,9 +70,13 @@ fn answer_value(alloc: Global, labels: &[Label], rows: &[List<Cell>]) -> Result<
 
 /// The canonical text of the bag that the rows of an answer stand for, whose labels are these. Rows of
 /// another outer index than that of the top are not used.
-pub fn answer_text(alloc: Global, labels: &[Label], rows: &[List<Cell>]) -> Result<List<u8>, Memory>
-    requires { All (λ row. length row ≡ length labels.now + 2) rows.now }
-    ensures { IfOk result (λ text. text ≡ canonical_text (answer_value labels.now rows.now)) }
+pub fn answer_text(
+    alloc: Global,
+    labels: &[Label],
+    rows: List<List<Cell>>,
+) -> Result<List<u8>, Memory>
+    requires { All (λ row. length row ≡ length labels.now + 2) rows }
+    ensures { IfOk result (λ text. text ≡ canonical_text (answer_value labels.now rows)) }
 {
     let value = answer_value(alloc, labels, rows)?;
     let sorted = sort_deep(alloc, value)?;

@@ -115,12 +115,12 @@ fn answer_of(
 
 // The text of an answer, if it fits the question.
 #[tactic(auto, using(crate::proofs::Serves::wide_rows))]
-fn text_of(alloc: Global, question: &Question, answer: &Answer) -> Result<List<u8>, ServerRefusal>
+fn text_of(alloc: Global, question: &Question, answer: Answer) -> Result<List<u8>, ServerRefusal>
     requires { length question.now.types ≡ length question.now.labels + 2 }
-    ensures { AnswerTells question.now.labels question.now.types answer.now.rows result }
+    ensures { AnswerTells question.now.labels question.now.types answer.rows result }
 {
-    match fits(answer, question.types.as_slice()) {
-        Ok(()) => Ok(answer_text(alloc, question.labels.as_slice(), answer.rows.as_slice())?),
+    match fits(&answer, question.types.as_slice()) {
+        Ok(()) => Ok(answer_text(alloc, question.labels.as_slice(), answer.rows)?),
         Err(misfit) => Err(ServerRefusal::BadAnswer {
             text: 1,
             row: misfit.row,
@@ -150,5 +150,5 @@ pub fn serve(
     let Gathered { tables, asked } = gathered;
     let question = question_of(alloc, &tables.as_slice()[asked])?;
     let answer = answer_of(alloc, server, tables, question.text.as_slice())?;
-    text_of(alloc, &question, &answer)
+    text_of(alloc, &question, answer)
 }

@@ -101,7 +101,6 @@ pub fn nq_lent<I: Inputs, O: Sink, N: Sink>(
 /// Its clauses are those of `nq_lent` that do not name the server after the call: 9 comes only where the
 /// server's count of faults was below its bound, and at 0 the text is that of what the query means where
 /// the server is honest.
-#[tactic(auto, using(crate::proofs::Statuses::main_rules))]
 pub fn nq_main<I: Inputs, O: Sink, N: Sink>(
     alloc: Global,
     words: &[String],
@@ -128,5 +127,7 @@ pub fn nq_main<I: Inputs, O: Sink, N: Sink>(
         (λ tables asked. (failures server ≡ bound server) × (honest server ≡ true)) result) }
 {
     let mut server = server;
-    nq_lent(alloc, words, inputs, out, notes, &mut server)
+    let exit_status = nq_lent(alloc, words, inputs, out, notes, &mut server);
+    drop(server);
+    exit_status
 }
