@@ -1,0 +1,6 @@
+mod Bags
+mod Fields
+mod Loops
+mod TableRows
+mod Trees
+mod Stepping
