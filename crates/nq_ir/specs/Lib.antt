@@ -1,0 +1,12 @@
+pub mod Trees
+pub mod Meanings
+pub mod Parts
+pub mod Building
+pub mod Spots
+pub mod Lets
+pub mod WellFormed
+pub mod Paths
+pub mod Among
+pub mod RawForms
+pub mod NormalForms
+pub mod Printed

@@ -1,0 +1,45 @@
+// Laws of the forms, each on a function that does nothing.
+ghost use Rattle.std.specs.Prelude.{◌≡◌, ◌++◌, [], List, map};
+ghost use Rattle.std.specs.List.{AllByRecursion as Each};
+ghost use Rattle.nq_model.specs.Databases.{database};
+ghost use Rattle.nq_model.specs.Numberings.{TellsApart};
+ghost use Rattle.nq_model.specs.Tables.{IsProperSchema};
+ghost use Rattle.nq_model.specs.Types.{TypeTree, bag};
+ghost use Rattle.nq_model.specs.Values.{Same, bag_of};
+ghost use Rattle.nq_model.specs.declared.table.Schema.{Schema};
+ghost use Rattle.nq_model.specs.declared.table.Table.{Table};
+ghost use Rattle.nq_ir.specs.declared.base.Gen.{Gen};
+ghost use Rattle.nq_ir.specs.Trees.{FormTree, Conds};
+ghost use Rattle.nq_ir.specs.Meanings.{Tables, rows_in, kept, form_meaning};
+ghost use Rattle.nq_ir.specs.Building.{built};
+ghost use Rattle.nq_ir.specs.Paths.{paths};
+ghost use Rattle.nq_ir.specs.Spots.{strands, spots, top_spot, shredded, spot_cells, OutersKept};
+ghost use Rattle.nq_ir.specs.Lets.{FlatRow, flat, AllGive};
+ghost use Rattle.nq_ir.specs.WellFormed.{IsWellFormed, AreTablesOf, column_names};
+
+/// The spots of a well-formed form build its meaning. A spot is its tag and its cells: the choices of rows
+/// for the generators in scope are told apart by them, over tables of a schema.
+pub fn spot_laws()
+    ensures meaning { (schema : Schema) (form : FormTree) → IsWellFormed schema.tables form → (ts : Tables)
+        → bag_of (built (spots ts (strands form.element form.comps)) form.element 0 top_spot) ≡ form_meaning ts form }
+    ensures cells { (schema : Schema) (tables : List Table) → AreTablesOf schema.tables tables → (gens : List Gen) (conds : Conds)
+        → TellsApart spot_cells (kept (rows_in (database schema.tables tables)) gens conds []) }
+{}
+
+/// The shredded forms at the paths of a well-formed form have the strands of all its comprehensions, path by
+/// path. The children in their rows stand at the kept choices of all generators in scope.
+pub fn shredding_laws()
+    ensures strands { (schema : Schema) (form : FormTree) → IsWellFormed schema.tables form
+        → map (shredded form.element form.comps) (paths (bag form.element)) ≡ strands form.element form.comps }
+    ensures rows { (schema : Schema) (form : FormTree) → IsProperSchema schema → IsWellFormed schema.tables form → (ts : Tables)
+        → Each (Each (OutersKept ts)) (strands form.element form.comps) }
+{}
+
+/// Rows that the let forms of a well-formed form allow, however they number ties and in whatever order the
+/// rows come, build the form's meaning: the children of a spot are found by its tag and its number.
+pub fn let_laws()
+    ensures { (schema : Schema) (form : FormTree) (tables : List Table) → IsProperSchema schema → IsWellFormed schema.tables form
+        → AreTablesOf schema.tables tables → (rows : List (List FlatRow))
+        → AllGive (column_names schema.tables) (rows_in (database schema.tables tables)) form rows
+        → Same (bag_of (built (flat rows) form.element 0 (0, 1))) (form_meaning (rows_in (database schema.tables tables)) form) }
+{}

@@ -1,0 +1,16 @@
+//! Normal, shredded and let forms of queries, and what they mean.
+#![tactic(auto)]
+
+mod base;
+mod laws;
+mod lets;
+mod normal;
+mod path;
+mod shredded;
+
+pub use base::{Base, Gen, Test, copy_conds, copy_gens};
+pub use laws::{let_laws, shredding_laws, spot_laws};
+pub use lets::{LetForm, LetPart, LetQuery};
+pub use normal::{Body, Comp, Normal};
+pub use path::{Path, Step};
+pub use shredded::{Shape, Shredded, Strand};

@@ -1,0 +1,3 @@
+pub mod Columns
+pub mod Under
+pub mod Places

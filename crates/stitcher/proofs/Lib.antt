@@ -1,0 +1,5 @@
+pub mod MoreParts
+pub mod Laid
+pub mod Reading
+pub mod Stitched
+pub mod Examples

@@ -1,0 +1,55 @@
+// Index schemes.
+ghost use Rattle.std.specs.Prelude.{◌≡◌, IfOk};
+ghost use Rattle.nq_model.specs.Cells.{RowFits};
+ghost use Rattle.stitcher.specs.Schemes.{Scheme, IsPath, IsLeaf, IsSlot, BasesAreTyped};
+
+use nq_model::{Cell, ColumnType, List, Memory};
+use std::alloc::Global;
+use std::hash::Hash;
+
+/// How the rows of flat answers name the bags that they stand in and hold. A scheme belongs to one plain
+/// type. The numbers that its calls take count parts of that type from 0: paths in their order, base parts
+/// and inner bags of the element at a path in label order.
+///
+/// After Cheney, Lindley and Wadler, "Query Shredding", SIGMOD 2014.
+pub trait IndexScheme {
+    type Index: Eq + Hash + Drop;
+
+    ghost scheme: { Self → Scheme Self.Index };
+
+    /// The columns of the answer at a path.
+    fn columns(&self, alloc: Global, path: u64) -> Result<List<ColumnType>, Memory>
+        requires { IsPath (scheme self.now) path }
+        ensures { IfOk result (λ columns. columns ≡ (scheme self.now).columns path) };
+
+    /// The column of a base part, counted from 1.
+    fn base(&self, path: u64, leaf: u64) -> u64
+        requires { IsLeaf (scheme self.now) path leaf }
+        ensures { result ≡ (scheme self.now).base path leaf };
+
+    /// The index of the whole value.
+    fn top(&self) -> Self::Index
+        ensures { result ≡ (scheme self.now).top };
+
+    /// The index of the bag in which a row's element stands.
+    fn outer(&self, alloc: Global, path: u64, row: &List<Cell>) -> Result<Self::Index, Memory>
+        requires path { IsPath (scheme self.now) path }
+        requires row { RowFits ((scheme self.now).columns path) row.now }
+        ensures { IfOk result (λ index. index ≡ (scheme self.now).outer path row.now) };
+
+    /// The index that a row gives for an inner bag.
+    fn inner(
+        &self,
+        alloc: Global,
+        path: u64,
+        slot: u64,
+        row: &List<Cell>,
+    ) -> Result<Self::Index, Memory>
+        requires slot { IsSlot (scheme self.now) path slot }
+        requires row { RowFits ((scheme self.now).columns path) row.now }
+        ensures { IfOk result (λ index. index ≡ (scheme self.now).inner path slot row.now) };
+
+    ghost compares: { (s : Self) (i j : Self.Index) → (scheme s).is i j ≡ Self.Index.Eq.eq i j };
+
+    ghost bases_are_typed: { (s : Self) → BasesAreTyped (scheme s) };
+}
