@@ -1,0 +1,14 @@
+use Rattle.nq_parser.proofs.Verdicts.{one_holds, not_both, one_term, one_fault}
+use Rattle.nq_parser.proofs.laws.query_laws.Goals as goal
+
+pub returns-clause-some : goal.returns-clause-some
+returns-clause-some c = one_holds
+
+pub returns-clause-not_both : goal.returns-clause-not_both
+returns-clause-not_both c = not_both
+
+pub returns-clause-one_term : goal.returns-clause-one_term
+returns-clause-one_term c = one_term
+
+pub returns-clause-one_fault : goal.returns-clause-one_fault
+returns-clause-one_fault c = one_fault

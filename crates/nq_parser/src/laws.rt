@@ -1,0 +1,13 @@
+// Laws of what a query text spells, on a function that does nothing.
+ghost use Rattle.std.specs.Prelude.{◌≡◌, ℕ, List, ◌⊎◌};
+ghost use Rattle.nq_model.specs.Terms.{PlacedTerm};
+ghost use Rattle.nq_model.specs.QueryTexts.{Fault, HasFault, Spells};
+
+/// At each depth a text either spells one term or has one fault at one place.
+pub fn query_laws()
+    ensures some { (depth : ℕ) (text : List ℕ) → ((t : PlacedTerm) × Spells depth text t) ⊎ ((f : Fault) × (place : ℕ) × HasFault depth text f place) }
+    ensures not_both { (depth : ℕ) (text : List ℕ) (t : PlacedTerm) (f : Fault) (place : ℕ) → Spells depth text t → HasFault depth text f place → ⊥ }
+    ensures one_term { (depth : ℕ) (text : List ℕ) (t u : PlacedTerm) → Spells depth text t → Spells depth text u → t ≡ u }
+    ensures one_fault { (depth : ℕ) (text : List ℕ) (f g : Fault) (place other : ℕ) → HasFault depth text f place → HasFault depth text g other
+        → (f ≡ g) × (place ≡ other) }
+{}
