@@ -1,0 +1,5 @@
+pub mod Answers
+pub mod Scopes
+pub mod Indexes
+pub mod Steps
+pub mod Separators

@@ -1,0 +1,64 @@
+// Base types, and what operators give on them.
+ghost use Rattle.std.specs.Prelude.{◌≡◌};
+ghost use Rattle.nq_model.specs.Types.{type_tree};
+ghost use Rattle.nq_model.specs.Tables.{base_type};
+ghost use Rattle.nq_model.specs.Operators.{unary_type, binary_type};
+ghost use Rattle.nq_model.specs.TypeOf.{base_of};
+
+use nq_model::{Binary, ColumnType, Ty, Unary};
+
+// The base type that a type is, if it is one.
+pub(crate) fn base_of(ty: &Ty) -> Option<ColumnType>
+    ensures { result ≡ base_of (type_tree ty.now) }
+{
+    match ty {
+        Ty::Int => Some(ColumnType::Int),
+        Ty::Bool => Some(ColumnType::Bool),
+        Ty::Text => Some(ColumnType::Text),
+        Ty::Rec(_) | Ty::Bag(_) | Ty::Fun(_, _) => None,
+    }
+}
+
+// The type that a base type is.
+pub(crate) fn of_base(base: ColumnType) -> Ty
+    ensures { type_tree result ≡ base_type base }
+{
+    match base {
+        ColumnType::Int => Ty::Int,
+        ColumnType::Bool => Ty::Bool,
+        ColumnType::Text => Ty::Text,
+    }
+}
+
+// What an operator gives on an operand of this type.
+pub(crate) fn unary_type(op: Unary, of: ColumnType) -> Option<ColumnType>
+    ensures { result ≡ unary_type op of }
+{
+    match (op, of) {
+        (Unary::Minus, ColumnType::Int) => Some(ColumnType::Int),
+        (Unary::Not, ColumnType::Bool) => Some(ColumnType::Bool),
+        _ => None,
+    }
+}
+
+// What an operator gives on operands of these types.
+pub(crate) fn binary_type(op: Binary, left: ColumnType, right: ColumnType) -> Option<ColumnType>
+    ensures { result ≡ binary_type op left right }
+{
+    if left != right {
+        return None;
+    }
+    match op {
+        Binary::Add | Binary::Sub | Binary::Mul => match left {
+            ColumnType::Int => Some(ColumnType::Int),
+            ColumnType::Bool | ColumnType::Text => None,
+        },
+        Binary::And | Binary::Or => match left {
+            ColumnType::Bool => Some(ColumnType::Bool),
+            ColumnType::Int | ColumnType::Text => None,
+        },
+        Binary::Eq | Binary::Ne | Binary::Lt | Binary::Le | Binary::Gt | Binary::Ge => {
+            Some(ColumnType::Bool)
+        }
+    }
+}
