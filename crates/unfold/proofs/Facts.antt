@@ -1,0 +1,122 @@
+-- How the code's parts fit the definitions.
+use Rattle.std.proofs.Common.{◌≡◌, ◌≢◌, ℕ, zero, suc, ◌+◌, ◌-◌, ◌<◌, cond, Bool, true, false, List, [], ◌∷◌, ◌++◌, map, reverse, refl, sym, ap, ◌∙◌, nat_lt, arith, length, drop, Option, Some, None, bytes_eq, slice_index_or, option_map, slice_get}
+use Rattle.std.proofs.lemmas.List.{reverse-append, map-append}
+use Rattle.std.specs.Prelude.{MatchOption}
+use Rattle.nq_model.specs.declared.term.Term.{Term}
+use Rattle.unfold.specs.declared.built.Built.{Built}
+use Rattle.nq_model.specs.Terms.{PlacedTerm, PlacedNode, PlacedFields, at, placed, placed_fields_of}
+use Rattle.nq_model.specs.Substitution.{shift, shift_fields}
+use Rattle.nq_model.specs.Unfolding.{picked}
+use Rattle.unfold.specs.Hereditary.{or_else, field_by, substitute, substitute_fields, apply_by, apply_at, walk, walk_fields}
+
+-- shifting by nothing
+shift_zero_var : (k : ℕ) (b : Bool) → cond b k (k + 0) ≡ k
+shift_zero_var k true = refl
+shift_zero_var k false = omega arith
+
+mutual
+  pub shift_zero : (c : ℕ) (t : PlacedTerm) → shift 0 c t ≡ t
+  shift_zero c (at p (PlacedNode.var k)) = ap (λ x. at p (PlacedNode.var x)) (shift_zero_var k (nat_lt k c))
+  shift_zero c (at p (PlacedNode.int n)) = refl
+  shift_zero c (at p (PlacedNode.bool b)) = refl
+  shift_zero c (at p (PlacedNode.text t)) = refl
+  shift_zero c (at p (PlacedNode.table l)) = refl
+  shift_zero c (at p (PlacedNode.unary op t)) = rw (shift_zero c t) refl
+  shift_zero c (at p (PlacedNode.binary op t u)) = rw (shift_zero c t, shift_zero c u) refl
+  shift_zero c (at p (PlacedNode.choose t u v)) = rw (shift_zero c t, shift_zero c u, shift_zero c v) refl
+  shift_zero c (at p (PlacedNode.fun k t)) = rw (shift_zero (c + 1) t) refl
+  shift_zero c (at p (PlacedNode.apply t u)) = rw (shift_zero c t, shift_zero c u) refl
+  shift_zero c (at p (PlacedNode.rec fs)) = rw (shift_zeros c fs) refl
+  shift_zero c (at p (PlacedNode.field t l)) = rw (shift_zero c t) refl
+  shift_zero c (at p (PlacedNode.empty t)) = rw (shift_zero c t) refl
+  shift_zero c (at p (PlacedNode.single t)) = rw (shift_zero c t) refl
+  shift_zero c (at p (PlacedNode.nil k)) = refl
+  shift_zero c (at p (PlacedNode.union t u)) = rw (shift_zero c t, shift_zero c u) refl
+  shift_zero c (at p (PlacedNode.for t u)) = rw (shift_zero c t, shift_zero (c + 1) u) refl
+  shift_zero c (at p (PlacedNode.guard t u)) = rw (shift_zero c t, shift_zero c u) refl
+  shift_zero c (at p (PlacedNode.bind t u)) = rw (shift_zero c t, shift_zero (c + 1) u) refl
+
+  shift_zeros : (c : ℕ) (fs : PlacedFields) → shift_fields 0 c fs ≡ fs
+  shift_zeros c PlacedFields.none = refl
+  shift_zeros c (PlacedFields.with_field l t fs) = rw (shift_zero c t, shift_zeros c fs) refl
+
+-- what is done to each field
+pub substitute_fields-of : (app : ℕ → PlacedTerm → PlacedTerm → PlacedTerm) (c : ℕ) (s : PlacedTerm) (fs : List (List ℕ × PlacedTerm)) → substitute_fields app c s (placed_fields_of fs) ≡ placed_fields_of (map (λ f. (f.0, substitute app c s f.1)) fs)
+substitute_fields-of app c s [] = refl
+substitute_fields-of app c s (f ∷ fs) = ap (PlacedFields.with_field f.0 (substitute app c s f.1)) (substitute_fields-of app c s fs)
+
+pub walk_fields-of : (n : ℕ) (fs : List (List ℕ × PlacedTerm)) → walk_fields n (placed_fields_of fs) ≡ placed_fields_of (map (λ f. (f.0, walk n f.1)) fs)
+walk_fields-of n [] = refl
+walk_fields-of n (f ∷ fs) = ap (PlacedFields.with_field f.0 (walk n f.1)) (walk_fields-of n fs)
+
+app_nil : {A : Type 0} (xs : List A) → xs ++ [] ≡ xs
+app_nil [] = refl
+app_nil (x ∷ xs) = ap (λ ys. x ∷ ys) (app_nil xs)
+
+app_assoc : {A : Type 0} (xs ys zs : List A) → (xs ++ ys) ++ zs ≡ xs ++ (ys ++ zs)
+app_assoc [] ys zs = refl
+app_assoc (x ∷ xs) ys zs = ap (λ l. x ∷ l) (app_assoc xs ys zs)
+
+turn : {A : Type 0} (xs : List A) (x : A) → reverse (xs ++ x ∷ []) ≡ x ∷ reverse xs
+turn xs x = reverse-append xs (x ∷ [])
+
+turn_twice : {A : Type 0} (xs : List A) → reverse (reverse xs) ≡ xs
+turn_twice [] = refl
+turn_twice (x ∷ xs) = ap reverse (reverse-append (x ∷ []) xs) ∙ turn (reverse xs) x ∙ ap (λ ys. x ∷ ys) (turn_twice xs)
+
+-- one turn of a loop that pops and pushes
+pub popped : {X A : Type 0} (v : X → A) (f : A → A) (all pushed old new : List X) (x y : X) (whole : List A) → old ≡ new ++ x ∷ [] → pushed ≡ all ++ y ∷ [] → v y ≡ f (v x) → map v all ++ reverse (map f (map v old)) ≡ whole → map v pushed ++ reverse (map f (map v new)) ≡ whole
+popped v f all pushed old new x y whole e q p h =
+    let m : map f (map v old) ≡ map f (map v new) ++ f (v x) ∷ [] = ap (λ l. map f (map v l)) e ∙ ap (map f) (map-append v new (x ∷ [])) ∙ map-append f (map v new) (v x ∷ []) in
+    let r : reverse (map f (map v old)) ≡ f (v x) ∷ reverse (map f (map v new)) = ap reverse m ∙ turn (map f (map v new)) (f (v x)) in
+    let w : map v pushed ≡ map v all ++ v y ∷ [] = ap (map v) q ∙ map-append v all (y ∷ []) in
+    ap (λ l. l ++ reverse (map f (map v new))) w ∙ app_assoc (map v all) (v y ∷ []) (reverse (map f (map v new))) ∙ ap (λ z. map v all ++ z ∷ reverse (map f (map v new))) p ∙ ap (λ l. map v all ++ l) (sym r) ∙ h
+
+-- the end of that loop
+pub turned : {X A B : Type 0} (v : X → A) (u : X → B) (f : A → B) (all back : List X) (rest first : List X) → rest ≡ [] → back ≡ reverse all → map u all ++ reverse (map f (map v rest)) ≡ reverse (map f (map v first)) → map u back ≡ map f (map v first)
+turned v u f all back rest first e b h =
+    let r : reverse (map f (map v rest)) ≡ [] = ap (λ l. reverse (map f (map v l))) e in
+    let m : map u all ≡ reverse (map f (map v first)) = sym (app_nil (map u all)) ∙ ap (λ l. map u all ++ l) (sym r) ∙ h in
+    ap (map u) b ∙ map_turn u all ∙ ap reverse m ∙ turn_twice (map f (map v first))
+  where
+    map_turn : {X B : Type 0} (u : X → B) (xs : List X) → map u (reverse xs) ≡ reverse (map u xs)
+    map_turn u [] = refl
+    map_turn u (x ∷ xs) =
+        ap (map u) (reverse-append (x ∷ []) xs) ∙ map-append u (reverse xs) (x ∷ []) ∙ ap (λ l. l ++ u x ∷ []) (map_turn u xs) ∙ sym (reverse-append (u x ∷ []) (map u xs))
+
+pub found : {X : Type 0} (v : X → PlacedTerm) (l : List ℕ) (fs : List (List ℕ × X)) (i : ℕ) (f d : List ℕ × X) → i < length fs → f ≡ slice_index_or fs i d → bytes_eq l f.0 ≡ true → picked l (placed_fields_of (map (λ p. (p.0, v p.1)) (drop i fs))) ≡ option_map (λ p. v p.1) (slice_get fs i)
+found v l [] i f d h e q = absurd (omega (arith, h))
+found {X = X} v l (g ∷ fs) zero f d h e q = let b : bytes_eq l g.0 ≡ true = ap (λ (p : List ℕ × X). bytes_eq l p.0) (sym e) ∙ q in ap (λ o. cond o (Some (v g.1)) (picked l (placed_fields_of (map (λ p. (p.0, v p.1)) fs)))) b
+found v l (g ∷ fs) (suc i) f d h e q = found v l fs i f d (omega (arith, h)) e q
+
+-- a field of a record
+pub picked_field : (p q : ℕ) (l : List ℕ) (fs : PlacedFields) (t u : PlacedTerm) → u ≡ at q (PlacedNode.rec fs) → picked l fs ≡ Some t → t ≡ field_by p l u
+picked_field p q l fs t u e h =
+    sym (ap (field_by p l) e ∙ ap (λ o. or_else o (at p (PlacedNode.field (at q (PlacedNode.rec fs)) l))) h)
+
+pub missing_field : (p q : ℕ) (l : List ℕ) (fs : PlacedFields) (u : PlacedTerm) → u ≡ at q (PlacedNode.rec fs) → picked l fs ≡ None → field_by p l u ≡ at p (PlacedNode.field (at q (PlacedNode.rec fs)) l)
+missing_field p q l fs u e h =
+    ap (field_by p l) e ∙ ap (λ o. or_else o (at p (PlacedNode.field (at q (PlacedNode.rec fs)) l))) h
+
+-- what a slot gives and keeps
+pub moved : (o : Option (Built Term)) (b : Built Term) (s : PlacedTerm) (u : ℕ) → o ≡ Some b → u ≡ 0 → MatchOption o (Unit {0}) (λ x. placed x.term ≡ s) → placed b.term ≡ shift u 0 s
+moved None b s u e z h = cc
+moved (Some x) b s u e z h =
+    let same : x ≡ b = cc in
+    ap (λ y. placed y.term) (sym same) ∙ h ∙ sym (ap (λ v. shift v 0 s) z ∙ shift_zero 0 s)
+
+pub gone : (o : Option (Built Term)) (s : PlacedTerm) → o ≡ None → MatchOption o (Unit {0}) (λ x. placed x.term ≡ s)
+gone None s e = tt
+gone (Some x) s e = cc
+
+pub got : {X : Type 0} (xs : List X) (i : ℕ) (x d : X) → i < length xs → x ≡ slice_index_or xs i d → slice_get xs i ≡ Some x
+got [] i x d h e = absurd (omega (arith, h))
+got (y ∷ xs) zero x d h e = ap Some (sym e)
+got (y ∷ xs) (suc i) x d h e = got xs i x d (omega (arith, h)) e
+
+-- an application where functions may be applied
+pub apply_more : (n p : ℕ) (f x : PlacedTerm) → n ≢ 0 → apply_at n p f x ≡ apply_by (substitute (apply_at (n - 1)) 0) p f x
+apply_more zero p f x h = absurd (h refl)
+apply_more (suc n) p f x h =
+    let e : n ≡ suc n - 1 = omega arith in
+    ap (λ m. apply_by (substitute (apply_at m) 0) p f x) e

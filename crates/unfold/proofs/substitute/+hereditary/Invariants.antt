@@ -1,0 +1,27 @@
+use Rattle.std.proofs.Common.{◌≡◌, ◌+◌, ◌*◌, ◌++◌, map, reverse, length}
+use Rattle.nq_model.specs.Substitution.{fields_with_places}
+use Rattle.unfold.specs.Hereditary.{substitute, apply_at}
+use Rattle.unfold.specs.Slots.{Puts}
+use Rattle.unfold.proofs.substitute.+hereditary.Given as goal
+
+abbrev pub decreases-apply : goal.decreases-apply
+decreases-apply l = 2 * l.room + 1
+
+abbrev pub decreases-apply_above : goal.decreases-apply_above
+decreases-apply_above l = 2 * l.room
+
+abbrev pub decreases-substitute : goal.decreases-substitute
+decreases-substitute l = 2 * l.room
+
+abbrev pub decreases-substitute_box : goal.decreases-substitute_box
+decreases-substitute_box l = 2 * l.room + 1
+
+abbrev pub decreases-substitute_fields : goal.decreases-substitute_fields
+decreases-substitute_fields l = 2 * l.room + 1
+
+abbrev pub invariant-substitute_fields-loop-last : goal.invariant-substitute_fields-loop-last
+invariant-substitute_fields-loop-last l =
+    Puts l.initial.by l.by (λ s. fields_with_places l.all ++ reverse (map (λ f. (f.0, substitute (apply_at l.rank) l.from s f.1)) (fields_with_places l.rest)) ≡ reverse (map (λ f. (f.0, substitute (apply_at l.rank) l.from s f.1)) (fields_with_places l.fn.fields)))
+
+abbrev pub decreases-substitute_fields-loop-last : goal.decreases-substitute_fields-loop-last
+decreases-substitute_fields-loop-last l = length l.rest

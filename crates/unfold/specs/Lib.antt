@@ -1,0 +1,4 @@
+pub mod Depths
+pub mod Hereditary
+pub mod Slots
+pub mod Unfolded

@@ -1,0 +1,100 @@
+// Fields of done terms.
+ghost use Rattle.std.specs.Prelude.{◌≡◌, IfOk, MatchOption, ◌<◌, length, option_map, slice_get};
+ghost use Rattle.nq_model.specs.Terms.{placed, at, PlacedNode, placed_fields};
+ghost use Rattle.nq_model.specs.Unfolding.{picked};
+ghost use Rattle.unfold.specs.Hereditary.{field_by};
+
+use crate::built::{Built, further, grown};
+use crate::substitute::chosen;
+use nq_model::{Label, List, Memory, Node, Term, boxed};
+use std::alloc::Global;
+
+/// What becomes of the field `label` of a done term.
+pub(crate) fn field(
+    alloc: Global,
+    room: u64,
+    place: u64,
+    label: Label,
+    of: Built<Term>,
+) -> Result<Built<Term>, Memory>
+    ensures { IfOk result (λ b. placed b.term ≡ field_by place label (placed of.term)) }
+{
+    let room = further(room)?;
+    let Built { term, deep } = of;
+    let Term { place: own, node } = term;
+    match node {
+        Node::Rec(fields) => match find(fields.as_slice(), &label) {
+            Some(at) => {
+                let mut fields = fields.into_vec();
+                let taken = fields.remove(at);
+                let (_, found) = taken;
+                Ok(Built { term: found, deep })
+            }
+            None => of_field(
+                alloc,
+                place,
+                Built {
+                    term: Term {
+                        place: own,
+                        node: Node::Rec(fields),
+                    },
+                    deep,
+                },
+                label,
+            ),
+        },
+        Node::If { test, yes, no } => {
+            let again = label.copy(alloc)?;
+            let yes = Built {
+                term: Box::into_inner(yes),
+                deep,
+            };
+            let no = Built {
+                term: Box::into_inner(no),
+                deep,
+            };
+            let yes = field(alloc, room, place, again, yes)?;
+            let no = field(alloc, room, place, label, no)?;
+            chosen(alloc, place, deep, test, yes, no)
+        }
+        other => of_field(
+            alloc,
+            place,
+            Built {
+                term: Term {
+                    place: own,
+                    node: other,
+                },
+                deep,
+            },
+            label,
+        ),
+    }
+}
+
+// A field that is not contracted.
+fn of_field(alloc: Global, place: u64, of: Built<Term>, label: Label) -> Result<Built<Term>, Memory>
+    ensures { IfOk result (λ b. placed b.term ≡ at place (PlacedNode.field (placed of.term) label)) }
+{
+    let deep = of.deep;
+    let of = boxed(alloc, of.term)?;
+    grown(
+        deep,
+        Term {
+            place,
+            node: Node::Field { of, label },
+        },
+    )
+}
+
+// Where the first field of that label stands.
+fn find(fields: &[(Label, Term)], label: &Label) -> Option<usize>
+    ensures { MatchOption result (picked label.now (placed_fields fields.now) ≡ None) (λ i. (i < length fields.now) × (picked label.now (placed_fields fields.now) ≡ option_map (λ f. placed f.1) (slice_get fields.now i))) }
+{
+    for i in 0..fields.len() {
+        if label.as_str() == fields[i].0.as_str() {
+            return Some(i);
+        }
+    }
+    None
+}

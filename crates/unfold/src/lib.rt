@@ -1,0 +1,14 @@
+//! Unfolding: functions, `let` and fields of records are removed from a term.
+#![tactic(auto)]
+
+mod built;
+mod field;
+mod fuel;
+mod laws;
+mod slot;
+mod substitute;
+mod uses;
+mod walk;
+
+pub use laws::unfolding_ends;
+pub use walk::{DEEPEST, unfold};

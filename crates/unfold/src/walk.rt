@@ -1,0 +1,291 @@
+// Unfolding a whole term.
+ghost use Rattle.std.specs.Prelude.{◌≡◌, ◌≤◌, map, IfOk};
+ghost use Rattle.nq_model.specs.Types.{TypeTree};
+ghost use Rattle.nq_model.specs.Terms.{placed, term_tree};
+ghost use Rattle.nq_model.specs.Substitution.{fields_with_places};
+ghost use Rattle.nq_model.specs.Typing.{IsAccepted};
+ghost use Rattle.unfold.specs.Depths.{term_depth};
+ghost use Rattle.unfold.specs.Hereditary.{walk, unfolded, substitute, apply_at};
+ghost use Rattle.unfold.specs.Unfolded.{IsUnfolding};
+
+use crate::built::{Built, depth, further, grown, leaf};
+use crate::field::field;
+use crate::fuel::fuel;
+use crate::slot::Slot;
+use crate::substitute::{apply, substitute};
+use crate::uses::uses;
+use nq_model::{Label, List, Memory, Node, Schema, Term, boxed};
+use std::alloc::Global;
+
+/// The deepest term that is answered, so that what recurses on it later needs no more stack than that.
+pub const DEEPEST: u64 = 2_000;
+
+// How many calls may stand on the stack at once.
+const ROOM: u64 = 3_000;
+
+/// The plain term that the steps of unfolding reach, places included, of the same type.
+///
+/// Want of memory is also the answer where the term is deeper than `DEEPEST`, or one built on the way is deeper
+/// than the limit for those. Nothing is read from the schema: it says over which tables the term is typed.
+pub fn unfold(alloc: Global, schema: &Schema, term: Term) -> Result<Term, Memory>
+    requires { (type : TypeTree) × IsAccepted schema.now (term_tree term) type }
+    ensures reached { IfOk result (λ t. IsUnfolding schema.now (placed term) (placed t)) }
+    ensures shallow { IfOk result (λ t. term_depth (term_tree t) ≤ 2000) }
+{
+    unfold_by_rank(alloc, term)
+}
+
+pub(crate) fn unfold_by_rank(alloc: Global, term: Term) -> Result<Term, Memory>
+    ensures exact { IfOk result (λ t. placed t ≡ unfolded (placed term)) }
+    ensures shallow { IfOk result (λ t. term_depth (term_tree t) ≤ 2000) }
+{
+    let rank = fuel(&term)?;
+    let done = walk(alloc, rank, ROOM, term)?;
+    if depth(&done.term)? > DEEPEST {
+        return Err(Memory);
+    }
+    Ok(done.term)
+}
+
+#[cycle(walk)]
+fn walk(alloc: Global, rank: u64, room: u64, term: Term) -> Result<Built<Term>, Memory>
+    ensures { IfOk result (λ b. placed b.term ≡ walk rank (placed term)) }
+{
+    let room = further(room)?;
+    let Term { place, node } = term;
+    match node {
+        Node::Var(k) => Ok(leaf(Term {
+            place,
+            node: Node::Var(k),
+        })),
+        Node::Int(n) => Ok(leaf(Term {
+            place,
+            node: Node::Int(n),
+        })),
+        Node::Bool(b) => Ok(leaf(Term {
+            place,
+            node: Node::Bool(b),
+        })),
+        Node::Text(text) => Ok(leaf(Term {
+            place,
+            node: Node::Text(text),
+        })),
+        Node::Table(label) => Ok(leaf(Term {
+            place,
+            node: Node::Table(label),
+        })),
+        Node::Unary { op, of } => {
+            let of = walk_box(alloc, rank, room, of)?;
+            grown(
+                of.deep,
+                Term {
+                    place,
+                    node: Node::Unary { op, of: of.term },
+                },
+            )
+        }
+        Node::Binary { op, left, right } => {
+            let left = walk_box(alloc, rank, room, left)?;
+            let right = walk_box(alloc, rank, room, right)?;
+            grown(
+                left.deep.max(right.deep),
+                Term {
+                    place,
+                    node: Node::Binary {
+                        op,
+                        left: left.term,
+                        right: right.term,
+                    },
+                },
+            )
+        }
+        Node::If { test, yes, no } => {
+            let test = walk_box(alloc, rank, room, test)?;
+            let yes = walk_box(alloc, rank, room, yes)?;
+            let no = walk_box(alloc, rank, room, no)?;
+            grown(
+                test.deep.max(yes.deep).max(no.deep),
+                Term {
+                    place,
+                    node: Node::If {
+                        test: test.term,
+                        yes: yes.term,
+                        no: no.term,
+                    },
+                },
+            )
+        }
+        Node::Fun { taken, body } => {
+            let body = walk_box(alloc, rank, room, body)?;
+            grown(
+                body.deep,
+                Term {
+                    place,
+                    node: Node::Fun {
+                        taken,
+                        body: body.term,
+                    },
+                },
+            )
+        }
+        Node::Apply { func, arg } => {
+            let func = walk(alloc, rank, room, Box::into_inner(func))?;
+            let arg = walk(alloc, rank, room, Box::into_inner(arg))?;
+            apply(alloc, rank, room, place, func, arg)
+        }
+        Node::Rec(fields) => {
+            let fields = walk_fields(alloc, rank, room, fields)?;
+            grown(
+                fields.deep,
+                Term {
+                    place,
+                    node: Node::Rec(fields.term),
+                },
+            )
+        }
+        Node::Field { of, label } => {
+            let of = walk(alloc, rank, room, Box::into_inner(of))?;
+            field(alloc, room, place, label, of)
+        }
+        Node::Empty(of) => {
+            let of = walk_box(alloc, rank, room, of)?;
+            grown(
+                of.deep,
+                Term {
+                    place,
+                    node: Node::Empty(of.term),
+                },
+            )
+        }
+        Node::Single(of) => {
+            let of = walk_box(alloc, rank, room, of)?;
+            grown(
+                of.deep,
+                Term {
+                    place,
+                    node: Node::Single(of.term),
+                },
+            )
+        }
+        Node::Nil(element) => Ok(leaf(Term {
+            place,
+            node: Node::Nil(element),
+        })),
+        Node::Union { left, right } => {
+            let left = walk_box(alloc, rank, room, left)?;
+            let right = walk_box(alloc, rank, room, right)?;
+            grown(
+                left.deep.max(right.deep),
+                Term {
+                    place,
+                    node: Node::Union {
+                        left: left.term,
+                        right: right.term,
+                    },
+                },
+            )
+        }
+        Node::For {
+            source,
+            body: element,
+        } => {
+            let source = walk_box(alloc, rank, room, source)?;
+            let element = walk_box(alloc, rank, room, element)?;
+            grown(
+                source.deep.max(element.deep),
+                Term {
+                    place,
+                    node: Node::For {
+                        source: source.term,
+                        body: element.term,
+                    },
+                },
+            )
+        }
+        Node::Guard { test, body } => {
+            let test = walk_box(alloc, rank, room, test)?;
+            let body = walk_box(alloc, rank, room, body)?;
+            grown(
+                test.deep.max(body.deep),
+                Term {
+                    place,
+                    node: Node::Guard {
+                        test: test.term,
+                        body: body.term,
+                    },
+                },
+            )
+        }
+        Node::Bind { value, body: rest } => {
+            let rest = walk(alloc, rank, room, Box::into_inner(rest))?;
+            bind(alloc, rank, room, value, rest.term)
+        }
+    }
+}
+
+#[cycle(walk)]
+fn walk_box(
+    alloc: Global,
+    rank: u64,
+    room: u64,
+    term: Box<Term>,
+) -> Result<Built<Box<Term>>, Memory>
+    ensures { IfOk result (λ b. placed b.term.value ≡ walk rank (placed term.value)) }
+{
+    let done = walk(alloc, rank, room, Box::into_inner(term))?;
+    let term = boxed(alloc, done.term)?;
+    Ok(Built {
+        term,
+        deep: done.deep,
+    })
+}
+
+// A walked body with the walked value in place of its variable. A value that is not used is not walked.
+#[cycle(walk)]
+fn bind(
+    alloc: Global,
+    rank: u64,
+    room: u64,
+    value: Box<Term>,
+    body: Term,
+) -> Result<Built<Term>, Memory>
+    ensures { IfOk result (λ b. placed b.term ≡ substitute (apply_at rank) 0 (walk rank (placed value.value)) (placed body)) }
+{
+    let left = uses(&body, 0);
+    if left == 0 {
+        let mut none = Slot { value: None, left };
+        return substitute(alloc, rank, room, 0, &mut none, body);
+    }
+    let value = walk(alloc, rank, room, Box::into_inner(value))?;
+    let mut slot = Slot {
+        value: Some(value),
+        left,
+    };
+    substitute(alloc, rank, room, 0, &mut slot, body)
+}
+
+#[cycle(walk)]
+fn walk_fields(
+    alloc: Global,
+    rank: u64,
+    room: u64,
+    fields: List<(Label, Term)>,
+) -> Result<Built<List<(Label, Term)>>, Memory>
+    ensures { IfOk result (λ b. fields_with_places b.term ≡ map (λ f. (f.0, walk rank f.1)) (fields_with_places fields)) }
+{
+    let mut all = List::new(alloc);
+    let mut deep: u64 = 0;
+    let mut rest = fields;
+    while let Some(last) = rest.pop() {
+        let (label, term) = last;
+        let done = walk(alloc, rank, room, term)?;
+        deep = deep.max(done.deep);
+        all.push((label, done.term))?;
+    }
+    let mut turned = all.into_vec();
+    turned.reverse();
+    Ok(Built {
+        term: List::from_vec(turned),
+        deep,
+    })
+}
