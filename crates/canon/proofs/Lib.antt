@@ -5,3 +5,4 @@ mod Writing
 mod Apart
 mod Sorted
 mod Typed
+mod FlatRows

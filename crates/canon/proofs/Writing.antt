@@ -13,7 +13,7 @@ pub appended : (start old mid new done sep item all : List ℕ) → old ≡ star
 appended start old mid new done sep item all p q r s =
     r ∙ ap (λ (l : List ℕ). l ++ item) (q ∙ ap (λ (l : List ℕ). l ++ sep) p) ∙ (simp append_assoc) ∙ ap (λ (l : List ℕ). start ++ l) (sym s)
 
-elements_push : (vs : List Nested) (w v : Nested) → written_elements (elements_of (w ∷ (vs ++ v ∷ []))) ≡ written_elements (elements_of (w ∷ vs)) ++ (codes ", " ++ written v)
+pub elements_push : (vs : List Nested) (w v : Nested) → written_elements (elements_of (w ∷ (vs ++ v ∷ []))) ≡ written_elements (elements_of (w ∷ vs)) ++ (codes ", " ++ written v)
 elements_push [] w v = refl
 elements_push (u ∷ vs) w v =
     ap (λ (l : List ℕ). written w ++ (codes ", " ++ l)) (elements_push vs u v) ∙ (simp append_assoc)
@@ -32,7 +32,7 @@ elements_more (y ∷ ys) (suc i) x h e =
 abbrev pub field_text : List ℕ × Nested → List ℕ
 field_text f = f.0 ++ (codes " = " ++ written f.1)
 
-fields_push : (fs : List (List ℕ × Nested)) (g f : List ℕ × Nested) → written_fields (fields_of (g ∷ (fs ++ f ∷ []))) ≡ written_fields (fields_of (g ∷ fs)) ++ (codes ", " ++ field_text f)
+pub fields_push : (fs : List (List ℕ × Nested)) (g f : List ℕ × Nested) → written_fields (fields_of (g ∷ (fs ++ f ∷ []))) ≡ written_fields (fields_of (g ∷ fs)) ++ (codes ", " ++ field_text f)
 fields_push [] g f = simp append_assoc
 fields_push (h ∷ fs) g f =
     ap (λ (l : List ℕ). g.0 ++ (codes " = " ++ (written g.1 ++ (codes ", " ++ l)))) (fields_push fs h f) ∙ (simp append_assoc)

@@ -3,6 +3,7 @@
 
 mod laws;
 mod order;
+mod rows;
 mod sort;
 #[cfg(test)]
 mod tests;
@@ -10,5 +11,6 @@ mod text;
 
 pub use laws::{form_laws, text_laws};
 pub use order::compare;
+pub use rows::write_rows;
 pub use sort::sort_deep;
 pub use text::write;

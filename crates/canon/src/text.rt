@@ -38,7 +38,7 @@ fn write_value(text: &mut String, value: &Value) -> Result<(), Memory>
 }
 
 // The text between single quotes, with each single quote doubled.
-fn write_quoted(text: &mut String, quoted: &str) -> Result<(), Memory>
+pub(crate) fn write_quoted(text: &mut String, quoted: &str) -> Result<(), Memory>
     ensures { OnOk result (string_bytes text.new ≡ string_bytes text.old ++ cell_text (cell.Text quoted.now)) }
 {
     text.push_str("'")?;
@@ -82,7 +82,7 @@ fn write_bag(text: &mut String, elements: &[Value]) -> Result<(), Memory>
 }
 
 // What stands before the field or the element at a place.
-fn write_separator(text: &mut String, place: usize) -> Result<(), Memory>
+pub(crate) fn write_separator(text: &mut String, place: usize) -> Result<(), Memory>
     ensures { OnOk result (string_bytes text.new ≡ string_bytes text.old ++ separator place) }
 {
     if place > 0 {

@@ -1,0 +1,16 @@
+-- Bags of records whose fields are cells, each given by a row.
+use Rattle.std.specs.Prelude.{ℕ, List, map, drop, zip}
+use Rattle.nq_model.specs.Values.{Nested, base, rec_of, bag_of}
+use Rattle.nq_model.specs.declared.table.Cell.{Cell}
+
+-- the record of cells beside their labels
+abbrev pub record_of : List (List ℕ) → List Cell → Nested
+record_of labels cells = rec_of (zip labels (map base cells))
+
+-- the record of a row's cells from a place on
+abbrev pub row_record : List (List ℕ) → ℕ → List Cell → Nested
+row_record labels first row = record_of labels (drop first row)
+
+-- the bag of the rows' records
+abbrev pub rows_value : List (List ℕ) → ℕ → List (List Cell) → Nested
+rows_value labels first rows = bag_of (map (row_record labels first) rows)
