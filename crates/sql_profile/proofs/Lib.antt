@@ -22,3 +22,4 @@ pub mod Lexed
 pub mod ScanSpelled
 pub mod ScanScoped
 pub mod ScanAsked
+pub mod PackedRows

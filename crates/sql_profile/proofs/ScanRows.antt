@@ -49,7 +49,7 @@ scan_allowed held text i table rows within is scan made =
     }
 
 -- a row that fits its columns has as many cells
-full_rows : (table : Loaded) → All (RowFits (types_of table.columns)) table.rows → HasFullRows table
+pub full_rows : (table : Loaded) → All (RowFits (types_of table.columns)) table.rows → HasFullRows table
 full_rows table fit =
     All-weaker (RowFits (types_of table.columns)) (λ row. length row ≡ length table.columns)
     (λ row fits. sym (length-map row column_type_of) ∙ ap length fits ∙ length-map table.columns (λ column. column.1)) table.rows fit

@@ -11,3 +11,4 @@ pub mod Machine
 pub mod Texts
 pub mod NumberedKeys
 pub mod WritableNames
+pub mod Packed

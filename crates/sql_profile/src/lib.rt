@@ -4,6 +4,7 @@
 
 mod answer;
 mod laws;
+mod packed;
 mod scan;
 mod scan_server;
 mod server;

@@ -1,5 +1,5 @@
-use Rattle.std.proofs.Common.{rules, ◌≡◌, length}
-use Rattle.std.proofs.lemmas.List.{length-map}
+use Rattle.std.proofs.Common.{rules, ◌≡◌, ◌<◌, [], length, get_or, arith, ◌∙◌, sym}
+use Rattle.std.proofs.lemmas.List.{length-map, get_or_default}
 use Rattle.nq_model.specs.Tables.{names_of}
 use Rattle.sql_profile.proofs.ScanRows.{scan_rows_more}
 use Rattle.sql_profile.proofs.scan_server.scan_rows.Goals as goal
@@ -7,6 +7,9 @@ use Rattle.sql_profile.proofs.scan_server.scan_rows.Goals as goal
 pub loop-row-preserved : goal.loop-row-preserved
 loop-row-preserved c =
     let columns = c.args.table.now.columns in
-    let full : length c.row-item.result ≡ length (names_of columns) = search (rules, length-map) in
-    scan_rows_more (names_of columns) c.args.table.now.rows c.loop-row.row-index c.row-item.result c.in_ok-scan_row.field-0 c.loop-row.rows c.push.new.self c.in_ok-order.order
-    (search rules) (search rules) full (search rules) (search rules) c.loop-row.invariant (search rules)
+    let rows = c.args.table.now.rows in
+    let within : c.loop-row.row < length rows = omega (arith, c.len-row-end.ensures) in
+    let row = get_or rows c.loop-row.row [] in
+    let full : length row ≡ length (names_of columns) = c.requires c.loop-row.row [] within ∙ sym (length-map columns (λ column. column.0)) in
+    scan_rows_more (names_of columns) rows c.loop-row.row row c.in_ok-scan_row.field-0 c.loop-row.rows c.push.new.self c.in_ok-order.order
+    within (get_or_default rows c.loop-row.row [] row within) full (search rules) (search rules) c.loop-row.invariant (search rules)
