@@ -1,7 +1,6 @@
 pub mod FirstForms
 pub mod SchemaTexts
 pub mod Gathers
-pub mod Records
 pub mod Meaning
 pub mod Loads
 pub mod Serves

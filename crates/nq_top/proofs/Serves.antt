@@ -2,9 +2,8 @@
 use Rattle.std.proofs.Common.{◌≡◌, ◌<◌, ◌+◌, ℕ, Bool, true, List, [], ◌∷◌, ◌++◌, length, map, Option, Some, None, Result, Ok, Err, refl, sym, ap, ◌∙◌, subst, arith, All, slice_get, get_or, suc, codes}
 use Rattle.std.specs.Option.{is_some}
 use Rattle.std.proofs.lemmas.List.{length-map}
-use Rattle.std.proofs.lemmas.List.Elements.{All-weaker}
 use Rattle.std.proofs.lemmas.Option.{slice_get_read}
-use Rattle.nq_model.specs.Cells.{column_type_of, RowFits}
+use Rattle.nq_model.specs.Cells.{RowFits}
 use Rattle.nq_model.specs.Bags.{Reordered}
 use Rattle.nq_model.specs.Canonical.{canonical, canonical_text, written}
 use Rattle.nq_model.specs.Orders.{by_label}
@@ -43,11 +42,6 @@ load_refused tables held loaded old_asks asks (server.TableFailed name) empty fa
     }
 load_refused tables held loaded old_asks asks (server.TextFailed text) empty fails untold = absurd fails
 load_refused tables held loaded old_asks asks (server.BadAnswer text row column) empty fails untold = absurd fails
-
--- rows that fit are as wide as the types
-pub wide_rows : (types : List ColumnType) (n : ℕ) (rows : List (List Cell)) → length types ≡ n → All (RowFits types) rows → All (λ row. length row ≡ n) rows
-wide_rows types n rows e fit =
-    All-weaker (RowFits types) (λ row. length row ≡ n) (λ row f. sym (length-map row column_type_of) ∙ ap length f ∙ e) rows fit
 
 -- the text that asks for the rows of a table that is held
 pub scan_among : (tables : List Loaded) (asked : ℕ) (table : Loaded) (text : List ℕ) → asked < length tables → table ≡ get_or tables asked table

@@ -114,9 +114,7 @@ fn answer_of(
 }
 
 // The text of an answer, if it fits the question.
-#[tactic(auto, using(crate::proofs::Serves::wide_rows))]
 fn text_of(alloc: Global, question: &Question, answer: Answer) -> Result<List<u8>, ServerRefusal>
-    requires { length question.now.types ≡ length question.now.labels + 2 }
     ensures { AnswerTells question.now.labels question.now.types answer.rows result }
 {
     match fits(&answer, question.types.as_slice()) {
