@@ -1,18 +1,18 @@
 -- The machine reads the tokens of each tree of the grammar, at each depth that the tree keeps.
-use Rattle.std.proofs.Common.{◌≡◌, ℕ, suc, ◌≤◌, max, Bool, true, false, cond, leb, List, [], ◌∷◌, refl, sym, ◌∙◌, ap, subst, arith, codes, Option, Some, None, le-leb}
+use Rattle.std.proofs.Common.{◌≡◌, ℕ, suc, ◌≤◌, Bool, true, false, cond, leb, List, [], ◌∷◌, refl, sym, ◌∙◌, ap, arith, codes, Option, Some, None, le-leb}
 use Rattle.std.proofs.lemmas.Bool.Decides.{nat_tests}
 use Rattle.nq_model.specs.Machines.{Faulty}
 use Rattle.nq_model.specs.OpenLists.{Deep}
 use Rattle.nq_model.specs.SchemaTexts.{type_word}
-use Rattle.nq_model.specs.QueryTokens.{Operator, Union, Of, Mark, Opening, Closing, OpeningBag, ClosingBag, Comma, Colon, Semicolon, Dot, Assign, From, Arrow, Bang, Token, Word, Value, Oper, Sign, End}
-use Rattle.nq_model.specs.QueryGrammar.{Edition, Kind, IsFor, IsWhere, IsIf, IsThen, IsElse, IsFun, IsLet, IsTable, IsEmpty, IsTruth, IsBase, IsName, truth_word, kind, TypeSyntax, TBase, TBag, TParen, TNoFields, TRec, TFun, TypeFields, TOne, TMore, Syntax, Const, Truth, Var, Table, Empty, Paren, NoFields, Rec, Bag, Nil, For, Where, If, Fun, Let, Prefix, Infix, Apply, Field, Fields, One, More, type_tokens, type_fields_tokens, prefix_token, tokens, fields_tokens, level, left_level, TypeFits, TypeFieldsFit, Fits, FieldsFit, type_depth, depth, deepest, fields_depth, Within}
+use Rattle.nq_model.specs.QueryTokens.{Operator, Union, Of, Opening, Closing, OpeningBag, ClosingBag, Comma, Colon, Semicolon, Dot, Assign, From, Arrow, Bang, Token, Word, Value, Oper, Sign}
+use Rattle.nq_model.specs.QueryGrammar.{Edition, Kind, IsFor, IsWhere, IsIf, IsFun, IsTable, IsEmpty, IsTruth, IsBase, IsName, truth_word, kind, TypeSyntax, TBase, TBag, TParen, TNoFields, TRec, TFun, TypeFields, TOne, TMore, Syntax, Const, Truth, Var, Table, Empty, Paren, NoFields, Rec, Bag, Nil, For, Where, If, Fun, Let, Prefix, Infix, Apply, Field, Fields, One, More, type_tokens, type_fields_tokens, prefix_token, tokens, fields_tokens, level, left_level, TypeFits, TypeFieldsFit, Fits, FieldsFit, Within}
 use Rattle.nq_model.specs.declared.term.Unary.{Unary as UnaryOp}
 use Rattle.nq_model.specs.declared.term.Unary.TheVariants.{Minus, Not}
-use Rattle.nq_model.specs.declared.term.Binary.TheVariants.{Add, Sub, Mul, Eq, Ne, Lt, Le, Gt, Ge, And, Or}
+use Rattle.nq_model.specs.declared.term.Binary.TheVariants.{Add, Sub, Mul, And, Or}
 use Rattle.nq_model.specs.declared.table.ColumnType.{ColumnType}
 use Rattle.nq_model.specs.declared.table.ColumnType.TheVariants as column
-use Rattle.nq_parser.specs.Machine.{AtFirst, AtNext, TAtFirst, TAtNext, FieldHead, TypeHead, put_field, put_type, Frame, InParen, InBag, InEmpty, InSource, InBody, InTest, InGuarded, InIf, InThen, InElse, InFunBody, InValue, InLetBody, InPrefix, InRight, InArg, InField, TypeFrame, TInBag, TInParen, TInRight, TInField, Around, InNil, InFun, State, Want, AtWord, AtTable, AtEmpty, AtFor, AtForOpen, AtForName, AtWhere, AtFun, AtFunOpen, AtFunName, AtFunClose, AtLet, AtLetName, AtComma, AtLabel, AtDot, WantType, AtTypeWord, AtTypeComma, AtTypeLabel, HaveType, Have, Ready, asks_of, asks, binds, level_of, ends, joined, shift, after, begin_word, start_word, start_prefix, start, no_label, at_word, if_name, after_type, begin_base, start_base, no_type_label, at_type_word, step, unit, int_type, some_name, close, close_around, close_want, least, fits, turn, run}
-use Rattle.nq_parser.proofs.Depths.{depth_pos, fields_pos, type_pos, type_fields_pos, less, want_less, type_less, type_want_less, fits_true}
+use Rattle.nq_parser.specs.Machine.{AtFirst, AtNext, TAtFirst, TAtNext, FieldHead, TypeHead, put_field, put_type, Frame, InParen, InBag, InEmpty, InSource, InBody, InTest, InGuarded, InIf, InThen, InElse, InFunBody, InValue, InLetBody, InPrefix, InRight, InArg, InField, TypeFrame, TInBag, TInParen, TInRight, TInField, Around, InNil, InFun, State, Want, AtWord, AtTable, AtEmpty, AtFor, AtForOpen, AtForName, AtWhere, AtFun, AtFunOpen, AtFunName, AtFunClose, AtLet, AtLetName, AtComma, AtLabel, AtDot, WantType, AtTypeWord, AtTypeComma, AtTypeLabel, HaveType, Have, asks_of, asks, binds, level_of, ends, joined, shift, after, begin_word, start, no_label, at_word, if_name, after_type, begin_base, no_type_label, at_type_word, step, unit, int_type, some_name, close, close_around, least, turn, run}
+use Rattle.nq_parser.proofs.Depths.{depth_pos, type_pos, type_fields_pos, less, want_less, type_less, type_want_less, fits_true}
 
 abbrev pub is_assign : Token → Bool
 is_assign (Sign p Assign) = true

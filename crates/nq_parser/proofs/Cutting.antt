@@ -1,11 +1,11 @@
 -- Tokens are cut off one by one: each piece has a byte, and what is left is a text of its own.
-use Rattle.std.proofs.Common.{◌≡◌, ℕ, zero, suc, ◌+◌, ◌-◌, ◌≤◌, ◌<◌, Bool, true, false, ◌&&◌, ◌==◌, nat_le, if◌then◌else◌, get_or, ◌⊎◌, inl, inr, option_map, List, [], ◌∷◌, ◌++◌, length, take, drop, Option, Some, None, Result, Ok, Err, refl, ap, sym, ◌∙◌, subst, arith, append_assoc}
+use Rattle.std.proofs.Common.{◌≡◌, ℕ, zero, suc, ◌+◌, ◌-◌, ◌≤◌, Bool, true, false, ◌&&◌, ◌==◌, nat_le, if◌then◌else◌, get_or, ◌⊎◌, inl, inr, option_map, List, [], ◌∷◌, ◌++◌, length, take, drop, Option, Some, None, Result, Ok, Err, refl, ap, sym, ◌∙◌, subst, arith, append_assoc}
 use Rattle.std.specs.List.{AllByRecursion as Each, prefix_len}
 use Rattle.std.proofs.lemmas.Bool.Decides.{nat_tests}
 use Rattle.std.proofs.lemmas.List.{length-drop}
 use Rattle.std.proofs.lemmas.List.Sums.{prefix_len-le-length}
 use Rattle.nq_model.specs.SchemaTokens.{is_white, begins_word, is_word_byte, is_comment_byte}
-use Rattle.nq_model.specs.QueryTokens.{Token, Word, Value, Number, End, is_order_mark, value_from, Stop, NoToken, TooLarge, Front, Gap, Takes, Stops, is_digit, is_quote, begins_with, symbols, symbol_front, word_front, number_front, literal_len, literal_front, front, with_token, go_on, tokens_from, tokens_of}
+use Rattle.nq_model.specs.QueryTokens.{Token, Word, Value, Number, is_order_mark, value_from, Stop, NoToken, TooLarge, Front, Gap, Takes, Stops, is_digit, is_quote, begins_with, symbols, symbol_front, word_front, number_front, literal_len, literal_front, front, with_token, go_on, tokens_from}
 
 -- what is cut off of m bytes has a byte, and no more than there are
 abbrev Moves : ℕ → Front → Type 0

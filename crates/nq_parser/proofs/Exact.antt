@@ -1,12 +1,12 @@
 -- The machine of the query grammar keeps the laws, so its answers are exact.
-use Rattle.std.proofs.Common.{Bool, true, false, cond, ◌≡◌, ℕ, ◌+◌, ◌≤◌, max, List, [], ◌∷◌, ◌++◌, refl, sym, ◌∙◌, ap, subst, arith, append-nil, append_assoc, Option, Some, None, inl, inr}
+use Rattle.std.proofs.Common.{Bool, true, false, cond, ◌≡◌, ℕ, ◌+◌, List, [], ◌∷◌, ◌++◌, refl, sym, ◌∙◌, ap, subst, arith, append-nil, append_assoc, Option, Some, None, inl, inr}
 use Rattle.std.specs.Prelude.{⊤}
-use Rattle.nq_model.specs.OpenLists.{Fault, Unexpected, Deep, IsFaultAt}
+use Rattle.nq_model.specs.OpenLists.{Fault, Deep, IsFaultAt}
 use Rattle.nq_model.specs.Machines.{Outcome, Reached, Faulty}
 use Rattle.nq_model.proofs.OpenLists as generic
 use Rattle.nq_model.proofs.OpenLists.{Laws}
-use Rattle.nq_model.specs.QueryTokens.{Opening, Token, End}
-use Rattle.nq_model.specs.QueryGrammar.{Edition, Kind, IsFor, IsWhere, IsIf, IsThen, IsElse, IsFun, IsLet, IsTable, IsEmpty, IsTruth, IsBase, IsName, kind, TypeSyntax, TBase, TFun, Syntax, Var, Truth, depth, deepest, IsProgram, Within, IsSpelled}
+use Rattle.nq_model.specs.QueryTokens.{Token, End}
+use Rattle.nq_model.specs.QueryGrammar.{Edition, Kind, IsIf, IsTruth, IsBase, IsName, kind, TypeSyntax, TBase, TFun, Syntax, Var, Truth, depth, deepest, IsProgram, Within, IsSpelled}
 use Rattle.nq_parser.specs.Machine.{Frame, InParen, InIf, TypeFrame, TInParen, TInRight, Around, InNil, InFun, State, Want, AtWord, AtTypeWord, HaveType, Have, Ready, start_state, joined, ends, shift, after, after_around, after_type, no_label, no_type_label, start, step, least, fits, turn, run}
 use Rattle.nq_parser.proofs.Depths.{fits_true, fits_within}
 use Rattle.nq_parser.proofs.Complete.{reads, next}

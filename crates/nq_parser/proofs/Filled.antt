@@ -1,8 +1,8 @@
 -- The least completion is a program, and begins with what was read.
-use Rattle.std.proofs.Common.{◌≡◌, ℕ, ◌≤◌, Bool, true, false, List, [], ◌∷◌, refl, ◌∙◌, ap, arith, codes}
-use Rattle.nq_model.specs.QueryTokens.{Opening, Closing, OpeningBag, ClosingBag, Comma, Colon, Semicolon, Dot, Assign, From, Arrow, Token, Word, Oper, Sign, End}
-use Rattle.nq_model.specs.QueryGrammar.{Edition, IsName, kind, TypeSyntax, TBase, TBag, TParen, TNoFields, TRec, TFun, TOne, TMore, Syntax, Table, Empty, NoFields, Rec, Nil, For, Where, If, Fun, Let, Field, One, More, type_tokens, type_fields_tokens, tokens, fields_tokens, TypeFits, TypeFieldsFit, Fits, FieldsFit, level, left_level}
-use Rattle.nq_parser.specs.Machine.{put_field, put_type, Frame, InParen, InBag, InEmpty, InSource, InBody, InTest, InGuarded, InIf, InThen, InElse, InFunBody, InValue, InLetBody, InPrefix, InRight, InArg, InField, TypeFrame, TInBag, TInParen, TInRight, TInField, Around, InNil, InFun, State, Want, AtWord, AtTable, AtEmpty, AtFor, AtForOpen, AtForName, AtWhere, AtFun, AtFunOpen, AtFunName, AtFunClose, AtLet, AtLetName, AtComma, AtLabel, AtDot, WantType, AtTypeWord, AtTypeComma, AtTypeLabel, HaveType, Have, Ready, asks_of, asks, unit, int_type, some_name, finish, close, finish_type, close_type, fill_around, close_around, close_want, close_type_want, least}
+use Rattle.std.proofs.Common.{◌≡◌, ℕ, true, List, [], ◌∷◌, refl, ◌∙◌, ap, codes}
+use Rattle.nq_model.specs.QueryTokens.{Opening, Closing, ClosingBag, Colon, Semicolon, Assign, From, Arrow, Token, Word, Sign, End}
+use Rattle.nq_model.specs.QueryGrammar.{Edition, TypeSyntax, TNoFields, TRec, TOne, TMore, Syntax, Table, Empty, NoFields, Rec, Nil, For, Where, Fun, Let, Field, One, More, type_tokens, tokens, TypeFits, Fits, FieldsFit}
+use Rattle.nq_parser.specs.Machine.{Frame, InParen, InBag, InEmpty, InSource, InBody, InTest, InGuarded, InIf, InThen, InElse, InFunBody, InValue, InLetBody, InPrefix, InRight, InArg, InField, TypeFrame, TInBag, TInParen, TInRight, TInField, Around, InNil, InFun, State, Want, AtWord, AtTable, AtEmpty, AtFor, AtForOpen, AtForName, AtWhere, AtFun, AtFunOpen, AtFunName, AtFunClose, AtLet, AtLetName, AtComma, AtLabel, AtDot, WantType, AtTypeWord, AtTypeComma, AtTypeLabel, HaveType, Have, Ready, asks_of, asks, unit, int_type, some_name, finish, close, finish_type, close_type, fill_around, close_around, close_want, close_type_want, least}
 use Rattle.nq_parser.proofs.Sound.{pre, shown, type_pre, types_shown, around_pre, shown_type, read, FrameFits, StackFits, TypeFrameFits, TypesFit, AroundFits, IsGood, put_field_tokens, put_type_tokens, put_field_fits, put_type_fits, asks_small, type_raise, name_is}
 
 -- what an unfinished form still asks for, and then x

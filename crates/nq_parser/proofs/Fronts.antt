@@ -10,7 +10,7 @@ use Rattle.std.proofs.lemmas.Str.{IsUtf8-from_ascii}
 use Rattle.nq_model.specs.SchemaTokens.{is_white, begins_word, is_word_byte, is_comment_byte}
 use Rattle.nq_parser.proofs.Cutting.{literal_closes}
 use Rattle.std.specs.Cmp.Lexicographic.{pointwise}
-use Rattle.nq_model.specs.QueryTokens.{Front, Gap, Takes, begins_with, is_digit, is_quote, is_order_mark, front, word_front, number_front, literal_front, literal_len, symbols, symbol_front, value_from}
+use Rattle.nq_model.specs.QueryTokens.{Gap, Takes, begins_with, is_digit, is_quote, is_order_mark, front, word_front, number_front, literal_front, literal_len, symbols, symbol_front, value_from}
 use Rattle.nq_parser.specs.Fronts.{IsDigit, mark_token, table_view}
 use Rattle.nq_parser.specs.declared.marks.Mark.{Mark}
 

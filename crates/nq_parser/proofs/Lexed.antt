@@ -1,10 +1,9 @@
 -- The tokens of a text end with its end.
-use Rattle.std.proofs.Common.{◌≡◌, ℕ, zero, suc, ◌+◌, ◌≤◌, Bool, true, false, cond, if◌then◌else◌, ◌==◌, nat_le, List, [], ◌∷◌, ◌++◌, length, take, drop, refl, sym, ◌∙◌, ap, subst, arith, rules, Option, Some, None, Result, Ok, Err, length-drop}
+use Rattle.std.proofs.Common.{◌≡◌, ℕ, zero, suc, ◌+◌, ◌≤◌, Bool, true, false, if◌then◌else◌, ◌==◌, nat_le, List, [], ◌∷◌, length, take, drop, refl, sym, ◌∙◌, ap, arith, rules, Option, Some, None, Result, Ok, Err, length-drop}
 use Rattle.std.specs.Prelude.{⊤}
-use Rattle.std.specs.Option.{option_map}
 use Rattle.std.specs.List.{prefix_len}
 use Rattle.nq_model.specs.SchemaTokens.{is_white, begins_word, is_word_byte, is_comment_byte}
-use Rattle.nq_model.specs.QueryTokens.{Token, Word, Value, Number, Literal, End, is_digit, is_quote, Stop, NoToken, TooLarge, Front, Gap, Takes, Stops, symbols, begins_with, symbol_front, word_front, value_from, number_front, literal_len, literal_front, is_order_mark, front, with_token, go_on, tokens_from, tokens_of}
+use Rattle.nq_model.specs.QueryTokens.{Token, Word, Value, Number, End, is_digit, is_quote, Stop, NoToken, TooLarge, Front, Gap, Takes, Stops, symbols, begins_with, symbol_front, word_front, value_from, number_front, literal_len, literal_front, is_order_mark, front, with_token, go_on, tokens_from, tokens_of}
 use Rattle.nq_parser.specs.Reading.{Ends}
 
 abbrev IsLong : Front → Type 0

@@ -14,3 +14,9 @@ pub mod LoweringNames
 pub mod LoweringSorts
 pub mod LoweringFields
 pub mod LoweringLists
+pub mod Needs
+pub mod Joining
+pub mod Stepping
+pub mod TypeStepping
+pub mod Parsing
+pub mod Standing

@@ -1,15 +1,15 @@
 -- What the machine has read, and that it can always be completed.
-use Rattle.std.proofs.Common.{◌≡◌, ℕ, suc, ◌≤◌, Bool, true, false, cond, leb, List, [], ◌∷◌, refl, sym, ◌∙◌, ap, subst, arith, codes, Option, Some, None, leb-true, bytes_eq}
+use Rattle.std.proofs.Common.{◌≡◌, ℕ, ◌≤◌, Bool, true, false, cond, leb, List, [], ◌∷◌, refl, sym, ◌∙◌, ap, subst, arith, codes, Option, Some, None, leb-true, bytes_eq}
 use Rattle.std.proofs.lemmas.Bool.Decides.{nat_tests}
 use Rattle.std.proofs.lemmas.Slice.Eq.{bytes_eq-Decides}
 use Rattle.std.specs.Prelude.{⊤}
 use Rattle.nq_model.specs.SchemaTexts.{type_word}
-use Rattle.nq_model.specs.QueryTokens.{Of, Mark, Opening, Closing, OpeningBag, ClosingBag, Comma, Colon, Semicolon, Dot, Assign, From, Arrow, Bang, Token, Word, Value, Oper, Sign, End}
-use Rattle.nq_model.specs.QueryGrammar.{Edition, First, Kind, IsFor, IsWhere, IsIf, IsThen, IsElse, IsFun, IsLet, IsTable, IsEmpty, IsTruth, IsBase, IsName, later_kind, truth_word, kind, TypeSyntax, TBase, TBag, TParen, TNoFields, TRec, TFun, TypeFields, TOne, TMore, Syntax, Const, Truth, Var, Table, Empty, Paren, NoFields, Rec, Bag, Nil, For, Where, If, Fun, Let, Prefix, Infix, Apply, Field, Fields, One, More, type_tokens, type_fields_tokens, prefix_token, tokens, fields_tokens, level, left_level, TypeFits, TypeFieldsFit, Fits, FieldsFit}
+use Rattle.nq_model.specs.QueryTokens.{Of, Opening, Closing, OpeningBag, ClosingBag, Comma, Colon, Semicolon, Dot, Assign, From, Arrow, Bang, Token, Word, Value, Oper, Sign, End}
+use Rattle.nq_model.specs.QueryGrammar.{Edition, First, Kind, IsFor, IsWhere, IsIf, IsThen, IsElse, IsFun, IsLet, IsTable, IsEmpty, IsTruth, IsBase, IsName, later_kind, truth_word, kind, TypeSyntax, TBase, TBag, TParen, TNoFields, TRec, TFun, Syntax, Const, Truth, Var, Table, Empty, Paren, NoFields, Rec, Bag, Nil, For, Where, If, Fun, Let, Prefix, Infix, Apply, Field, type_tokens, type_fields_tokens, prefix_token, tokens, fields_tokens, level, left_level, TypeFits, TypeFieldsFit, Fits, FieldsFit}
 use Rattle.nq_model.specs.declared.term.Unary.TheVariants.{Minus, Not}
 use Rattle.nq_model.specs.declared.term.Binary.TheVariants.{Sub}
 use Rattle.nq_model.specs.declared.table.ColumnType.TheVariants as column
-use Rattle.nq_parser.specs.Machine.{AtFirst, AtNext, TAtFirst, TAtNext, FieldHead, TypeHead, put_field, put_type, Frame, InParen, InBag, InEmpty, InSource, InBody, InTest, InGuarded, InIf, InThen, InElse, InFunBody, InValue, InLetBody, InPrefix, InRight, InArg, InField, TypeFrame, TInBag, TInParen, TInRight, TInField, Around, InNil, InFun, State, Want, AtWord, AtTable, AtEmpty, AtFor, AtForOpen, AtForName, AtWhere, AtFun, AtFunOpen, AtFunName, AtFunClose, AtLet, AtLetName, AtComma, AtLabel, AtDot, WantType, AtTypeWord, AtTypeComma, AtTypeLabel, HaveType, Have, Ready, asks_of, asks, binds, level_of, ends, joined, then_word, else_word, shift, after, begin_word, start_word, start_prefix, start, no_label, at_word, if_name, after_around, after_type, begin_base, start_base, start_type, no_type_label, at_type_word, step, unit, int_type, some_name, finish, close, finish_type, close_type, fill_around, close_around, close_want, close_type_want, least}
+use Rattle.nq_parser.specs.Machine.{AtFirst, AtNext, TAtFirst, TAtNext, FieldHead, TypeHead, put_field, put_type, Frame, InParen, InBag, InEmpty, InSource, InBody, InTest, InGuarded, InIf, InThen, InElse, InFunBody, InValue, InLetBody, InPrefix, InRight, InArg, InField, TypeFrame, TInBag, TInParen, TInRight, TInField, Around, InNil, InFun, State, Want, AtWord, AtTable, AtEmpty, AtFor, AtForOpen, AtForName, AtWhere, AtFun, AtFunOpen, AtFunName, AtFunClose, AtLet, AtLetName, AtComma, AtLabel, AtDot, WantType, AtTypeWord, AtTypeComma, AtTypeLabel, HaveType, Have, Ready, asks, binds, level_of, ends, joined, then_word, else_word, shift, after, begin_word, start_word, start, no_label, at_word, if_name, after_around, after_type, begin_base, start_base, start_type, no_type_label, at_type_word, step, some_name}
 use Rattle.nq_parser.proofs.Complete.{levels, is_arrow}
 
 -- What was read of an unfinished form, and then x.

@@ -1,5 +1,5 @@
 -- A text is UTF-8, or there is a first byte that is no part of it.
-use Rattle.std.proofs.Common.{◌≡◌, ℕ, zero, suc, ◌≤◌, ◌<◌, true, false, List, [], ◌∷◌, length, take, sym, ◌∙◌, subst, arith, ◌⊎◌, inl, inr, true≢false, nat_lt, take_all}
+use Rattle.std.proofs.Common.{◌≡◌, ℕ, zero, suc, ◌≤◌, ◌<◌, false, List, [], ◌∷◌, length, take, sym, ◌∙◌, subst, arith, ◌⊎◌, inl, inr, true≢false, nat_lt, take_all}
 use Rattle.std.specs.Str.{IsUtf8, IsValidUpTo, is_utf8}
 use Rattle.std.proofs.lemmas.Bool.Decides.{Decides-ltb, nat_tests}
 use Rattle.std.proofs.lemmas.Str.{IsUtf8-from_is_utf8, is_utf8-from_IsUtf8, IsUtf8-nil}

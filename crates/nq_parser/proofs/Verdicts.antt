@@ -5,11 +5,11 @@ use Rattle.nq_model.specs.OpenLists.{IsFaultAt}
 use Rattle.nq_model.specs.OpenLists as open_lists
 use Rattle.nq_model.proofs.OpenLists as generic
 use Rattle.nq_model.specs.Terms.{PlacedTerm}
-use Rattle.nq_model.specs.QueryTokens.{Token, End, place_of, Stop, NoToken, TooLarge, tokens_of}
-use Rattle.nq_model.specs.QueryGrammar.{First, Syntax, IsProgram, Within, IsSpelled}
+use Rattle.nq_model.specs.QueryTokens.{Token, place_of, Stop, NoToken, TooLarge, tokens_of}
+use Rattle.nq_model.specs.QueryGrammar.{First, Syntax, IsProgram, IsSpelled}
 use Rattle.nq_model.specs.QueryScope.{term_of, Wrong, Unbound, TwiceLabel, wrongs}
 use Rattle.nq_model.specs.QueryTexts.{HasTokens, Derives, Spells, Fault, StopsAt, EndsOpen, HasWrong, HasFault}
-use Rattle.nq_parser.specs.Reading.{Ends, ClosesAt}
+use Rattle.nq_parser.specs.Reading.{ClosesAt}
 use Rattle.nq_parser.proofs.Exact.{one_tree, answer, Answer, Derived, Has, never_both}
 use Rattle.nq_parser.proofs.Utf8.{valid_not_utf8, one_valid, utf8_or_fault}
 use Rattle.nq_parser.proofs.Lexed.{text_ends}
@@ -126,7 +126,7 @@ one_fault d text f g p q h k = go (found d text f p h) (found d text g q k)
 pub ends_open : (d : ℕ) (text : List ℕ) (ts : List Token) (g : open_lists.Fault) (p : ℕ) → HasTokens text ts → ClosesAt d ts g p → EndsOpen d text g p
 ends_open d text ts g p h c = record { before = c.before; last = c.last; after = c.after; cut = subst (HasTokens text) c.whole h; there = c.there; closes = c.closes }
 
-close_has : (d : ℕ) (text : List ℕ) (g : open_lists.Fault) (p : ℕ) → EndsOpen d text g p → HasFault d text (close_fault g) p
+pub close_has : (d : ℕ) (text : List ℕ) (g : open_lists.Fault) (p : ℕ) → EndsOpen d text g p → HasFault d text (close_fault g) p
 close_has d text open_lists.Unexpected p e = e
 close_has d text open_lists.Deep p e = e
 

@@ -1,5 +1,5 @@
 -- The views of the reader's trees, form by form.
-use Rattle.std.proofs.Common.{◌≡◌, ◌≤◌, ℕ, Bool, List, [], ◌∷◌, ◌++◌, length, map, max, refl, sym, ap, subst, ◌∙◌, arith, Box, Global}
+use Rattle.std.proofs.Common.{◌≡◌, ◌≤◌, ℕ, Bool, List, [], ◌∷◌, ◌++◌, length, max, refl, sym, ap, subst, ◌∙◌, arith, Box, Global}
 use Rattle.std.proofs.lemmas.List.{map-append}
 use Rattle.nq_model.specs.QueryTokens.{Number, Literal}
 use Rattle.nq_model.specs.QueryGrammar.{TypeSyntax, TBase, TBag, TParen, TNoFields, TRec, TFun, Syntax, Const, Truth, Var, Table, Empty, Paren, NoFields, Rec, Bag, Nil, For, Where, If, Fun, Let, Prefix, Infix, Apply, Field, Fields, One, More, TypeFields, TOne, TMore, depth, fields_depth, type_depth, type_fields_depth}

@@ -1,8 +1,7 @@
-use Rattle.std.proofs.Common.{◌≡◌, ◌∙◌, ◌==◌, ap, ap₂, sym, suc, ◌∷◌, ◌+◌, false, true, if◌then◌else◌, arith}
-use Rattle.std.specs.List.{prefix_len}
+use Rattle.std.proofs.Common.{◌∙◌, sym, arith}
 use Rattle.std.proofs.lemmas.List.Sums.{prefix_len-le-length}
-use Rattle.nq_model.specs.SchemaTokens.{is_white, begins_word, is_word_byte, is_comment_byte}
-use Rattle.nq_model.specs.QueryTokens.{Front, Gap, is_digit, is_quote, is_order_mark, word_front, number_front, literal_front, literal_len, symbol_front, symbols}
+use Rattle.nq_model.specs.SchemaTokens.{is_word_byte, is_comment_byte}
+use Rattle.nq_model.specs.QueryTokens.{is_digit}
 use Rattle.nq_parser.proofs.Fronts.{not_equal, word_there, lengths, rest_there, word_utf8, digits_all}
 use Rattle.nq_parser.proofs.front.front_of.Goals as goal
 

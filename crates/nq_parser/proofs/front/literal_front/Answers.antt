@@ -1,4 +1,4 @@
-use Rattle.std.proofs.Common.{◌≡◌, ◌∙◌, ◌+◌, sym, arith}
+use Rattle.std.proofs.Common.{◌∙◌, ◌+◌, sym, arith}
 use Rattle.std.proofs.lemmas.Str.{IsCharBoundary-after_ascii, IsCharBoundary-before_ascii}
 use Rattle.nq_parser.proofs.Fronts.{closing}
 use Rattle.nq_parser.proofs.front.literal_front.Goals as goal

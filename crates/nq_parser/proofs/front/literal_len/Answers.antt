@@ -1,4 +1,4 @@
-use Rattle.std.proofs.Common.{◌≡◌, ◌+◌, ◌&&◌, ◌∙◌, sym, ap, ap₂, not, false, true, get_or, drop, option_map, add-one, arith}
+use Rattle.std.proofs.Common.{◌≡◌, ◌+◌, ◌&&◌, ◌∙◌, sym, ap, ap₂, not, false, get_or, drop, option_map, add-one, arith}
 use Rattle.nq_model.specs.QueryTokens.{is_quote, literal_len}
 use Rattle.nq_parser.proofs.Fronts.{literal_step}
 use Rattle.nq_parser.proofs.front.literal_len.Goals as goal

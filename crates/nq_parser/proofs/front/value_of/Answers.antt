@@ -1,5 +1,4 @@
-use Rattle.std.proofs.Common.{◌≡◌, ◌+◌, ◌-◌, ◌*◌, ◌≤◌, ◌<◌, ◌∙◌, sym, get_or, drop, suc, arith}
-use Rattle.nq_model.specs.QueryTokens.{value_from}
+use Rattle.std.proofs.Common.{◌+◌, ◌-◌, ◌*◌, get_or, drop, suc, arith}
 use Rattle.nq_parser.proofs.Fronts.{value_grows, value_step}
 use Rattle.nq_parser.proofs.front.value_of.Goals as goal
 

@@ -1,4 +1,4 @@
-use Rattle.std.proofs.Common.{◌≡◌, ◌∙◌, ◌∷◌, ◌++◌, [], List, ap, sym, suc, ◌+◌, drop, get_or, length, map, ◌<◌, ◌^◌, rules, arith}
+use Rattle.std.proofs.Common.{◌∙◌, ◌∷◌, [], ap, sym, suc, ◌+◌, drop, get_or, length, map, ◌<◌, ◌^◌, rules, arith}
 use Rattle.std.proofs.Math.Seq.{drop-cons}
 use Rattle.std.proofs.lemmas.List.{drop-drop, length-drop, map-append}
 use Rattle.nq_model.specs.QueryTokens as query

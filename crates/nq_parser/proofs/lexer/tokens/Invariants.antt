@@ -1,5 +1,5 @@
 use Rattle.std.proofs.Common.{◌≡◌, ◌≤◌, ◌-◌, drop, length, map}
-use Rattle.nq_model.specs.QueryTokens.{tokens_from, tokens_of}
+use Rattle.nq_model.specs.QueryTokens.{tokens_of}
 use Rattle.nq_parser.specs.Symbols.{token_view}
 use Rattle.nq_parser.proofs.Cutting.{behind, rest_of}
 use Rattle.nq_parser.proofs.lexer.tokens.Given as goal

@@ -1,4 +1,4 @@
-use Rattle.std.proofs.Common.{◌≡◌, ◌∙◌, ap, sym, add-one, drop, get_or, true, false, arith}
+use Rattle.std.proofs.Common.{◌∙◌, ap, sym, add-one, drop, arith}
 use Rattle.nq_model.specs.QueryTokens.{begins_with, symbol_front}
 use Rattle.nq_parser.specs.Fronts.{table_view}
 use Rattle.nq_parser.proofs.Fronts.{begins, row_here, row_later}

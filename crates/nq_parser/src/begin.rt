@@ -1,0 +1,214 @@
+// A token where an expression begins.
+ghost use Rattle.std.specs.Prelude.{◌≡◌, [], cond, leb, Some, None};
+ghost use Rattle.nq_model.specs.QueryGrammar.{First, IsIf};
+ghost use Rattle.nq_model.specs.QueryTokens.{Closing, Colon, Sign, Word};
+ghost use Rattle.nq_parser.specs.Machine.{asks, asks_of, begin_word, start, start_prefix, start_word};
+ghost use Rattle.nq_parser.specs.Stacks.{frames};
+ghost use Rattle.nq_parser.specs.Forms.{form_view};
+ghost use Rattle.nq_parser.specs.States.{position_view, Stays, Steps};
+ghost use Rattle.nq_parser.specs.Symbols.{token_view};
+ghost use Rattle.nq_parser.specs.Words.{kind_view};
+
+use crate::form::{Around, Form};
+use crate::leaf::leaf;
+use crate::levels::level;
+use crate::stack::Stack;
+use crate::state::{Position, State, TypeState};
+use crate::symbol::{Operator, Symbol, Token};
+use crate::syntax::{Syntax, Variable};
+use crate::type_stack::TypeStack;
+use crate::wants::wants;
+use crate::words::{WordKind, kind_of};
+use nq_model::{Binary, Label, Memory, Text, Unary};
+use std::alloc::Global;
+
+/// A token where an expression begins.
+pub fn start(alloc: Global, stack: Stack, token: Token<'_>) -> Result<Option<State>, Memory>
+    ensures { Steps result (start First (frames stack.levels) (token_view token.entry)) }
+{
+    let place = token.place;
+    match token.symbol {
+        Symbol::Number(number) => leaf(alloc, stack, Syntax::Number { place, number }),
+        Symbol::Literal(spelled) => {
+            let spelled = Text::from_str(alloc, spelled)?;
+            leaf(alloc, stack, Syntax::Literal { place, spelled })
+        }
+        Symbol::Word(word) => start_word(alloc, stack, place, word),
+        Symbol::Operator(Operator::Of(Binary::Sub)) => start_prefix(stack, place, Unary::Minus),
+        Symbol::Bang => start_prefix(stack, place, Unary::Not),
+        Symbol::Opening => wants(stack, Form::Paren { opening: place }),
+        Symbol::OpeningBag => wants(stack, Form::Bag { opening: place }),
+        Symbol::Closing => no_fields(alloc, stack, place),
+        Symbol::Colon => nil_type(alloc, stack, place),
+        Symbol::Operator(
+            Operator::Union
+            | Operator::Of(
+                Binary::Eq
+                | Binary::Ne
+                | Binary::Lt
+                | Binary::Le
+                | Binary::Gt
+                | Binary::Ge
+                | Binary::And
+                | Binary::Or
+                | Binary::Add
+                | Binary::Mul,
+            ),
+        )
+        | Symbol::ClosingBag
+        | Symbol::Comma
+        | Symbol::Semicolon
+        | Symbol::Dot
+        | Symbol::Assign
+        | Symbol::From
+        | Symbol::Arrow
+        | Symbol::End => Ok(None),
+    }
+}
+
+// `(` and `)` are the record with no fields.
+#[tactic(auto, using(crate::proofs::Stepping::no_paren_closing))]
+fn no_fields(alloc: Global, stack: Stack, closing: u64) -> Result<Option<State>, Memory>
+    ensures { Steps result (start First (frames stack.levels) (Sign closing Closing)) }
+{
+    let mut stack = stack;
+    match stack.take_paren() {
+        Some(opening) => leaf(alloc, stack, Syntax::NoFields { opening, closing }),
+        None => Ok(None),
+    }
+}
+
+// `[` and `:` begin an empty bag.
+#[tactic(auto, using(crate::proofs::Stepping::no_bag_colon))]
+fn nil_type(alloc: Global, stack: Stack, colon: u64) -> Result<Option<State>, Memory>
+    ensures { Steps result (start First (frames stack.levels) (Sign colon Colon)) }
+{
+    let mut stack = stack;
+    match stack.take_bag() {
+        Some(opening) => {
+            let ty = TypeState {
+                forms: TypeStack::new(alloc),
+                around: Around::Nil { opening, colon },
+            };
+            let at = Position::WantType { ty };
+            Ok(Some(State { stack, at }))
+        }
+        None => Ok(None),
+    }
+}
+
+// `-` or `!`, where one may begin an expression.
+fn start_prefix(stack: Stack, place: u64, op: Unary) -> Result<Option<State>, Memory>
+    ensures { Steps result (start_prefix (frames stack.levels) place op) }
+{
+    if asks(&stack) <= 8 {
+        wants(stack, Form::Prefix { place, op })
+    } else {
+        Ok(None)
+    }
+}
+
+// A word where an expression begins; behind `(` it may be a label.
+#[tactic(auto, using(crate::proofs::Stepping::no_paren_word))]
+fn start_word(alloc: Global, stack: Stack, place: u64, word: &str) -> Result<Option<State>, Memory>
+    ensures { Steps result (start_word First (frames stack.levels) place word.now) }
+{
+    let mut stack = stack;
+    match stack.take_paren() {
+        Some(opening) => {
+            let name = Label::from_str(alloc, word)?;
+            let word = Variable { place, name };
+            let at = Position::AtWord { opening, word };
+            Ok(Some(State { stack, at }))
+        }
+        None => begin_word(alloc, stack, kind_of(word), place, word),
+    }
+}
+
+// A word of this kind where an expression begins.
+fn begin_word(
+    alloc: Global,
+    stack: Stack,
+    kind: WordKind,
+    place: u64,
+    word: &str,
+) -> Result<Option<State>, Memory>
+    ensures { Steps result (begin_word (kind_view kind) (frames stack.levels) place word.now) }
+{
+    match kind {
+        WordKind::Name => {
+            let name = Label::from_str(alloc, word)?;
+            leaf(alloc, stack, Syntax::Var { place, name })
+        }
+        WordKind::Truth(truth) => leaf(alloc, stack, Syntax::Truth { place, truth }),
+        WordKind::Table => Ok(Some(State {
+            stack,
+            at: Position::AtTable { place },
+        })),
+        WordKind::Empty => Ok(Some(State {
+            stack,
+            at: Position::AtEmpty { place },
+        })),
+        WordKind::For => Ok(begin_form(stack, 1, Position::AtFor { place })),
+        WordKind::Where => Ok(begin_form(stack, 1, Position::AtWhere { place })),
+        WordKind::If => begin_if(stack, place),
+        WordKind::Fun => Ok(begin_form(stack, 1, Position::AtFun { place })),
+        WordKind::Let => Ok(begin_form(stack, 0, Position::AtLet { place })),
+        WordKind::Then | WordKind::Else | WordKind::Base(_) => Ok(None),
+    }
+}
+
+// A form of this level begins, where no higher one is asked for.
+fn begin_form(stack: Stack, level: u64, at: Position) -> Option<State>
+    ensures { Stays result (cond (leb (asks (frames stack.levels)) level) (Some (position_view at (frames stack.levels))) None) }
+{
+    if asks(&stack) <= level {
+        Some(State { stack, at })
+    } else {
+        None
+    }
+}
+
+fn begin_if(stack: Stack, place: u64) -> Result<Option<State>, Memory>
+    ensures { Steps result (begin_word IsIf (frames stack.levels) place []) }
+{
+    if asks(&stack) <= 1 {
+        wants(stack, Form::If { place })
+    } else {
+        Ok(None)
+    }
+}
+
+// The level that the next expression has to have.
+fn asks(stack: &Stack) -> u64
+    ensures { result ≡ asks (frames stack.now.levels) }
+{
+    match stack.top() {
+        Some(form) => asks_of(form),
+        None => 0,
+    }
+}
+
+fn asks_of(form: &Form) -> u64
+    ensures { result ≡ asks_of (form_view form.now) }
+{
+    match form {
+        Form::Right { op, .. } => level(*op) + 1,
+        Form::Prefix { .. } => 8,
+        Form::LetBody { .. } => 0,
+        Form::Paren { .. }
+        | Form::Bag { .. }
+        | Form::Empty { .. }
+        | Form::Source { .. }
+        | Form::ForBody { .. }
+        | Form::Test { .. }
+        | Form::Guarded { .. }
+        | Form::If { .. }
+        | Form::Then { .. }
+        | Form::Else { .. }
+        | Form::FunBody { .. }
+        | Form::LetValue { .. }
+        | Form::Argument { .. }
+        | Form::Field { .. } => 1,
+    }
+}

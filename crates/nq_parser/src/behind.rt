@@ -1,0 +1,112 @@
+// A token behind a whole expression.
+ghost use Rattle.std.specs.Prelude.{◌≡◌};
+ghost use Rattle.nq_model.specs.QueryGrammar.{First};
+ghost use Rattle.nq_model.specs.QueryTokens.{Dot, End, Opening, Oper, Sign};
+ghost use Rattle.nq_parser.specs.Forms.{part_view};
+ghost use Rattle.nq_parser.specs.Machine.{after, shift};
+ghost use Rattle.nq_parser.specs.Stacks.{frames};
+ghost use Rattle.nq_parser.specs.States.{Stays, Steps};
+ghost use Rattle.nq_parser.specs.Symbols.{operator_view, token_view};
+
+use crate::form::Form;
+use crate::inside::{close, close_bag, comma_behind, semicolon_behind, word_behind};
+use crate::levels::{left_level, level_of};
+use crate::part::Part;
+use crate::settle::settle;
+use crate::stack::Stack;
+use crate::state::{Position, State};
+use crate::symbol::{Operator, Symbol, Token};
+use crate::wants::wants;
+use nq_model::Memory;
+use std::alloc::Global;
+
+/// A token behind an expression: forms that are open to the right end before it, and another goes on.
+pub fn after(
+    alloc: Global,
+    stack: Stack,
+    part: Part,
+    token: Token<'_>,
+) -> Result<Option<State>, Memory>
+    ensures { Steps result (after First (frames stack.levels) (part_view part) (token_view token.entry)) }
+{
+    let mut stack = stack;
+    let part = settle(alloc, &mut stack, part, token)?;
+    shift(alloc, stack, part, token)
+}
+
+// A token behind an expression that no form around takes for whole.
+fn shift(alloc: Global, stack: Stack, part: Part, token: Token<'_>) -> Result<Option<State>, Memory>
+    ensures { Steps result (shift First (frames stack.levels) (part_view part) (token_view token.entry)) }
+{
+    let place = token.place;
+    match token.symbol {
+        Symbol::Operator(op) => shift_operator(stack, part, place, op),
+        Symbol::Opening => shift_opening(stack, part, place),
+        Symbol::Dot => Ok(shift_dot(stack, part, place)),
+        Symbol::Closing => close(alloc, stack, part, place),
+        Symbol::ClosingBag => close_bag(alloc, stack, part, place),
+        Symbol::Word(word) => word_behind(stack, part, place, word),
+        Symbol::Semicolon => semicolon_behind(stack, part, place),
+        Symbol::Comma => comma_behind(alloc, stack, part, place),
+        Symbol::End => Ok(shift_end(stack, part, place)),
+        Symbol::Number(_)
+        | Symbol::Literal(_)
+        | Symbol::OpeningBag
+        | Symbol::Colon
+        | Symbol::Assign
+        | Symbol::From
+        | Symbol::Arrow
+        | Symbol::Bang => Ok(None),
+    }
+}
+
+// An operator takes the expression, where it may stand on its left.
+fn shift_operator(
+    stack: Stack,
+    left: Part,
+    place: u64,
+    op: Operator,
+) -> Result<Option<State>, Memory>
+    ensures { Steps result (shift First (frames stack.levels) (part_view left) (Oper place (operator_view op))) }
+{
+    if left_level(op) <= level_of(&left.syntax) {
+        wants(stack, Form::Right { left, place, op })
+    } else {
+        Ok(None)
+    }
+}
+
+// A `(` applies the expression, where it may be a function.
+fn shift_opening(stack: Stack, func: Part, opening: u64) -> Result<Option<State>, Memory>
+    ensures { Steps result (shift First (frames stack.levels) (part_view func) (Sign opening Opening)) }
+{
+    if 9 <= level_of(&func.syntax) {
+        wants(stack, Form::Argument { func, opening })
+    } else {
+        Ok(None)
+    }
+}
+
+// A `.` takes a field of the expression, where it may have one.
+fn shift_dot(stack: Stack, of: Part, dot: u64) -> Option<State>
+    ensures { Stays result (shift First (frames stack.levels) (part_view of) (Sign dot Dot)) }
+{
+    if 9 <= level_of(&of.syntax) {
+        let at = Position::AtDot { of, dot };
+        Some(State { stack, at })
+    } else {
+        None
+    }
+}
+
+// The end of the text behind a whole program.
+fn shift_end(stack: Stack, part: Part, end: u64) -> Option<State>
+    ensures { Stays result (shift First (frames stack.levels) (part_view part) (End end)) }
+{
+    if stack.height() == 0 {
+        let at = Position::Ready { part, end };
+        Some(State { stack, at })
+    } else {
+        None
+    }
+}

@@ -1,0 +1,456 @@
+// A token that ends what stands between two tokens of a form.
+ghost use Rattle.std.specs.Prelude.{◌≡◌, ◌∷◌, IfOk};
+ghost use Rattle.nq_model.specs.QueryGrammar.{Apply, Bag, Empty, First, Paren, Rec};
+ghost use Rattle.nq_model.specs.QueryTokens.{Closing, ClosingBag, Comma, Semicolon, Sign, Word};
+ghost use Rattle.nq_parser.specs.Forms.{form_view, head_view, part_view};
+ghost use Rattle.nq_parser.specs.Machine.{else_word, put_field, shift, then_word};
+ghost use Rattle.nq_parser.specs.Stacks.{frames};
+ghost use Rattle.nq_parser.specs.States.{Steps};
+ghost use Rattle.nq_parser.specs.Words.{kind_view};
+
+use crate::form::{FieldHead, Form};
+use crate::join::put_field;
+use crate::part::{Part, deeper};
+use crate::stack::Stack;
+use crate::state::{Position, State};
+use crate::syntax::Syntax;
+use crate::wants::wants;
+use crate::words::{WordKind, kind_of};
+use nq_model::{Label, Memory};
+use std::alloc::Global;
+
+/// A `)` behind the expression that the innermost form waited for.
+pub fn close(alloc: Global, stack: Stack, part: Part, closing: u64) -> Result<Option<State>, Memory>
+    ensures { Steps result (shift First (frames stack.levels) (part_view part) (Sign closing Closing)) }
+{
+    let mut stack = stack;
+    match stack.pop() {
+        Some(form) => close_form(alloc, stack, form, part, closing),
+        None => Ok(None),
+    }
+}
+
+fn close_form(
+    alloc: Global,
+    stack: Stack,
+    form: Form,
+    part: Part,
+    closing: u64,
+) -> Result<Option<State>, Memory>
+    ensures { Steps result (shift First (form_view form ∷ frames stack.levels) (part_view part) (Sign closing Closing)) }
+{
+    match form {
+        Form::Source {
+            place,
+            opening,
+            variable,
+            from,
+        } => wants(
+            stack,
+            Form::ForBody {
+                place,
+                opening,
+                variable,
+                from,
+                source: part,
+                closing,
+            },
+        ),
+        Form::Test { place, opening } => wants(
+            stack,
+            Form::Guarded {
+                place,
+                opening,
+                test: part,
+                closing,
+            },
+        ),
+        Form::Paren { opening } => {
+            let part = paren(alloc, opening, part, closing)?;
+            let at = Position::Have { part };
+            Ok(Some(State { stack, at }))
+        }
+        Form::Empty { place, opening } => {
+            let part = empty(alloc, place, opening, part, closing)?;
+            let at = Position::Have { part };
+            Ok(Some(State { stack, at }))
+        }
+        Form::Argument { func, opening } => {
+            let part = apply(alloc, func, opening, part, closing)?;
+            let at = Position::Have { part };
+            Ok(Some(State { stack, at }))
+        }
+        Form::Field {
+            head,
+            place,
+            label,
+            mark,
+        } => {
+            let part = record(alloc, head, place, label, mark, part, closing)?;
+            let at = Position::Have { part };
+            Ok(Some(State { stack, at }))
+        }
+        Form::Bag { .. }
+        | Form::ForBody { .. }
+        | Form::Guarded { .. }
+        | Form::If { .. }
+        | Form::Then { .. }
+        | Form::Else { .. }
+        | Form::FunBody { .. }
+        | Form::LetValue { .. }
+        | Form::LetBody { .. }
+        | Form::Prefix { .. }
+        | Form::Right { .. } => Ok(None),
+    }
+}
+
+fn paren(alloc: Global, opening: u64, inner: Part, closing: u64) -> Result<Part, Memory>
+    ensures { IfOk result (λ whole. part_view whole ≡ Paren opening (part_view inner) closing) }
+{
+    let depth = deeper(inner.depth)?;
+    let types = inner.types;
+    let syntax = Syntax::Paren {
+        opening,
+        inner: inner.syntax,
+        closing,
+    };
+    Part::new(alloc, syntax, depth, types)
+}
+
+fn empty(alloc: Global, place: u64, opening: u64, of: Part, closing: u64) -> Result<Part, Memory>
+    ensures { IfOk result (λ whole. part_view whole ≡ Empty place opening (part_view of) closing) }
+{
+    let depth = deeper(of.depth)?;
+    let types = of.types;
+    let syntax = Syntax::Empty {
+        place,
+        opening,
+        of: of.syntax,
+        closing,
+    };
+    Part::new(alloc, syntax, depth, types)
+}
+
+fn apply(alloc: Global, func: Part, opening: u64, arg: Part, closing: u64) -> Result<Part, Memory>
+    ensures { IfOk result (λ whole. part_view whole ≡ Apply (part_view func) opening (part_view arg) closing) }
+{
+    let depth = deeper(func.depth.max(arg.depth))?;
+    let types = func.types.max(arg.types);
+    let syntax = Syntax::Apply {
+        func: func.syntax,
+        opening,
+        arg: arg.syntax,
+        closing,
+    };
+    Part::new(alloc, syntax, depth, types)
+}
+
+fn record(
+    alloc: Global,
+    head: FieldHead,
+    place: u64,
+    label: Label,
+    mark: u64,
+    last: Part,
+    closing: u64,
+) -> Result<Part, Memory>
+    ensures { IfOk result (λ whole. part_view whole ≡ Rec (put_field (head_view head) place label mark (part_view last)) closing) }
+{
+    let fields = put_field(alloc, head, place, label, mark, last)?;
+    let depth = deeper(fields.depth)?;
+    let types = fields.types;
+    let syntax = Syntax::Rec {
+        fields: fields.fields,
+        closing,
+    };
+    Part::new(alloc, syntax, depth, types)
+}
+
+/// A `]` behind the expression that the innermost form waited for.
+pub fn close_bag(
+    alloc: Global,
+    stack: Stack,
+    part: Part,
+    closing: u64,
+) -> Result<Option<State>, Memory>
+    ensures { Steps result (shift First (frames stack.levels) (part_view part) (Sign closing ClosingBag)) }
+{
+    let mut stack = stack;
+    match stack.pop() {
+        Some(form) => close_bag_form(alloc, stack, form, part, closing),
+        None => Ok(None),
+    }
+}
+
+fn close_bag_form(
+    alloc: Global,
+    stack: Stack,
+    form: Form,
+    part: Part,
+    closing: u64,
+) -> Result<Option<State>, Memory>
+    ensures { Steps result (shift First (form_view form ∷ frames stack.levels) (part_view part) (Sign closing ClosingBag)) }
+{
+    match form {
+        Form::Bag { opening } => {
+            let part = bag(alloc, opening, part, closing)?;
+            let at = Position::Have { part };
+            Ok(Some(State { stack, at }))
+        }
+        Form::Paren { .. }
+        | Form::Empty { .. }
+        | Form::Source { .. }
+        | Form::ForBody { .. }
+        | Form::Test { .. }
+        | Form::Guarded { .. }
+        | Form::If { .. }
+        | Form::Then { .. }
+        | Form::Else { .. }
+        | Form::FunBody { .. }
+        | Form::LetValue { .. }
+        | Form::LetBody { .. }
+        | Form::Prefix { .. }
+        | Form::Right { .. }
+        | Form::Argument { .. }
+        | Form::Field { .. } => Ok(None),
+    }
+}
+
+fn bag(alloc: Global, opening: u64, element: Part, closing: u64) -> Result<Part, Memory>
+    ensures { IfOk result (λ whole. part_view whole ≡ Bag opening (part_view element) closing) }
+{
+    let depth = deeper(element.depth)?;
+    let types = element.types;
+    let syntax = Syntax::Bag {
+        opening,
+        element: element.syntax,
+        closing,
+    };
+    Part::new(alloc, syntax, depth, types)
+}
+
+/// `then` or `else` behind the expression that the innermost form waited for.
+pub fn word_behind(
+    stack: Stack,
+    part: Part,
+    place: u64,
+    word: &str,
+) -> Result<Option<State>, Memory>
+    ensures { Steps result (shift First (frames stack.levels) (part_view part) (Word place word.now)) }
+{
+    let mut stack = stack;
+    match stack.pop() {
+        Some(form) => word_form(stack, form, part, place, word),
+        None => Ok(None),
+    }
+}
+
+fn word_form(
+    stack: Stack,
+    form: Form,
+    part: Part,
+    behind: u64,
+    word: &str,
+) -> Result<Option<State>, Memory>
+    ensures { Steps result (shift First (form_view form ∷ frames stack.levels) (part_view part) (Word behind word.now)) }
+{
+    match form {
+        Form::If { place } => then_behind(stack, place, part, behind, kind_of(word)),
+        Form::Then {
+            place,
+            test,
+            then_place,
+        } => else_behind(stack, place, test, then_place, part, behind, kind_of(word)),
+        Form::Paren { .. }
+        | Form::Bag { .. }
+        | Form::Empty { .. }
+        | Form::Source { .. }
+        | Form::ForBody { .. }
+        | Form::Test { .. }
+        | Form::Guarded { .. }
+        | Form::Else { .. }
+        | Form::FunBody { .. }
+        | Form::LetValue { .. }
+        | Form::LetBody { .. }
+        | Form::Prefix { .. }
+        | Form::Right { .. }
+        | Form::Argument { .. }
+        | Form::Field { .. } => Ok(None),
+    }
+}
+
+fn then_behind(
+    stack: Stack,
+    place: u64,
+    test: Part,
+    then_place: u64,
+    kind: WordKind,
+) -> Result<Option<State>, Memory>
+    ensures { Steps result (then_word (kind_view kind) place (part_view test) then_place (frames stack.levels)) }
+{
+    match kind {
+        WordKind::Then => wants(
+            stack,
+            Form::Then {
+                place,
+                test,
+                then_place,
+            },
+        ),
+        WordKind::For
+        | WordKind::Where
+        | WordKind::If
+        | WordKind::Else
+        | WordKind::Fun
+        | WordKind::Let
+        | WordKind::Table
+        | WordKind::Empty
+        | WordKind::Truth(_)
+        | WordKind::Base(_)
+        | WordKind::Name => Ok(None),
+    }
+}
+
+fn else_behind(
+    stack: Stack,
+    place: u64,
+    test: Part,
+    then_place: u64,
+    yes: Part,
+    else_place: u64,
+    kind: WordKind,
+) -> Result<Option<State>, Memory>
+    ensures { Steps result (else_word (kind_view kind) place (part_view test) then_place (part_view yes) else_place (frames stack.levels)) }
+{
+    match kind {
+        WordKind::Else => wants(
+            stack,
+            Form::Else {
+                place,
+                test,
+                then_place,
+                yes,
+                else_place,
+            },
+        ),
+        WordKind::For
+        | WordKind::Where
+        | WordKind::If
+        | WordKind::Then
+        | WordKind::Fun
+        | WordKind::Let
+        | WordKind::Table
+        | WordKind::Empty
+        | WordKind::Truth(_)
+        | WordKind::Base(_)
+        | WordKind::Name => Ok(None),
+    }
+}
+
+/// A `;` behind the expression that the innermost form waited for.
+pub fn semicolon_behind(stack: Stack, value: Part, semicolon: u64) -> Result<Option<State>, Memory>
+    ensures { Steps result (shift First (frames stack.levels) (part_view value) (Sign semicolon Semicolon)) }
+{
+    let mut stack = stack;
+    match stack.pop() {
+        Some(form) => semicolon_form(stack, form, value, semicolon),
+        None => Ok(None),
+    }
+}
+
+fn semicolon_form(
+    stack: Stack,
+    form: Form,
+    value: Part,
+    semicolon: u64,
+) -> Result<Option<State>, Memory>
+    ensures { Steps result (shift First (form_view form ∷ frames stack.levels) (part_view value) (Sign semicolon Semicolon)) }
+{
+    match form {
+        Form::LetValue {
+            place,
+            variable,
+            assign,
+        } => wants(
+            stack,
+            Form::LetBody {
+                place,
+                variable,
+                assign,
+                value,
+                semicolon,
+            },
+        ),
+        Form::Paren { .. }
+        | Form::Bag { .. }
+        | Form::Empty { .. }
+        | Form::Source { .. }
+        | Form::ForBody { .. }
+        | Form::Test { .. }
+        | Form::Guarded { .. }
+        | Form::If { .. }
+        | Form::Then { .. }
+        | Form::Else { .. }
+        | Form::FunBody { .. }
+        | Form::LetBody { .. }
+        | Form::Prefix { .. }
+        | Form::Right { .. }
+        | Form::Argument { .. }
+        | Form::Field { .. } => Ok(None),
+    }
+}
+
+/// A comma behind the expression that the innermost form waited for.
+pub fn comma_behind(
+    alloc: Global,
+    stack: Stack,
+    part: Part,
+    comma: u64,
+) -> Result<Option<State>, Memory>
+    ensures { Steps result (shift First (frames stack.levels) (part_view part) (Sign comma Comma)) }
+{
+    let mut stack = stack;
+    match stack.pop() {
+        Some(form) => comma_form(alloc, stack, form, part, comma),
+        None => Ok(None),
+    }
+}
+
+fn comma_form(
+    alloc: Global,
+    stack: Stack,
+    form: Form,
+    part: Part,
+    comma: u64,
+) -> Result<Option<State>, Memory>
+    ensures { Steps result (shift First (form_view form ∷ frames stack.levels) (part_view part) (Sign comma Comma)) }
+{
+    match form {
+        Form::Field {
+            head,
+            place,
+            label,
+            mark,
+        } => {
+            let fields = put_field(alloc, head, place, label, mark, part)?;
+            let at = Position::AtComma { fields, comma };
+            Ok(Some(State { stack, at }))
+        }
+        Form::Paren { .. }
+        | Form::Bag { .. }
+        | Form::Empty { .. }
+        | Form::Source { .. }
+        | Form::ForBody { .. }
+        | Form::Test { .. }
+        | Form::Guarded { .. }
+        | Form::If { .. }
+        | Form::Then { .. }
+        | Form::Else { .. }
+        | Form::FunBody { .. }
+        | Form::LetValue { .. }
+        | Form::LetBody { .. }
+        | Form::Prefix { .. }
+        | Form::Right { .. }
+        | Form::Argument { .. } => Ok(None),
+    }
+}

@@ -1,0 +1,250 @@
+// Whole forms of their parts.
+ghost use Rattle.std.specs.Prelude.{◌≡◌, IfOk};
+ghost use Rattle.nq_model.specs.QueryGrammar.{Apply, Bag, Empty, Field, Nil, Paren, Rec};
+ghost use Rattle.nq_parser.specs.Forms.{form_view, head_view, part_view, type_head_view};
+ghost use Rattle.nq_parser.specs.Machine.{joined, put_field, put_type};
+ghost use Rattle.nq_parser.specs.Trees.{fields as record_fields, named, type_fields, type_view, typed};
+
+use crate::form::{FieldHead, Form, TypeHead};
+use crate::part::{Fields, Part, TypeFields, TypePart, deeper};
+use crate::syntax::{FieldName, Syntax};
+use nq_model::{Label, List, Memory};
+use std::alloc::Global;
+
+/// The whole form that a form with its last part is.
+pub fn joined(alloc: Global, form: Form, last: Part) -> Result<Part, Memory>
+    ensures { IfOk result (λ whole. part_view whole ≡ joined (form_view form) (part_view last)) }
+{
+    match form {
+        Form::ForBody {
+            place,
+            opening,
+            variable,
+            from,
+            source,
+            closing,
+        } => {
+            let depth = deeper(source.depth.max(last.depth))?;
+            let types = source.types.max(last.types);
+            let syntax = Syntax::For {
+                place,
+                opening,
+                variable,
+                from,
+                source: source.syntax,
+                closing,
+                body: last.syntax,
+            };
+            Part::new(alloc, syntax, depth, types)
+        }
+        Form::Guarded {
+            place,
+            opening,
+            test,
+            closing,
+        } => {
+            let depth = deeper(test.depth.max(last.depth))?;
+            let types = test.types.max(last.types);
+            let syntax = Syntax::Where {
+                place,
+                opening,
+                test: test.syntax,
+                closing,
+                body: last.syntax,
+            };
+            Part::new(alloc, syntax, depth, types)
+        }
+        Form::Else {
+            place,
+            test,
+            then_place,
+            yes,
+            else_place,
+        } => {
+            let depth = deeper(test.depth.max(yes.depth.max(last.depth)))?;
+            let types = test.types.max(yes.types.max(last.types));
+            let syntax = Syntax::If {
+                place,
+                test: test.syntax,
+                then_place,
+                yes: yes.syntax,
+                else_place,
+                no: last.syntax,
+            };
+            Part::new(alloc, syntax, depth, types)
+        }
+        Form::FunBody {
+            place,
+            opening,
+            variable,
+            colon,
+            taken,
+            closing,
+            arrow,
+        } => {
+            let depth = deeper(last.depth)?;
+            let types = taken.depth.max(last.types);
+            let syntax = Syntax::Fun {
+                place,
+                opening,
+                variable,
+                colon,
+                taken: taken.ty,
+                closing,
+                arrow,
+                body: last.syntax,
+            };
+            Part::new(alloc, syntax, depth, types)
+        }
+        Form::LetBody {
+            place,
+            variable,
+            assign,
+            value,
+            semicolon,
+        } => {
+            let depth = deeper(value.depth.max(last.depth))?;
+            let types = value.types.max(last.types);
+            let syntax = Syntax::Let {
+                place,
+                variable,
+                assign,
+                value: value.syntax,
+                semicolon,
+                body: last.syntax,
+            };
+            Part::new(alloc, syntax, depth, types)
+        }
+        Form::Prefix { place, op } => {
+            let depth = deeper(last.depth)?;
+            let types = last.types;
+            let syntax = Syntax::Prefix {
+                place,
+                op,
+                of: last.syntax,
+            };
+            Part::new(alloc, syntax, depth, types)
+        }
+        Form::Right { left, place, op } => {
+            let depth = deeper(left.depth.max(last.depth))?;
+            let types = left.types.max(last.types);
+            let syntax = Syntax::Infix {
+                left: left.syntax,
+                place,
+                op,
+                right: last.syntax,
+            };
+            Part::new(alloc, syntax, depth, types)
+        }
+        Form::Paren { .. }
+        | Form::Bag { .. }
+        | Form::Empty { .. }
+        | Form::Source { .. }
+        | Form::Test { .. }
+        | Form::If { .. }
+        | Form::Then { .. }
+        | Form::LetValue { .. }
+        | Form::Argument { .. }
+        | Form::Field { .. } => Ok(last),
+    }
+}
+
+/// The fields with one more, whose expression is the last part.
+#[tactic(auto, using(crate::proofs::Joining::fields_put, crate::proofs::Joining::one_put))]
+pub fn put_field(
+    alloc: Global,
+    head: FieldHead,
+    place: u64,
+    label: Label,
+    mark: u64,
+    last: Part,
+) -> Result<Fields, Memory>
+    ensures { IfOk result (λ fs. record_fields (named fs.fields) ≡ put_field (head_view head) place label mark (part_view last)) }
+{
+    let Part {
+        syntax,
+        depth,
+        types,
+    } = last;
+    let syntax = Box::into_inner(syntax);
+    match head {
+        FieldHead::First { opening } => {
+            let mut fields = List::new(alloc);
+            let name = FieldName {
+                before: opening,
+                place,
+                label,
+                mark,
+            };
+            fields.push((name, syntax))?;
+            Ok(Fields {
+                fields,
+                depth,
+                types,
+            })
+        }
+        FieldHead::Next {
+            fields: before,
+            comma,
+        } => {
+            let depth = before.depth.max(depth);
+            let types = before.types.max(types);
+            let mut fields = before.fields;
+            let name = FieldName {
+                before: comma,
+                place,
+                label,
+                mark,
+            };
+            fields.push((name, syntax))?;
+            Ok(Fields {
+                fields,
+                depth,
+                types,
+            })
+        }
+    }
+}
+
+/// The fields of a record type with one more, whose type is the last part.
+#[tactic(auto, using(crate::proofs::Joining::types_put, crate::proofs::Joining::one_type_put))]
+pub fn put_type(
+    alloc: Global,
+    head: TypeHead,
+    place: u64,
+    label: Label,
+    mark: u64,
+    last: TypePart,
+) -> Result<TypeFields, Memory>
+    ensures { IfOk result (λ fs. type_fields (typed fs.fields) ≡ put_type (type_head_view head) place label mark (type_view last.ty)) }
+{
+    let TypePart { ty, depth } = last;
+    match head {
+        TypeHead::First { opening } => {
+            let mut fields = List::new(alloc);
+            let name = FieldName {
+                before: opening,
+                place,
+                label,
+                mark,
+            };
+            fields.push((name, ty))?;
+            Ok(TypeFields { fields, depth })
+        }
+        TypeHead::Next {
+            fields: before,
+            comma,
+        } => {
+            let depth = before.depth.max(depth);
+            let mut fields = before.fields;
+            let name = FieldName {
+                before: comma,
+                place,
+                label,
+                mark,
+            };
+            fields.push((name, ty))?;
+            Ok(TypeFields { fields, depth })
+        }
+    }
+}

@@ -1,0 +1,34 @@
+// Reads a query text.
+ghost use Rattle.std.specs.Str.{IsUtf8};
+ghost use Rattle.nq_parser.specs.Parsing.{Parsed};
+
+use crate::fault::SyntaxFault;
+use crate::lexer::tokens;
+use crate::lower::lower;
+use crate::read::read;
+use nq_model::Term;
+use std::alloc::Global;
+use std::str;
+
+/// The term that a query text spells at a depth, with the place of each node. Parentheses count for the
+/// depth and leave no node. The faults come in this order, each at its first place in the text: `NotUtf8`;
+/// `Token` and `IntRange`; `Unexpected` and `Deep`, at the first token with which no program of that depth
+/// begins; `Unbound` and `TwiceLabel`. `Memory` where there is too little memory.
+pub fn parse(alloc: Global, text: &[u8], depth: u64) -> Result<Term, SyntaxFault>
+    ensures { Parsed result depth text.now }
+{
+    match str::from_utf8(text) {
+        Ok(text) => parse_str(alloc, text, depth),
+        Err(error) => Err(SyntaxFault::NotUtf8 {
+            place: error.valid_up_to() as u64,
+        }),
+    }
+}
+
+fn parse_str(alloc: Global, text: &str, depth: u64) -> Result<Term, SyntaxFault>
+    ensures { Parsed result depth text.now }
+{
+    let tokens = tokens(alloc, text)?;
+    let syntax = read(alloc, tokens.as_slice(), depth)?;
+    lower(alloc, syntax)
+}

@@ -1,0 +1,86 @@
+// One token more.
+ghost use Rattle.std.specs.Prelude.{◌≡◌};
+ghost use Rattle.nq_model.specs.QueryGrammar.{First};
+ghost use Rattle.nq_parser.specs.Machine.{step};
+ghost use Rattle.nq_parser.specs.Stacks.{frames};
+ghost use Rattle.nq_parser.specs.States.{position_view, state_view, Steps};
+ghost use Rattle.nq_parser.specs.Symbols.{token_view};
+
+use crate::begin::start;
+use crate::behind::after;
+use crate::between::{
+    at_comma, at_dot, at_empty, at_for, at_for_name, at_for_open, at_fun, at_fun_close,
+    at_fun_name, at_fun_open, at_label, at_let, at_let_name, at_table, at_where,
+};
+use crate::stack::Stack;
+use crate::state::{Position, State};
+use crate::symbol::Token;
+use crate::type_begin::start_type;
+use crate::type_behind::after_type;
+use crate::type_between::{at_type_comma, at_type_label, at_type_word};
+use crate::word::at_word;
+use nq_model::Memory;
+use std::alloc::Global;
+
+/// The state behind the token; none where the token may not stand there.
+pub fn step(alloc: Global, state: State, token: Token<'_>) -> Result<Option<State>, Memory>
+    ensures { Steps result (step First (state_view state) (token_view token.entry)) }
+{
+    let State { stack, at } = state;
+    match at {
+        Position::Want => start(alloc, stack, token),
+        Position::AtWord { opening, word } => at_word(alloc, stack, opening, word, token),
+        Position::AtTable { place } => at_table(alloc, stack, place, token),
+        Position::AtEmpty { place } => at_empty(stack, place, token),
+        Position::AtFor { place } => Ok(at_for(stack, place, token)),
+        Position::AtForOpen { place, opening } => at_for_open(alloc, stack, place, opening, token),
+        Position::AtForName {
+            place,
+            opening,
+            variable,
+        } => at_for_name(stack, place, opening, variable, token),
+        Position::AtWhere { place } => at_where(stack, place, token),
+        Position::AtFun { place } => Ok(at_fun(stack, place, token)),
+        Position::AtFunOpen { place, opening } => at_fun_open(alloc, stack, place, opening, token),
+        Position::AtFunName {
+            place,
+            opening,
+            variable,
+        } => Ok(at_fun_name(alloc, stack, place, opening, variable, token)),
+        Position::AtFunClose {
+            place,
+            opening,
+            variable,
+            colon,
+            taken,
+            closing,
+        } => at_fun_close(
+            stack, place, opening, variable, colon, taken, closing, token,
+        ),
+        Position::AtLet { place } => at_let(alloc, stack, place, token),
+        Position::AtLetName { place, variable } => at_let_name(stack, place, variable, token),
+        Position::AtComma { fields, comma } => at_comma(alloc, stack, fields, comma, token),
+        Position::AtLabel {
+            fields,
+            comma,
+            label,
+        } => at_label(stack, fields, comma, label, token),
+        Position::AtDot { of, dot } => at_dot(alloc, stack, of, dot, token),
+        Position::WantType { ty } => start_type(alloc, stack, ty, token),
+        Position::AtTypeWord { opening, word, ty } => at_type_word(
+            alloc, stack, opening, word, ty, token,
+        ),
+        Position::AtTypeComma { fields, comma, ty } => at_type_comma(
+            alloc, stack, fields, comma, ty, token,
+        ),
+        Position::AtTypeLabel {
+            fields,
+            comma,
+            label,
+            ty,
+        } => at_type_label(stack, fields, comma, label, ty, token),
+        Position::HaveType { part, ty } => after_type(alloc, stack, part, ty, token),
+        Position::Have { part } => after(alloc, stack, part, token),
+        Position::Ready { .. } => Ok(None),
+    }
+}

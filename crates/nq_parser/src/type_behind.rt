@@ -1,0 +1,279 @@
+// A token behind a whole type.
+ghost use Rattle.std.specs.Prelude.{◌≡◌, ◌∷◌, IfOk};
+ghost use Rattle.nq_model.specs.QueryGrammar.{Nil, TBag, TParen, TRec};
+ghost use Rattle.nq_model.specs.QueryTokens.{Closing, ClosingBag, Comma, Sign};
+ghost use Rattle.nq_parser.specs.Forms.{around_view, part_view, type_head_view};
+ghost use Rattle.nq_parser.specs.Machine.{after_around, after_type, put_type};
+ghost use Rattle.nq_parser.specs.Stacks.{frames};
+ghost use Rattle.nq_parser.specs.States.{Stays, Steps};
+ghost use Rattle.nq_parser.specs.Symbols.{token_view};
+ghost use Rattle.nq_parser.specs.Trees.{type_view};
+ghost use Rattle.nq_parser.specs.TypeSettling.{end_view};
+ghost use Rattle.nq_parser.specs.TypeStacks.{type_frames};
+
+use crate::form::{Around, TypeForm, TypeHead};
+use crate::join::put_type;
+use crate::part::{Part, TypePart, deeper};
+use crate::stack::Stack;
+use crate::state::{Position, State, TypeState};
+use crate::symbol::{Symbol, Token};
+use crate::syntax::{Syntax, TypeSyntax};
+use crate::type_settle::{TypeEnd, settle_type};
+use crate::wants::wants_type;
+use nq_model::{Label, Memory, boxed};
+use std::alloc::Global;
+
+/// A token behind a type: function types end before it, and what stands around them goes on.
+pub fn after_type(
+    alloc: Global,
+    stack: Stack,
+    part: TypePart,
+    ty: TypeState,
+    token: Token<'_>,
+) -> Result<Option<State>, Memory>
+    ensures { Steps result (after_type (type_frames ty.forms.levels) (type_view part.ty) (around_view ty.around) (frames stack.levels) (token_view token.entry)) }
+{
+    let place = token.place;
+    match token.symbol {
+        Symbol::Arrow => {
+            let form = TypeForm::Right {
+                taken: part,
+                arrow: place,
+            };
+            wants_type(stack, ty, form)
+        }
+        Symbol::Closing => close(alloc, stack, part, ty, place),
+        Symbol::ClosingBag => close_bag(alloc, stack, part, ty, place),
+        Symbol::Comma => comma_behind(alloc, stack, part, ty, place),
+        _ => Ok(None),
+    }
+}
+
+// A `)` behind a type.
+fn close(
+    alloc: Global,
+    stack: Stack,
+    part: TypePart,
+    ty: TypeState,
+    closing: u64,
+) -> Result<Option<State>, Memory>
+    ensures { Steps result (after_type (type_frames ty.forms.levels) (type_view part.ty) (around_view ty.around) (frames stack.levels) (Sign closing Closing)) }
+{
+    let TypeState { forms, around } = ty;
+    let mut forms = forms;
+    let (part, end) = settle_type(alloc, &mut forms, part)?;
+    let ty = TypeState { forms, around };
+    close_end(alloc, stack, part, end, ty, closing)
+}
+
+fn close_end(
+    alloc: Global,
+    stack: Stack,
+    part: TypePart,
+    end: TypeEnd,
+    ty: TypeState,
+    closing: u64,
+) -> Result<Option<State>, Memory>
+    ensures { Steps result (after_type (end_view end (type_frames ty.forms.levels)) (type_view part.ty) (around_view ty.around) (frames stack.levels) (Sign closing Closing)) }
+{
+    match end {
+        TypeEnd::Paren { opening } => {
+            let part = paren(alloc, opening, part, closing)?;
+            let at = Position::HaveType { part, ty };
+            Ok(Some(State { stack, at }))
+        }
+        TypeEnd::Field {
+            head,
+            place,
+            label,
+            mark,
+        } => {
+            let part = record(alloc, head, place, label, mark, part, closing)?;
+            let at = Position::HaveType { part, ty };
+            Ok(Some(State { stack, at }))
+        }
+        TypeEnd::Bag { .. } => Ok(None),
+        TypeEnd::Whole => Ok(close_around(stack, part, ty.around, closing)),
+    }
+}
+
+// The `)` behind the type of a function's variable.
+fn close_around(stack: Stack, taken: TypePart, around: Around, closing: u64) -> Option<State>
+    ensures { Stays result (after_around (around_view around) (type_view taken.ty) (frames stack.levels) (Sign closing Closing)) }
+{
+    match around {
+        Around::Fun {
+            place,
+            opening,
+            variable,
+            colon,
+        } => {
+            let at = Position::AtFunClose {
+                place,
+                opening,
+                variable,
+                colon,
+                taken,
+                closing,
+            };
+            Some(State { stack, at })
+        }
+        Around::Nil { .. } => None,
+    }
+}
+
+fn paren(alloc: Global, opening: u64, inner: TypePart, closing: u64) -> Result<TypePart, Memory>
+    ensures { IfOk result (λ whole. type_view whole.ty ≡ TParen opening (type_view inner.ty) closing) }
+{
+    let depth = deeper(inner.depth)?;
+    let inner = boxed(alloc, inner.ty)?;
+    let ty = TypeSyntax::Paren {
+        opening,
+        inner,
+        closing,
+    };
+    Ok(TypePart { ty, depth })
+}
+
+fn record(
+    alloc: Global,
+    head: TypeHead,
+    place: u64,
+    label: Label,
+    mark: u64,
+    last: TypePart,
+    closing: u64,
+) -> Result<TypePart, Memory>
+    ensures { IfOk result (λ whole. type_view whole.ty ≡ TRec (put_type (type_head_view head) place label mark (type_view last.ty)) closing) }
+{
+    let fields = put_type(alloc, head, place, label, mark, last)?;
+    let depth = deeper(fields.depth)?;
+    let ty = TypeSyntax::Rec {
+        fields: fields.fields,
+        closing,
+    };
+    Ok(TypePart { ty, depth })
+}
+
+// A `]` behind a type.
+fn close_bag(
+    alloc: Global,
+    stack: Stack,
+    part: TypePart,
+    ty: TypeState,
+    closing: u64,
+) -> Result<Option<State>, Memory>
+    ensures { Steps result (after_type (type_frames ty.forms.levels) (type_view part.ty) (around_view ty.around) (frames stack.levels) (Sign closing ClosingBag)) }
+{
+    let TypeState { forms, around } = ty;
+    let mut forms = forms;
+    let (part, end) = settle_type(alloc, &mut forms, part)?;
+    let ty = TypeState { forms, around };
+    close_bag_end(alloc, stack, part, end, ty, closing)
+}
+
+fn close_bag_end(
+    alloc: Global,
+    stack: Stack,
+    part: TypePart,
+    end: TypeEnd,
+    ty: TypeState,
+    closing: u64,
+) -> Result<Option<State>, Memory>
+    ensures { Steps result (after_type (end_view end (type_frames ty.forms.levels)) (type_view part.ty) (around_view ty.around) (frames stack.levels) (Sign closing ClosingBag)) }
+{
+    match end {
+        TypeEnd::Bag { opening } => {
+            let part = bag(alloc, opening, part, closing)?;
+            let at = Position::HaveType { part, ty };
+            Ok(Some(State { stack, at }))
+        }
+        TypeEnd::Paren { .. } | TypeEnd::Field { .. } => Ok(None),
+        TypeEnd::Whole => close_nil(alloc, stack, part, ty.around, closing),
+    }
+}
+
+fn bag(alloc: Global, opening: u64, element: TypePart, closing: u64) -> Result<TypePart, Memory>
+    ensures { IfOk result (λ whole. type_view whole.ty ≡ TBag opening (type_view element.ty) closing) }
+{
+    let depth = deeper(element.depth)?;
+    let element = boxed(alloc, element.ty)?;
+    let ty = TypeSyntax::Bag {
+        opening,
+        element,
+        closing,
+    };
+    Ok(TypePart { ty, depth })
+}
+
+// The `]` of an empty bag.
+fn close_nil(
+    alloc: Global,
+    stack: Stack,
+    element: TypePart,
+    around: Around,
+    closing: u64,
+) -> Result<Option<State>, Memory>
+    ensures { Steps result (after_around (around_view around) (type_view element.ty) (frames stack.levels) (Sign closing ClosingBag)) }
+{
+    match around {
+        Around::Nil { opening, colon } => {
+            let types = element.depth;
+            let syntax = Syntax::Nil {
+                opening,
+                colon,
+                element: element.ty,
+                closing,
+            };
+            let part = Part::new(alloc, syntax, 1, types)?;
+            let at = Position::Have { part };
+            Ok(Some(State { stack, at }))
+        }
+        Around::Fun { .. } => Ok(None),
+    }
+}
+
+// A comma behind a type.
+fn comma_behind(
+    alloc: Global,
+    stack: Stack,
+    part: TypePart,
+    ty: TypeState,
+    comma: u64,
+) -> Result<Option<State>, Memory>
+    ensures { Steps result (after_type (type_frames ty.forms.levels) (type_view part.ty) (around_view ty.around) (frames stack.levels) (Sign comma Comma)) }
+{
+    let TypeState { forms, around } = ty;
+    let mut forms = forms;
+    let (part, end) = settle_type(alloc, &mut forms, part)?;
+    let ty = TypeState { forms, around };
+    comma_end(alloc, stack, part, end, ty, comma)
+}
+
+fn comma_end(
+    alloc: Global,
+    stack: Stack,
+    part: TypePart,
+    end: TypeEnd,
+    ty: TypeState,
+    comma: u64,
+) -> Result<Option<State>, Memory>
+    ensures { Steps result (after_type (end_view end (type_frames ty.forms.levels)) (type_view part.ty) (around_view ty.around) (frames stack.levels) (Sign comma Comma)) }
+{
+    match end {
+        TypeEnd::Field {
+            head,
+            place,
+            label,
+            mark,
+        } => {
+            let fields = put_type(alloc, head, place, label, mark, part)?;
+            let at = Position::AtTypeComma { fields, comma, ty };
+            Ok(Some(State { stack, at }))
+        }
+        TypeEnd::Paren { .. } | TypeEnd::Bag { .. } => Ok(None),
+        TypeEnd::Whole => match ty.around {
+            Around::Nil { .. } | Around::Fun { .. } => Ok(None),
+        },
+    }
+}

@@ -1,0 +1,80 @@
+// A token behind `(` and a word, which may be a label.
+ghost use Rattle.std.specs.Prelude.{◌≡◌, ◌∷◌};
+ghost use Rattle.nq_model.specs.QueryGrammar.{First, kind};
+ghost use Rattle.nq_parser.specs.Machine.{at_word, InParen, no_label, start, InIf};
+ghost use Rattle.nq_parser.specs.Stacks.{frames};
+ghost use Rattle.nq_parser.specs.States.{Steps};
+ghost use Rattle.nq_parser.specs.Symbols.{token_view};
+
+use crate::begin::start;
+use crate::behind::after;
+use crate::between::{at_empty, at_for, at_fun, at_table, at_where};
+use crate::form::{FieldHead, Form};
+use crate::part::Part;
+use crate::stack::Stack;
+use crate::state::{Position, State};
+use crate::symbol::{Symbol, Token};
+use crate::syntax::{Syntax, Variable};
+use crate::wants::wants;
+use crate::words::{WordKind, kind_of};
+use nq_model::Memory;
+use std::alloc::Global;
+
+/// A token behind `(` and a word: an `=`, or the word is no label.
+pub fn at_word(
+    alloc: Global,
+    stack: Stack,
+    opening: u64,
+    word: Variable,
+    token: Token<'_>,
+) -> Result<Option<State>, Memory>
+    ensures { Steps result (at_word First opening word.place word.name (frames stack.levels) (token_view token.entry)) }
+{
+    match token.symbol {
+        Symbol::Assign => wants(
+            stack,
+            Form::Field {
+                head: FieldHead::First { opening },
+                place: word.place,
+                label: word.name,
+                mark: token.place,
+            },
+        ),
+        _ => no_label(alloc, stack, opening, word, token),
+    }
+}
+
+// The word is no label, and this token stands behind it.
+fn no_label(
+    alloc: Global,
+    stack: Stack,
+    opening: u64,
+    word: Variable,
+    token: Token<'_>,
+) -> Result<Option<State>, Memory>
+    ensures { Steps result (no_label First (kind First word.name) opening word.place word.name (frames stack.levels) (token_view token.entry)) }
+{
+    let mut stack = stack;
+    stack.push(Form::Paren { opening })?;
+    let Variable { place, name } = word;
+    match kind_of(name.as_str()) {
+        WordKind::Name => {
+            let part = Part::new(alloc, Syntax::Var { place, name }, 1, 0)?;
+            after(alloc, stack, part, token)
+        }
+        WordKind::Truth(truth) => {
+            let part = Part::new(alloc, Syntax::Truth { place, truth }, 1, 0)?;
+            after(alloc, stack, part, token)
+        }
+        WordKind::Table => at_table(alloc, stack, place, token),
+        WordKind::Empty => at_empty(stack, place, token),
+        WordKind::For => Ok(at_for(stack, place, token)),
+        WordKind::Where => at_where(stack, place, token),
+        WordKind::If => {
+            stack.push(Form::If { place })?;
+            start(alloc, stack, token)
+        }
+        WordKind::Fun => Ok(at_fun(stack, place, token)),
+        WordKind::Then | WordKind::Else | WordKind::Let | WordKind::Base(_) => Ok(None),
+    }
+}
