@@ -124,7 +124,7 @@ const CASES: [Case; 13] = [
 ];
 
 // So many spaces, and then a text.
-fn padded(alloc: Global, blanks: usize, text: &str) -> Result<List<u8>, Fail> {
+pub fn padded(alloc: Global, blanks: usize, text: &str) -> Result<List<u8>, Fail> {
     let mut bytes = List::new(alloc);
     for _ in 0..blanks {
         bytes.push(b' ')?;

@@ -11,10 +11,11 @@ use Rattle.sql_profile.specs.declared.answer.Answer.{Answer as Rows}
 use Rattle.sql_profile.specs.declared.server.Loaded.{Loaded}
 use Rattle.sql_profile.proofs.Misfits.{fits_without_misfit}
 use Rattle.nq_top.specs.Gathering.{Told}
-use Rattle.nq_top.specs.Judging.{Judgement, Verdict, SchemaReading, refused, accepted}
+use Rattle.nq_top.specs.Reading.{Reading}
+use Rattle.nq_top.specs.Judging.{Judgement, Verdict, missing, refused, written, accepted}
 use Rattle.nq_top.specs.Refusals.{status_of}
 use Rattle.nq_top.specs.Serving.{ServerState, AnswersBadly, ServeTells}
-use Rattle.nq_top.specs.Running.{Answer, InputCount, OutputCount, ServerCount, Tells, Means, Comes, IsDone, Completes, ToldFit, IsFair}
+use Rattle.nq_top.specs.Running.{Answer, InputCount, OutputCount, ServerCount, Gives, Tells, Means, Comes, IsDone, IsDue, Completes, ToldFit, IsFair, Serves}
 use Rattle.nq_top.proofs.Runs.{blames_of}
 use Rattle.nq_top.specs.declared.refusal.Refused.{Refused}
 use Rattle.nq_top.specs.declared.refusal.InputRefusal.TheVariants as input
@@ -49,87 +50,92 @@ bad_not_fit tables asked old new honest text row column bad told =
     fits_without_misfit bad.rows (scan_types table.columns) (record { row = row; column = column })
     (All-head P (scan_text table.name table.columns, record { rows = bad.rows }) [] fits) bad.misfit
 
--- inputs come to one thing
-not_both : (v : Verdict) (tables : List Loaded) (asked : ℕ) (r : Refused) → v ≡ accepted tables asked → v ≡ refused r → ⊥
-not_both v tables asked r is other = let e : accepted tables asked ≡ refused r = sym is ∙ other in absurd (cc)
+-- refused inputs are not accepted
+not_due : (v : Verdict) (fair : List Loaded → ℕ → Type 0) (r : Refused) → v ≡ refused r → IsDue fair v → ⊥
+not_due v fair r is due = let P : Verdict → Type 0 = λ w. IsDue fair w in subst P is due
 
-same_tables : (v : Verdict) (tables other : List Loaded) (asked place : ℕ) → v ≡ accepted tables asked → v ≡ accepted other place → (tables ≡ other) × (asked ≡ place)
-same_tables v tables other asked place is comes = let e : accepted tables asked ≡ accepted other place = sym is ∙ comes in (cc, cc)
+-- what is due of inputs that come to tables
+due_of : (v : Verdict) (fair : List Loaded → ℕ → Type 0) (tables : List Loaded) (asked : ℕ) → v ≡ accepted tables asked → IsDue fair v → fair tables asked
+due_of v fair tables asked is due = let P : Verdict → Type 0 = λ w. IsDue fair w in subst P is due
 
-bad_not_fair : (v : Verdict) (tables other : List Loaded) (asked place : ℕ) (old new : ServerState) (honest : Bool) (text row column : ℕ)
-    → v ≡ accepted tables asked → v ≡ accepted other place → AnswersBadly other place old new honest text row column
-    → IsFair honest old.asks new.asks tables asked → ⊥
-bad_not_fair v tables other asked place old new honest text row column is comes bad (inl is_honest) = bad.blamed is_honest
-bad_not_fair v tables other asked place old new honest text row column is comes bad (inr told) =
-    let same = same_tables v tables other asked place is comes in
-    let P : List Loaded → Type 0 = λ ts. ToldFit ts asked old.asks new.asks in
-    let Q : ℕ → Type 0 = λ n. ToldFit other n old.asks new.asks in
-    bad_not_fit other place old new honest text row column bad (subst Q same.1 (subst P same.0 told))
+bad_not_fair : (tables : List Loaded) (asked : ℕ) (old new : ServerState) (honest : Bool) (text row column : ℕ)
+    → AnswersBadly tables asked old new honest text row column → IsFair honest old.asks new.asks tables asked → ⊥
+bad_not_fair tables asked old new honest text row column bad (inl is_honest) = bad.blamed is_honest
+bad_not_fair tables asked old new honest text row column bad (inr told) = bad_not_fit tables asked old new honest text row column bad told
 
 -- accepted inputs, no failed call and a fair server leave nothing but success and want of memory
 done_of : (j : Judgement) (old new : ServerState) (honest : Bool) (told_old told_new : Told) (out_old out_new : Option (List ℕ)) (ib inow ob onow bound sb snow : ℕ) (a : Answer)
     → InputCount ib inow a → OutputCount ob onow a → ServerCount bound sb snow a
     → Tells (λ tables asked. ServeTells tables asked old new honest) j told_old told_new out_old out_new a
-    → Completes j (Rose ib inow ⊎ (Rose ob onow ⊎ RoseBelow bound sb snow)) (IsFair honest old.asks new.asks) (status_of a)
-done_of j old new honest told_old told_new out_old out_new ib inow ob onow bound sb snow (Ok u) inputs output served tells = λ tables asked is failed fair. inl refl
-done_of j old new honest told_old told_new out_old out_new ib inow ob onow bound sb snow (Err (refusal.Input input.Memory)) inputs output served tells = λ tables asked is failed fair. inr refl
-done_of j old new honest told_old told_new out_old out_new ib inow ob onow bound sb snow (Err (refusal.Input (input.Refused r))) inputs output served tells = λ tables asked is failed fair. absurd (not_both j.verdict tables asked r is tells.comes_to)
-done_of j old new honest told_old told_new out_old out_new ib inow ob onow bound sb snow (Err (refusal.Input (input.Failed name))) inputs output served tells = λ tables asked is failed fair. absurd (failed (inl inputs))
-done_of j old new honest told_old told_new out_old out_new ib inow ob onow bound sb snow (Err (refusal.Server server.Memory)) inputs output served tells = λ tables asked is failed fair. inr refl
-done_of j old new honest told_old told_new out_old out_new ib inow ob onow bound sb snow (Err (refusal.Server (server.TableFailed name))) inputs output served tells = λ tables asked is failed fair. absurd (failed (inr (inr served)))
-done_of j old new honest told_old told_new out_old out_new ib inow ob onow bound sb snow (Err (refusal.Server (server.TextFailed text))) inputs output served tells = λ tables asked is failed fair. absurd (failed (inr (inr served)))
-done_of j old new honest told_old told_new out_old out_new ib inow ob onow bound sb snow (Err (refusal.Server (server.BadAnswer text row column))) inputs output served tells = λ tables asked is failed fair.
-    absurd (bad_not_fair j.verdict tables tells.tables asked tells.asked old new honest text row column is tells.judges.comes_to tells.serves fair)
-done_of j old new honest told_old told_new out_old out_new ib inow ob onow bound sb snow (Err refusal.OutputFailed) inputs output served tells = λ tables asked is failed fair. absurd (failed (inr (inl output)))
+    → Completes j (Rose ib inow ⊎ Rose ob onow) (Serves (RoseBelow bound sb snow) honest old.asks new.asks) (status_of a)
+done_of j old new honest told_old told_new out_old out_new ib inow ob onow bound sb snow (Ok u) inputs output served tells = λ failed due. inl refl
+done_of j old new honest told_old told_new out_old out_new ib inow ob onow bound sb snow (Err (refusal.Input input.Memory)) inputs output served tells = λ failed due. inr refl
+done_of j old new honest told_old told_new out_old out_new ib inow ob onow bound sb snow (Err (refusal.Input (input.Refused r))) inputs output served tells = λ failed due. absurd (not_due j.verdict (Serves (RoseBelow bound sb snow) honest old.asks new.asks) r tells.comes_to due)
+done_of j old new honest told_old told_new out_old out_new ib inow ob onow bound sb snow (Err (refusal.Input (input.Failed name))) inputs output served tells = λ failed due. absurd (failed (inl inputs))
+done_of j old new honest told_old told_new out_old out_new ib inow ob onow bound sb snow (Err (refusal.Server server.Memory)) inputs output served tells = λ failed due. inr refl
+done_of j old new honest told_old told_new out_old out_new ib inow ob onow bound sb snow (Err (refusal.Server (server.TableFailed name))) inputs output served tells = λ failed due. absurd ((due_of j.verdict (Serves (RoseBelow bound sb snow) honest old.asks new.asks) tells.tables tells.asked tells.judges.comes_to due).not_failed served)
+done_of j old new honest told_old told_new out_old out_new ib inow ob onow bound sb snow (Err (refusal.Server (server.TextFailed text))) inputs output served tells = λ failed due. absurd ((due_of j.verdict (Serves (RoseBelow bound sb snow) honest old.asks new.asks) tells.tables tells.asked tells.judges.comes_to due).not_failed served)
+done_of j old new honest told_old told_new out_old out_new ib inow ob onow bound sb snow (Err (refusal.Server (server.BadAnswer text row column))) inputs output served tells = λ failed due.
+    absurd (bad_not_fair tells.tables tells.asked old new honest text row column tells.serves (due_of j.verdict (Serves (RoseBelow bound sb snow) honest old.asks new.asks) tells.tables tells.asked tells.judges.comes_to due).fair)
+done_of j old new honest told_old told_new out_old out_new ib inow ob onow bound sb snow (Err refusal.OutputFailed) inputs output served tells = λ failed due. absurd (failed (inr output))
 
-pub lent_completes : (held : Option Files) (judges : SchemaReading → Files → Judgement) (old new : ServerState) (honest : Bool) (told_old told_new : Told) (out_old out_new : Option (List ℕ)) (ib inow ob onow bound sb snow status : ℕ) (a : Answer)
+pub lent_completes : (held : Option Files) (judges : Reading → Files → Judgement) (old new : ServerState) (honest : Bool) (told_old told_new : Told) (out_old out_new : Option (List ℕ)) (ib inow ob onow bound sb snow status : ℕ) (a : Answer)
     → status ≡ status_of a → InputCount ib inow a → OutputCount ob onow a → ServerCount bound sb snow a
-    → IfSome held (λ files. (reading : SchemaReading) → Tells (λ tables asked. ServeTells tables asked old new honest) (judges reading files) told_old told_new out_old out_new a)
-    → IfSome held (λ files. (reading : SchemaReading) → Completes (judges reading files) (Rose ib inow ⊎ (Rose ob onow ⊎ RoseBelow bound sb snow)) (IsFair honest old.asks new.asks) status)
+    → IfSome held (λ files. (reading : Reading) → Tells (λ tables asked. ServeTells tables asked old new honest) (judges reading files) told_old told_new out_old out_new a)
+    → IfSome held (λ files. (reading : Reading) → Completes (judges reading files) (Rose ib inow ⊎ Rose ob onow) (Serves (RoseBelow bound sb snow) honest old.asks new.asks) status)
 lent_completes None judges old new honest told_old told_new out_old out_new ib inow ob onow bound sb snow status a is inputs output served tells = tt
-lent_completes (Some files) judges old new honest told_old told_new out_old out_new ib inow ob onow bound sb snow status a is inputs output served tells = λ reading tables asked comes failed fair.
+lent_completes (Some files) judges old new honest told_old told_new out_old out_new ib inow ob onow bound sb snow status a is inputs output served tells = λ reading failed due.
     subst IsDone (sym is)
-    (done_of (judges reading files) old new honest told_old told_new out_old out_new ib inow ob onow bound sb snow a inputs output served (tells reading) tables asked comes failed fair)
+    (done_of (judges reading files) old new honest told_old told_new out_old out_new ib inow ob onow bound sb snow a inputs output served (tells reading) failed due)
 
 -- a server whose count is at its bound does not fail
 not_below : (bound before now : ℕ) → before ≡ bound → RoseBelow bound before now → ⊥
 not_below bound before now at rose = let below = rose.room in omega (arith, below, at)
 
-pub main_completes : (held : Option Files) (judges : SchemaReading → Files → Judgement) (honest : Bool) (old_asks new_asks : Option Asks) (ib inow ob onow bound sb snow status : ℕ)
-    → IfSome held (λ files. (reading : SchemaReading) → Completes (judges reading files) (Rose ib inow ⊎ (Rose ob onow ⊎ RoseBelow bound sb snow)) (IsFair honest old_asks new_asks) status)
-    → IfSome held (λ files. (reading : SchemaReading) → Completes (judges reading files) (Rose ib inow ⊎ Rose ob onow) (λ tables asked. (sb ≡ bound) × (honest ≡ true)) status)
+-- an honest server whose count is at its bound serves
+main_due : (v : Verdict) (honest : Bool) (old_asks new_asks : Option Asks) (bound sb snow : ℕ) → IsDue (λ tables asked. (sb ≡ bound) × (honest ≡ true)) v
+    → IsDue (Serves (RoseBelow bound sb snow) honest old_asks new_asks) v
+main_due (missing name) honest old_asks new_asks bound sb snow due = due
+main_due (refused r) honest old_asks new_asks bound sb snow due = due
+main_due (written text) honest old_asks new_asks bound sb snow due = due
+main_due (accepted tables asked) honest old_asks new_asks bound sb snow due = record { not_failed = not_below bound sb snow due.0; fair = inl due.1 }
+
+pub main_completes : (held : Option Files) (judges : Reading → Files → Judgement) (honest : Bool) (old_asks new_asks : Option Asks) (ib inow ob onow bound sb snow status : ℕ)
+    → IfSome held (λ files. (reading : Reading) → Completes (judges reading files) (Rose ib inow ⊎ Rose ob onow) (Serves (RoseBelow bound sb snow) honest old_asks new_asks) status)
+    → IfSome held (λ files. (reading : Reading) → Completes (judges reading files) (Rose ib inow ⊎ Rose ob onow) (λ tables asked. (sb ≡ bound) × (honest ≡ true)) status)
 main_completes None judges honest old_asks new_asks ib inow ob onow bound sb snow status all = tt
-main_completes (Some files) judges honest old_asks new_asks ib inow ob onow bound sb snow status all = λ reading tables asked comes failed fair.
-    all reading tables asked comes (split failed fair.0) (inl fair.1)
-  where
-    split : (Rose ib inow ⊎ Rose ob onow → ⊥) → sb ≡ bound → Rose ib inow ⊎ (Rose ob onow ⊎ RoseBelow bound sb snow) → ⊥
-    split failed at (inl rose) = failed (inl rose)
-    split failed at (inr (inl rose)) = failed (inr rose)
-    split failed at (inr (inr rose)) = not_below bound sb snow at rose
+main_completes (Some files) judges honest old_asks new_asks ib inow ob onow bound sb snow status all = λ reading failed due.
+    all reading failed (main_due (judges reading files).verdict honest old_asks new_asks bound sb snow due)
 
 -- what is known of a text without its server
 means_of : (tables : List Loaded) (asked : ℕ) (old new : ServerState) (honest : Bool) (r : Result (List ℕ) ServerRefusal) → ServeTells tables asked old new honest r → Means honest tables asked r
 means_of tables asked old new honest (Ok text) serves = serves.of_meaning
 means_of tables asked old new honest (Err r) serves = blames_of tables asked old new honest r serves
 
+gives_means : (v : Verdict) (old new : ServerState) (honest : Bool) (text : List ℕ) → Gives (λ tables asked. ServeTells tables asked old new honest) v text → Gives (Means honest) v text
+gives_means (missing name) old new honest text gives = gives
+gives_means (refused r) old new honest text gives = gives
+gives_means (written said) old new honest text gives = gives
+gives_means (accepted tables asked) old new honest text gives = means_of tables asked old new honest (Ok text) gives
+
 tells_means : (j : Judgement) (old new : ServerState) (honest : Bool) (told_old told_new : Told) (out_old out_new : Option (List ℕ)) (a : Answer)
     → Tells (λ tables asked. ServeTells tables asked old new honest) j told_old told_new out_old out_new a
     → Tells (Means honest) j told_old told_new out_old out_new a
 tells_means j old new honest told_old told_new out_old out_new (Ok u) tells =
-    record { tables = tells.tables; asked = tells.asked; text = tells.text; judges = tells.judges; serves = means_of tells.tables tells.asked old new honest (Ok tells.text) tells.serves; puts = tells.puts }
+    record { text = tells.text; gives = gives_means j.verdict old new honest tells.text tells.gives; fetched = tells.fetched; puts = tells.puts }
 tells_means j old new honest told_old told_new out_old out_new (Err (refusal.Input r)) tells = tells
 tells_means j old new honest told_old told_new out_old out_new (Err (refusal.Server r)) tells =
     record { tables = tells.tables; asked = tells.asked; judges = tells.judges; serves = means_of tells.tables tells.asked old new honest (Err r) tells.serves }
 tells_means j old new honest told_old told_new out_old out_new (Err refusal.OutputFailed) tells =
-    record { tables = tells.tables; asked = tells.asked; text = tells.text; judges = tells.judges; serves = means_of tells.tables tells.asked old new honest (Ok tells.text) tells.serves; puts = tells.puts }
+    record { text = tells.text; gives = gives_means j.verdict old new honest tells.text tells.gives; fetched = tells.fetched; puts = tells.puts }
 
-pub main_comes : (held : Option Files) (judges : SchemaReading → Files → Judgement) (old new : ServerState) (honest : Bool) (told_old told_new : Told) (out_old out_new notes_old notes_new : Option (List ℕ)) (before now status : ℕ)
-    → Comes held (λ files answer. (reading : SchemaReading) → Tells (λ tables asked. ServeTells tables asked old new honest) (judges reading files) told_old told_new out_old out_new answer) notes_old notes_new before now status
-    → Comes held (λ files answer. (reading : SchemaReading) → Tells (Means honest) (judges reading files) told_old told_new out_old out_new answer) notes_old notes_new before now status
+pub main_comes : (held : Option Files) (judges : Reading → Files → Judgement) (old new : ServerState) (honest : Bool) (told_old told_new : Told) (out_old out_new notes_old notes_new : Option (List ℕ)) (before now status : ℕ)
+    → Comes held (λ files answer. (reading : Reading) → Tells (λ tables asked. ServeTells tables asked old new honest) (judges reading files) told_old told_new out_old out_new answer) notes_old notes_new before now status
+    → Comes held (λ files answer. (reading : Reading) → Tells (Means honest) (judges reading files) told_old told_new out_old out_new answer) notes_old notes_new before now status
 main_comes held judges old new honest told_old told_new out_old out_new notes_old notes_new before now status comes =
     record { answer = comes.answer; is = comes.is; notes = comes.notes; told = go held comes.told }
   where
-    go : (h : Option Files) → IfSome h (λ files. (reading : SchemaReading) → Tells (λ tables asked. ServeTells tables asked old new honest) (judges reading files) told_old told_new out_old out_new comes.answer)
-        → IfSome h (λ files. (reading : SchemaReading) → Tells (Means honest) (judges reading files) told_old told_new out_old out_new comes.answer)
+    go : (h : Option Files) → IfSome h (λ files. (reading : Reading) → Tells (λ tables asked. ServeTells tables asked old new honest) (judges reading files) told_old told_new out_old out_new comes.answer)
+        → IfSome h (λ files. (reading : Reading) → Tells (Means honest) (judges reading files) told_old told_new out_old out_new comes.answer)
     go None told = tt
     go (Some files) told = λ reading. tells_means (judges reading files) old new honest told_old told_new out_old out_new comes.answer (told reading)

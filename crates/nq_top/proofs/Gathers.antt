@@ -1,25 +1,30 @@
 -- How the judgement of the inputs follows from the fetches.
-use Rattle.std.proofs.Common.{◌≡◌, ◌≤◌, ℕ, Bool, true, false, List, [], ◌∷◌, ◌++◌, length, map, Some, None, Option, Result, Ok, Err, arith, refl, sym, ap, subst, ◌∙◌, nat_lt, cond, append_assoc, append-nil, All, length-append, IfSome}
+use Rattle.std.proofs.Common.{◌≡◌, ◌≢◌, ◌<◌, ◌≤◌, ℕ, Bool, true, false, List, [], ◌∷◌, ◌++◌, length, map, Some, None, Option, Result, Ok, Err, arith, refl, sym, ap, subst, ◌∙◌, nat_lt, cond, append_assoc, append-nil, All, length-append, IfSome}
 use Rattle.std.specs.Option.{option_map}
-use Rattle.std.proofs.lemmas.List.Elements.{All-head, All-tail, All-push}
+use Rattle.std.proofs.lemmas.List.Elements.{All-head, All-tail, All-push, All-nil}
 use Rattle.std.proofs.lemmas.List.{map-append}
 use Rattle.nq_model.specs.Cells.{RowFits}
 use Rattle.nq_model.specs.Orders.{AreDistinct}
 use Rattle.nq_model.specs.Tables.{names_of, types_of}
+use Rattle.nq_model.specs.Terms.{PlacedTerm, PlacedNode, at}
+use Rattle.nq_model.specs.Types.{TypeTree}
+use Rattle.nq_model.specs.Typing.{shape_named}
+use Rattle.nq_model.specs.Judging.{BrokenRule, program_judged}
+use Rattle.nq_model.proofs.Judging.{judged_accepted}
 use Rattle.nq_model.specs.declared.table.Cell.{Cell}
 use Rattle.nq_model.specs.declared.table.Schema.{Schema}
 use Rattle.nq_model.specs.declared.table.TableShape.{TableShape}
 use Rattle.nq_edge.specs.Edge.{Files, bytes_at, IsLonger, TellsMore}
 use Rattle.sql_profile.specs.Servers.{table_names}
 use Rattle.sql_profile.specs.declared.server.Loaded.{Loaded}
-use Rattle.schema_reader.specs.declared.fault.SchemaFault.{SchemaFault}
-use Rattle.table_reader.specs.declared.TableFault.{TableFault}
 use Rattle.nq_top.specs.Commands.{Command, command_of}
-use Rattle.nq_top.specs.Judging.{Judgement, refused, after, at_once, judged, fetched_then, SchemaReading, schema_said, query_said, query_judged, schema_judged, command_judged, judgement, table_said, loaded_as}
-use Rattle.nq_top.specs.Gathering.{Told, RefusalTells, GatherTells, FetchedWithin, FetchRefused, FetchNames, SchemaRefuses, RowsRefused, IsUnquoted, AreServable, CanGather}
-use Rattle.nq_top.specs.declared.gather.Gathered.{Gathered}
-use Rattle.nq_top.specs.declared.refusal.Refused.TheVariants.{TooLong, NotBuilt}
-use Rattle.nq_top.specs.declared.refusal.Refused.TheVariants as refusals
+use Rattle.nq_top.specs.Reading.{Reading, refused_as, ill_typed, type_read, rows_read}
+use Rattle.nq_top.specs.Judging.{Judgement, refused, written, after, at_once, judged, fetched_then, read_then, table_named, built, command_judged, judgement, loaded_as}
+use Rattle.nq_top.specs.Gathering.{Told, Judges, RefusalTells, GatherTells, FetchedWithin, FetchRefused, FetchNames, Refuses, IsUnquoted, AreServable, AreLoadable, IsTyped, CanGather}
+use Rattle.nq_top.specs.declared.gathered.Gathered.{Gathered}
+use Rattle.nq_top.specs.declared.gathered.Gathered.TheVariants as gathered
+use Rattle.nq_top.specs.declared.refusal.Refused.{Refused}
+use Rattle.nq_top.specs.declared.refusal.Refused.TheVariants.{Usage, TooLong, NotBuilt}
 use Rattle.nq_top.specs.declared.refusal.InputRefusal.{InputRefusal}
 use Rattle.nq_top.specs.declared.refusal.InputRefusal.TheVariants as input
 
@@ -92,102 +97,127 @@ fetch_refused files name limit next old new (input.Failed failed) says fetched =
     let P : List ℕ → Type 0 = λ n. TellsMore old new (n ∷ []) in
     record { front = []; back = names.0; all = names.1 ∙ ap (λ (n : List ℕ). n ∷ names.0) (sym says); fetched = subst P (sym says) fetched }
 
--- the query names no table of the schema
-pub query_refused : (o : Option ℕ) (next : ℕ → Judgement) → o ≡ None → query_said o next ≡ at_once (refused NotBuilt)
-query_refused None next e = refl
-query_refused (Some x) next e = absurd (cc)
+-- what was read is judged on
+pub read_next : {A : Type 0} (given : Result A Refused) (a : A) (next : A → Judgement) → given ≡ Ok a → read_then given next ≡ next a
+read_next given a next e = ap (λ (r : Result _ Refused). read_then r next) e
 
-pub query_next : (o : Option ℕ) (x : ℕ) (next : ℕ → Judgement) → o ≡ Some x → query_said o next ≡ next x
-query_next None x next e = absurd (cc)
-query_next (Some y) x next e = let same : y ≡ x = cc in ap next same
-
--- the text spells this schema
-pub schema_next : (says : Result Schema SchemaFault) (schema : Schema) (next : Schema → Judgement) → says ≡ Ok schema → schema_said says next ≡ next schema
-schema_next says schema next e = ap (λ (r : Result Schema SchemaFault). schema_said r next) e
-
--- the table text gives these rows
-pub table_next : (name : List ℕ) (given : Result (List (List Cell)) TableFault) (rows : List (List Cell)) (next : List (List Cell) → Judgement)
-    → given ≡ Ok rows → table_said name given next ≡ next rows
-table_next name given rows next e = ap (λ (r : Result (List (List Cell)) TableFault). table_said name r next) e
-
--- a refused schema text is a refusal of the whole
-pub schema_refused : (says : Result Schema SchemaFault) (next : Schema → Judgement) (old new : Told) (r : InputRefusal)
-    → SchemaRefuses says r → new ≡ old → RefusalTells (schema_said says next) old new r
-schema_refused says next old new input.Memory refuses same =
-    record { front = []; back = (schema_said says next).names; all = refl; fetched = tells_nothing old new same }
-schema_refused says next old new (input.Refused refusals.Usage) refuses same = absurd refuses
-schema_refused says next old new (input.Refused (refusals.TooLong name limit)) refuses same = absurd refuses
-schema_refused says next old new (input.Refused (refusals.Schema fault)) refuses same =
-    let is : schema_said says next ≡ at_once (refused (refusals.Schema fault)) = ap (λ (r : Result Schema SchemaFault). schema_said r next) refuses in
+-- what a text is refused for is a refusal of the whole
+pub read_refused : {A : Type 0} (given : Result A Refused) (next : A → Judgement) (old new : Told) (r : InputRefusal)
+    → Refuses given r → new ≡ old → RefusalTells (read_then given next) old new r
+read_refused given next old new input.Memory refuses same =
+    record { front = []; back = (read_then given next).names; all = refl; fetched = tells_nothing old new same }
+read_refused given next old new (input.Refused r) refuses same =
+    let is : read_then given next ≡ at_once (refused r) = ap (λ (x : Result _ Refused). read_then x next) refuses in
     record { comes_to = ap (λ (j : Judgement). j.verdict) is; fetched = rw is (tells_nothing old new same) }
-schema_refused says next old new (input.Refused refusals.NotBuilt) refuses same = absurd refuses
-schema_refused says next old new (input.Refused (refusals.Table name fault)) refuses same = absurd refuses
-schema_refused says next old new (input.Failed name) refuses same = absurd refuses
+read_refused given next old new (input.Failed failed) refuses same = absurd refuses
 
--- and so is a refused table text
-pub table_refused : (given : Result (List (List Cell)) TableFault) (name : List ℕ) (next : List (List Cell) → Judgement) (old new : Told) (r : InputRefusal)
-    → RowsRefused given name r → new ≡ old → RefusalTells (table_said name given next) old new r
-table_refused given name next old new input.Memory refuses same =
-    record { front = []; back = (table_said name given next).names; all = refl; fetched = tells_nothing old new same }
-table_refused given name next old new (input.Refused refusals.Usage) refuses same = absurd refuses
-table_refused given name next old new (input.Refused (refusals.TooLong failed limit)) refuses same = absurd refuses
-table_refused given name next old new (input.Refused (refusals.Schema fault)) refuses same = absurd refuses
-table_refused given name next old new (input.Refused refusals.NotBuilt) refuses same = absurd refuses
-table_refused given name next old new (input.Refused (refusals.Table failed fault)) refuses same =
-    let is : table_said name given next ≡ at_once (refused (refusals.Table name fault)) = ap (λ (r : Result (List (List Cell)) TableFault). table_said name r next) refuses.1 in
-    record { comes_to = ap (λ (j : Judgement). j.verdict) is ∙ ap (λ (n : List ℕ). refused (refusals.Table n fault)) (sym refuses.0); fetched = rw is (tells_nothing old new same) }
-table_refused given name next old new (input.Failed failed) refuses same = absurd refuses
+-- the rows of a table
+pub rows_next : (shape : TableShape) (text : List ℕ) (rows : List (List Cell)) (next : List (List Cell) → Judgement) → rows_read shape text ≡ Ok rows
+    → read_then (rows_read shape text) next ≡ next rows
+rows_next shape text rows next e = read_next (rows_read shape text) rows next e
 
--- the schema text is refused
-pub schema_stops : (held : Option Files) (schema query folder text : List ℕ) (old mid new : Told) (r : InputRefusal)
-    → IfSome held (λ files. FetchedWithin (bytes_at files schema) 1048576 text) → TellsMore old mid (schema ∷ []) → new ≡ mid
-    → ((reading : SchemaReading) → SchemaRefuses (reading.says text) r)
-    → IfSome held (λ files. (reading : SchemaReading) → GatherTells (schema_judged reading files schema query folder) old new (Err r))
-schema_stops None schema query folder text old mid new r within told same refuses = tt
-schema_stops (Some files) schema query folder text old mid new r within told same refuses = λ reading.
-    let next : List ℕ → Judgement = λ bytes. schema_said (reading.says bytes) (λ found. query_judged files query folder found.tables) in
-    let P : Judgement → Type 0 = λ j. RefusalTells j old new r in
-    subst P (sym (fetch_next files schema 1048576 next text within))
-    (refusal_after schema (next text) old mid new r told (schema_refused (reading.says text) (λ found. query_judged files query folder found.tables) mid new r (refuses reading) same))
+pub rows_refused : (shape : TableShape) (text : List ℕ) (next : List (List Cell) → Judgement) (old new : Told) (r : InputRefusal)
+    → Refuses (rows_read shape text) r → new ≡ old → RefusalTells (read_then (rows_read shape text) next) old new r
+rows_refused shape text next old new r refuses same = read_refused (rows_read shape text) next old new r refuses same
 
--- the same, with the name and the bytes as the program has them
-pub schema_stops_at : (held : Option Files) (name schema query folder text bytes : List ℕ) (old mid : Told) (r : InputRefusal)
-    → name ≡ schema → bytes ≡ text → IfSome held (λ files. FetchedWithin (bytes_at files name) 1048576 text) → TellsMore old mid (name ∷ [])
-    → ((reading : SchemaReading) → SchemaRefuses (reading.says bytes) r)
-    → IfSome held (λ files. (reading : SchemaReading) → GatherTells (schema_judged reading files schema query folder) old mid (Err r))
-schema_stops_at held name schema query folder text bytes old mid r named same within told refuses =
-    let P : List ℕ → Type 0 = λ n. IfSome held (λ files. FetchedWithin (bytes_at files n) 1048576 text) in
-    let Q : List ℕ → Type 0 = λ n. TellsMore old mid (n ∷ []) in
-    schema_stops held schema query folder text old mid mid r (subst P named within) (subst Q named told) refl
-    (λ reading. subst (λ (b : List ℕ). SchemaRefuses (reading.says b) r) same (refuses reading))
+-- the type of a term
+pub type_next : (schema : Schema) (term : PlacedTerm) (type : TypeTree) (next : TypeTree → Judgement) → type_read schema term ≡ Ok type
+    → read_then (type_read schema term) next ≡ next type
+type_next schema term type next e = read_next (type_read schema term) type next e
 
--- the schema text spells a schema, on which the query is judged
-pub schema_goes : (held mid_held : Option Files) (schema query folder text : List ℕ) (old mid new : Told) (found : Schema) (result : Result Gathered InputRefusal)
-    → mid_held ≡ held → IfSome held (λ files. FetchedWithin (bytes_at files schema) 1048576 text) → TellsMore old mid (schema ∷ [])
-    → ((reading : SchemaReading) → reading.says text ≡ Ok found)
-    → IfSome mid_held (λ files. GatherTells (query_judged files query folder found.tables) mid new result)
-    → IfSome held (λ files. (reading : SchemaReading) → GatherTells (schema_judged reading files schema query folder) old new result)
-schema_goes None mid_held schema query folder text old mid new found result same within told says tells = tt
-schema_goes (Some files) mid_held schema query folder text old mid new found result same within told says tells = λ reading.
-    let next : List ℕ → Judgement = λ bytes. schema_said (reading.says bytes) (λ s. query_judged files query folder s.tables) in
-    let later : Option Files → Type 0 = λ held. IfSome held (λ fs. GatherTells (query_judged fs query folder found.tables) mid new result) in
-    let here : GatherTells (query_judged files query folder found.tables) mid new result = subst later same tells in
-    let goes : next text ≡ query_judged files query folder found.tables = schema_next (reading.says text) found (λ s. query_judged files query folder s.tables) (says reading) in
+pub type_refused : (schema : Schema) (term : PlacedTerm) (next : TypeTree → Judgement) (old new : Told) (r : InputRefusal)
+    → Refuses (type_read schema term) r → new ≡ old → RefusalTells (read_then (type_read schema term) next) old new r
+type_refused schema term next old new r refuses same = read_refused (type_read schema term) next old new r refuses same
+
+pub is_typed : (schema : Schema) (term : PlacedTerm) (type : TypeTree) → type_read schema term ≡ Ok type → IsTyped schema term
+is_typed schema term type e = record { type = type; typed = e }
+
+-- the table that is named
+pub name_next : (named : Option (List ℕ)) (name : List ℕ) (next : List ℕ → Judgement) → named ≡ Some name → read_then (built named) next ≡ next name
+name_next named name next e = read_next (built named) name next (ap built e)
+
+pub name_refused : (named : Option (List ℕ)) (next : List ℕ → Judgement) → named ≡ None → read_then (built named) next ≡ at_once (refused NotBuilt)
+name_refused named next e = ap (λ (n : Option (List ℕ)). read_then (built n) next) e
+
+-- An input is fetched and read, and is refused.
+pub reading_stops : {A : Type 0} (held : Option Files) (name input text bytes : List ℕ) (limit : ℕ) (read : Reading → List ℕ → Result A Refused) (later : Reading → Files → A → Judgement)
+    → (old mid : Told) (r : InputRefusal)
+    → name ≡ input → bytes ≡ text → IfSome held (λ files. FetchedWithin (bytes_at files name) limit text) → TellsMore old mid (name ∷ [])
+    → ((reading : Reading) → Refuses (read reading bytes) r)
+    → IfSome held (λ files. (reading : Reading) → GatherTells (fetched_then files input limit (λ given. read_then (read reading given) (later reading files))) old mid (Err r))
+reading_stops None name input text bytes limit read later old mid r named same_text within told refuses = tt
+reading_stops (Some files) name input text bytes limit read later old mid r named same_text within told refuses = λ reading.
+    let next : List ℕ → Judgement = λ given. read_then (read reading given) (later reading files) in
+    let P : Judgement → Type 0 = λ j. RefusalTells j old mid r in
+    let Q : List ℕ → Type 0 = λ given. Refuses (read reading given) r in
+    let W : List ℕ → Type 0 = λ n. GatherTells (fetched_then files n limit next) old mid (Err r) in
+    subst W named
+    (subst P (sym (fetch_next files name limit next text within))
+    (refusal_after name (next text) old mid mid r told (read_refused (read reading text) (later reading files) mid mid r (subst Q same_text (refuses reading)) refl)))
+
+-- An input is fetched and read, and what was read is judged on.
+pub reading_goes : {A : Type 0} (held mid_held : Option Files) (name input text bytes : List ℕ) (limit : ℕ) (read : Reading → List ℕ → Result A Refused) (later : Reading → Files → A → Judgement)
+    → (old mid new : Told) (found : A) (result : Result Gathered InputRefusal)
+    → name ≡ input → bytes ≡ text → mid_held ≡ held → IfSome held (λ files. FetchedWithin (bytes_at files name) limit text) → TellsMore old mid (name ∷ [])
+    → ((reading : Reading) → read reading bytes ≡ Ok found)
+    → IfSome mid_held (λ files. (reading : Reading) → GatherTells (later reading files found) mid new result)
+    → IfSome held (λ files. (reading : Reading) → GatherTells (fetched_then files input limit (λ given. read_then (read reading given) (later reading files))) old new result)
+reading_goes None mid_held name input text bytes limit read later old mid new found result named same_text same within told says tells = tt
+reading_goes (Some files) mid_held name input text bytes limit read later old mid new found result named same_text same within told says tells = λ reading.
+    let next : List ℕ → Judgement = λ given. read_then (read reading given) (later reading files) in
+    let here = subst (λ (held : Option Files). IfSome held (λ fs. (r : Reading) → GatherTells (later r fs found) mid new result)) same tells reading in
+    let said : read reading text ≡ Ok found = ap (read reading) (sym same_text) ∙ says reading in
+    let goes : next text ≡ later reading files found = read_next (read reading text) found (later reading files) said in
     let P : Judgement → Type 0 = λ j. GatherTells j old new result in
     let Q : Judgement → Type 0 = λ j. GatherTells j mid new result in
-    subst P (sym (fetch_next files schema 1048576 next text within))
-    (gather_after schema (next text) old mid new result told (subst Q (sym goes) here))
+    let W : List ℕ → Type 0 = λ n. GatherTells (fetched_then files n limit next) old new result in
+    subst W named
+    (subst P (sym (fetch_next files name limit next text within))
+    (gather_after name (next text) old mid new result told (subst Q (sym goes) here)))
 
--- the words are a command, whose inputs are judged
-pub command_goes : (held : Option Files) (words : List (List ℕ)) (command : Command) (old new : Told) (result : Result Gathered InputRefusal)
-    → command_of words ≡ Some command
-    → IfSome held (λ files. (reading : SchemaReading) → GatherTells (schema_judged reading files command.schema command.query command.folder) old new result)
-    → IfSome held (λ files. (reading : SchemaReading) → GatherTells (judgement reading words files) old new result)
+-- what holds without a reading holds of each
+pub at_any_reading : (held : Option Files) (judges : Files → Judgement) (old new : Told) (result : Result Gathered InputRefusal)
+    → IfSome held (λ files. GatherTells (judges files) old new result) → IfSome held (λ files. (reading : Reading) → GatherTells (judges files) old new result)
+at_any_reading None judges old new result tells = tt
+at_any_reading (Some files) judges old new result tells = λ reading. tells
+
+-- the words are a command
+pub command_goes : (held : Option Files) (words : List (List ℕ)) (command : Option Command) (old new : Told) (result : Result Gathered InputRefusal)
+    → command_of words ≡ command
+    → IfSome held (λ files. (reading : Reading) → GatherTells (command_judged reading command files) old new result)
+    → IfSome held (λ files. (reading : Reading) → GatherTells (judgement reading words files) old new result)
 unfolding judgement
 command_goes None words command old new result is tells = tt
 command_goes (Some files) words command old new result is tells = λ reading.
     let P : Option Command → Type 0 = λ c. GatherTells (command_judged reading c files) old new result in
     subst P (sym is) (tells reading)
+
+-- a command that fetches nothing writes its text
+pub writes_at_once : (held : Option Files) (words : List (List ℕ)) (command : Option Command) (said text : List ℕ) (old : Told)
+    → command_of words ≡ command → ((reading : Reading) (files : Files) → command_judged reading command files ≡ at_once (written said)) → text ≡ said
+    → IfSome held (λ files. (reading : Reading) → GatherTells (judgement reading words files) old old (Ok (gathered.Text text)))
+unfolding judgement
+writes_at_once None words command said text old is comes same = tt
+writes_at_once (Some files) words command said text old is comes same = λ reading.
+    let whole : command_judged reading (command_of words) files ≡ at_once (written said) = ap (λ (c : Option Command). command_judged reading c files) is ∙ comes reading files in
+    let P : Judgement → Type 0 = λ j. Judges j (written text) old old in
+    subst P (sym whole) (record { comes_to = ap written (sym same); fetched = tells_nothing old old refl })
+
+-- words of no listed form
+pub refused_at_once : (held : Option Files) (words : List (List ℕ)) (old : Told) → command_of words ≡ None
+    → IfSome held (λ files. (reading : Reading) → GatherTells (judgement reading words files) old old (Err (input.Refused Usage)))
+unfolding judgement
+refused_at_once None words old is = tt
+refused_at_once (Some files) words old is = λ reading.
+    let whole : command_judged reading (command_of words) files ≡ at_once (refused Usage) = ap (λ (c : Option Command). command_judged reading c files) is in
+    let P : Judgement → Type 0 = λ j. Judges j (refused Usage) old old in
+    subst P (sym whole) (record { comes_to = refl; fetched = tells_nothing old old refl })
+
+-- want of memory before anything was fetched
+pub no_memory : (held : Option Files) (words : List (List ℕ)) (old : Told)
+    → IfSome held (λ files. (reading : Reading) → GatherTells (judgement reading words files) old old (Err input.Memory))
+no_memory None words old = tt
+no_memory (Some files) words old = λ reading. record { front = []; back = (judgement reading words files).names; all = refl; fetched = tells_nothing old old refl }
 
 -- one more table was read
 pub can_gather_more : (done : List Loaded) (shape : TableShape) (shapes : List TableShape) (asked : ℕ) (rows : List (List Cell))
@@ -206,6 +236,49 @@ can_gather_more done shape shapes asked rows can fit =
       done_fit = All-push (λ (t : Loaded). All (RowFits (types_of t.columns)) t.rows) done table can.done_fit fit;
     }
 
+-- no table was read yet
+pub can_gather_none : (shapes : List TableShape) (asked : ℕ) → AreLoadable shapes → asked < length shapes → CanGather [] shapes asked
+can_gather_none shapes asked loadable within =
+    record {
+      done_unquoted = All-nil (λ (t : Loaded). IsUnquoted t.name);
+      unquoted = loadable.unquoted;
+      among = omega (arith, within);
+      names_differ = loadable.names_differ;
+      columns_differ = loadable.columns_differ;
+      done_differ = All-nil (λ (t : Loaded). AreDistinct (names_of t.columns));
+      done_fit = All-nil (λ (t : Loaded). All (RowFits (types_of t.columns)) t.rows);
+    }
+
+typed_program : (v : Result TypeTree BrokenRule) (type : TypeTree) → refused_as ill_typed v ≡ Ok type → v ≡ Ok type
+typed_program (Ok k) type typed = let same : k ≡ type = cc in ap (λ (t : TypeTree). Ok t) same
+typed_program (Err rule) type typed = absurd (cc)
+
+-- a typed query that is `table t` names a table of the schema
+pub named_is_there : (schema : Schema) (term : PlacedTerm) (name : List ℕ) → IsTyped schema term → table_named term ≡ Some name
+    → shape_named name schema.tables ≢ None
+unfolding type_read table_named
+named_is_there schema (at place (PlacedNode.table l)) name typed is =
+    let program : PlacedTerm = at place (PlacedNode.table l) in
+    let there = (judged_accepted schema program typed.type (typed_program (program_judged schema program) typed.type typed.typed)).typed in
+    let same : l ≡ name = cc in
+    λ none. let never : shape_named l schema.tables ≡ None = ap (λ (n : List ℕ). shape_named n schema.tables) same ∙ none in
+    let both : Some there.0 ≡ None = sym there.1 ∙ never in absurd (cc)
+named_is_there schema (at place _) name typed is = absurd (cc)
+
+-- the same, as the program has the name and the tables
+pub named_is_there_at : (schema : Schema) (term : PlacedTerm) (name text : List ℕ) (shapes : List TableShape) → IsTyped schema term → table_named term ≡ Some name
+    → text ≡ name → shapes ≡ schema.tables → shape_named text shapes ≢ None
+named_is_there_at schema term name text shapes typed named same_text same_shapes =
+    λ none. named_is_there schema term name typed named
+    (ap (λ (n : List ℕ). shape_named n schema.tables) (sym same_text) ∙ ap (shape_named text) (sym same_shapes) ∙ none)
+
+pub can_gather_at : (tables shapes : List TableShape) (asked : ℕ) (done : List Loaded) → AreLoadable tables → shapes ≡ tables → done ≡ [] → asked < length shapes
+    → CanGather done shapes asked
+can_gather_at tables shapes asked done loadable same empty within =
+    let here : AreLoadable shapes = subst AreLoadable (sym same) loadable in
+    let P : List Loaded → Type 0 = λ d. CanGather d shapes asked in
+    subst P (sym empty) (can_gather_none shapes asked here within)
+
 -- all tables were read
 pub can_gather_all : (done : List Loaded) (asked : ℕ) → CanGather done [] asked → AreServable done asked
 can_gather_all done asked can =
@@ -218,4 +291,8 @@ can_gather_all done asked can =
       fit = can.done_fit;
     }
 
-pub ruleset gather_rules = (gather_after, refusal_after, fetch_next, fetch_refused, query_refused, query_next, schema_next, schema_refused, table_next, table_refused, can_gather_more, can_gather_all, tells_nothing)
+pub ruleset gather_rules = (gather_after, refusal_after, fetch_next, fetch_refused, rows_next, rows_refused, can_gather_more, can_gather_all, tells_nothing)
+
+pub ruleset run_rules = (name_next, name_refused, can_gather_none, named_is_there, tells_nothing)
+
+pub ruleset type_rules = (type_next, type_refused, is_typed)

@@ -1,5 +1,6 @@
-pub mod FirstForms
 pub mod SchemaTexts
+pub mod QueryReadings
+pub mod Readings
 pub mod Gathers
 pub mod Meaning
 pub mod Loads
@@ -7,3 +8,4 @@ pub mod Serves
 pub mod Runs
 pub mod Statuses
 pub mod Completeness
+pub mod NamedTables

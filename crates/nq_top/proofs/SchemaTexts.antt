@@ -1,5 +1,5 @@
 -- What the reader of schemas answers, in the words of any reading of schema texts.
-use Rattle.std.proofs.Common.{◌≡◌, ◌≢◌, ◌⊎◌, ℕ, List, map, Option, Some, None, Result, Ok, Err, refl, sym, ap, ◌∙◌, inl, inr, subst, All, IsErrAnd, MatchResult}
+use Rattle.std.proofs.Common.{◌≡◌, ◌≢◌, ◌⊎◌, ℕ, List, Option, Some, None, Result, Ok, Err, refl, sym, ap, ◌∙◌, inl, inr, subst, IsErrAnd, MatchResult}
 use Rattle.std.proofs.lemmas.List.Elements.{All-weaker}
 use Rattle.nq_model.specs.Orders.{AreDistinct}
 use Rattle.nq_model.specs.SchemaTexts.{Fault, HasFault, Spells}
@@ -8,11 +8,12 @@ use Rattle.nq_model.specs.declared.table.Schema.{Schema}
 use Rattle.schema_reader.specs.Answers.{fault_view, IsFault, Reads}
 use Rattle.schema_reader.specs.declared.fault.SchemaFault.{SchemaFault}
 use Rattle.schema_reader.specs.declared.fault.SchemaFault.TheVariants as code
-use Rattle.nq_top.specs.Gathering.{IsOfText, refusal_of, SchemaRefuses, IsUnquoted}
-use Rattle.nq_top.specs.Judging.{SchemaReading}
+use Rattle.nq_top.specs.Gathering.{IsOfText, schema_refusal, ReadSays, IsUnquoted, AreLoadable}
+use Rattle.nq_top.specs.Reading.{SchemaReading, refused_as, schema_read}
+use Rattle.nq_top.specs.declared.refusal.Refused.TheVariants.{Schema as SchemaRefused}
 
 -- the fault of what is seen of it
-abbrev fault_of : Option (Fault × ℕ) → SchemaFault
+abbrev pub fault_of : Option (Fault × ℕ) → SchemaFault
 fault_of None = code.Memory
 fault_of (Some (Fault.not_utf8, p)) = code.NotUtf8 p
 fault_of (Some (Fault.syntax, p)) = code.Syntax p
@@ -32,7 +33,7 @@ fault_back (code.NoColumn p) = refl
 fault_back (code.KeyColumn p) = refl
 fault_back (code.OverLimit p) = refl
 
-same_fault : (e g : SchemaFault) → fault_view e ≡ fault_view g → e ≡ g
+pub same_fault : (e g : SchemaFault) → fault_view e ≡ fault_view g → e ≡ g
 same_fault e g same = sym (fault_back e) ∙ ap fault_of same ∙ fault_back g
 
 -- what an answer says of a reading
@@ -63,8 +64,8 @@ agrees (Err (code.NoColumn p)) result text reads certain spelled faulty = agrees
 agrees (Err (code.KeyColumn p)) result text reads certain spelled faulty = agrees_on_fault (code.KeyColumn p) Fault.key_column p result refl (faulty Fault.key_column p reads)
 agrees (Err (code.OverLimit p)) result text reads certain spelled faulty = agrees_on_fault (code.OverLimit p) Fault.over_limit p result refl (faulty Fault.over_limit p reads)
 
--- a schema that was read
-pub found_said : (reading : SchemaReading) (text : List ℕ) (result : Result Schema SchemaFault) (schema : Schema)
+-- a schema that was found
+found_said : (reading : SchemaReading) (text : List ℕ) (result : Result Schema SchemaFault) (schema : Schema)
     → ((s : Schema) → Spells text s → MatchResult result (λ found. found ≡ s) (λ e. e ≡ code.Memory))
     → ((f : Fault) (place : ℕ) → HasFault text f place → IsErrAnd result (IsFault f place))
     → result ≡ Ok schema → reading.says text ≡ Ok schema
@@ -87,21 +88,30 @@ fault_said reading text result e spelled faulty is certain =
     go (inl memory) = absurd (certain memory)
     go (inr same) = same
 
--- the refusal for a fault that was found
-pub refusal_said : (reading : SchemaReading) (text : List ℕ) (result : Result Schema SchemaFault) (e : SchemaFault)
+-- a schema that was read
+pub schema_said : (reading : SchemaReading) (text : List ℕ) (result : Result Schema SchemaFault) (schema : Schema)
     → ((s : Schema) → Spells text s → MatchResult result (λ found. found ≡ s) (λ e. e ≡ code.Memory))
     → ((f : Fault) (place : ℕ) → HasFault text f place → IsErrAnd result (IsFault f place))
-    → result ≡ Err e → SchemaRefuses (reading.says text) (refusal_of e)
-refusal_said reading text result code.Memory spelled faulty is = tt
-refusal_said reading text result (code.NotUtf8 p) spelled faulty is = fault_said reading text result (code.NotUtf8 p) spelled faulty is (λ e. absurd (cc))
-refusal_said reading text result (code.Syntax p) spelled faulty is = fault_said reading text result (code.Syntax p) spelled faulty is (λ e. absurd (cc))
-refusal_said reading text result (code.TwiceTable p) spelled faulty is = fault_said reading text result (code.TwiceTable p) spelled faulty is (λ e. absurd (cc))
-refusal_said reading text result (code.TwiceColumn p) spelled faulty is = fault_said reading text result (code.TwiceColumn p) spelled faulty is (λ e. absurd (cc))
-refusal_said reading text result (code.NoColumn p) spelled faulty is = fault_said reading text result (code.NoColumn p) spelled faulty is (λ e. absurd (cc))
-refusal_said reading text result (code.KeyColumn p) spelled faulty is = fault_said reading text result (code.KeyColumn p) spelled faulty is (λ e. absurd (cc))
-refusal_said reading text result (code.OverLimit p) spelled faulty is = fault_said reading text result (code.OverLimit p) spelled faulty is (λ e. absurd (cc))
+    → result ≡ Ok schema → ReadSays (λ (found : Schema). found) (schema_read reading text) (Ok schema)
+unfolding schema_read
+schema_said reading text result schema spelled faulty is = ap (refused_as SchemaRefused) (found_said reading text result schema spelled faulty is)
 
-pub refusal_of_text : (e : SchemaFault) → IsOfText (refusal_of e)
+-- the refusal for a fault that was found
+pub schema_refused : (reading : SchemaReading) (text : List ℕ) (result : Result Schema SchemaFault) (e : SchemaFault)
+    → ((s : Schema) → Spells text s → MatchResult result (λ found. found ≡ s) (λ e. e ≡ code.Memory))
+    → ((f : Fault) (place : ℕ) → HasFault text f place → IsErrAnd result (IsFault f place))
+    → result ≡ Err e → ReadSays (λ (found : Schema). found) (schema_read reading text) (Err (schema_refusal e))
+unfolding schema_read
+schema_refused reading text result code.Memory spelled faulty is = tt
+schema_refused reading text result (code.NotUtf8 p) spelled faulty is = ap (refused_as SchemaRefused) (fault_said reading text result (code.NotUtf8 p) spelled faulty is (λ e. absurd (cc)))
+schema_refused reading text result (code.Syntax p) spelled faulty is = ap (refused_as SchemaRefused) (fault_said reading text result (code.Syntax p) spelled faulty is (λ e. absurd (cc)))
+schema_refused reading text result (code.TwiceTable p) spelled faulty is = ap (refused_as SchemaRefused) (fault_said reading text result (code.TwiceTable p) spelled faulty is (λ e. absurd (cc)))
+schema_refused reading text result (code.TwiceColumn p) spelled faulty is = ap (refused_as SchemaRefused) (fault_said reading text result (code.TwiceColumn p) spelled faulty is (λ e. absurd (cc)))
+schema_refused reading text result (code.NoColumn p) spelled faulty is = ap (refused_as SchemaRefused) (fault_said reading text result (code.NoColumn p) spelled faulty is (λ e. absurd (cc)))
+schema_refused reading text result (code.KeyColumn p) spelled faulty is = ap (refused_as SchemaRefused) (fault_said reading text result (code.KeyColumn p) spelled faulty is (λ e. absurd (cc)))
+schema_refused reading text result (code.OverLimit p) spelled faulty is = ap (refused_as SchemaRefused) (fault_said reading text result (code.OverLimit p) spelled faulty is (λ e. absurd (cc)))
+
+pub refusal_of_text : (e : SchemaFault) → IsOfText (schema_refusal e)
 refusal_of_text code.Memory = tt
 refusal_of_text (code.NotUtf8 p) = tt
 refusal_of_text (code.Syntax p) = tt
@@ -111,15 +121,13 @@ refusal_of_text (code.NoColumn p) = tt
 refusal_of_text (code.KeyColumn p) = tt
 refusal_of_text (code.OverLimit p) = tt
 
--- the tables of a proper schema
-pub tables_differ : (schema : Schema) → IsProperSchema schema → AreDistinct (map (λ shape. shape.name) schema.tables)
-tables_differ schema proper = proper.tables_differ
+-- the tables of a proper schema may be loaded
+pub loadable : (schema : Schema) → IsProperSchema schema → AreLoadable schema.tables
+loadable schema proper =
+    record {
+      unquoted = All-weaker IsProperShape (λ shape. IsUnquoted shape.name) (λ shape is. is.named.no_quote) schema.tables proper.proper;
+      names_differ = proper.tables_differ;
+      columns_differ = All-weaker IsProperShape (λ shape. AreDistinct (names_of shape.columns)) (λ shape is. is.columns_differ) schema.tables proper.proper;
+    }
 
-pub columns_differ : (schema : Schema) → IsProperSchema schema → All (λ shape. AreDistinct (names_of shape.columns)) schema.tables
-columns_differ schema proper =
-    All-weaker IsProperShape (λ shape. AreDistinct (names_of shape.columns)) (λ shape is. is.columns_differ) schema.tables proper.proper
-
-pub unquoted : (schema : Schema) → IsProperSchema schema → All (λ shape. IsUnquoted shape.name) schema.tables
-unquoted schema proper = All-weaker IsProperShape (λ shape. IsUnquoted shape.name) (λ shape is. is.named.no_quote) schema.tables proper.proper
-
-pub ruleset schema_rules = (found_said, refusal_said, refusal_of_text, tables_differ, columns_differ, unquoted)
+pub ruleset schema_rules = (refusal_of_text, loadable)

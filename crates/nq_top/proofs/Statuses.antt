@@ -5,7 +5,7 @@ use Rattle.sql_profile.specs.Servers.{RoseBelow}
 use Rattle.nq_top.specs.Noting.{Notes}
 use Rattle.nq_top.specs.Refusals.{status_of}
 use Rattle.nq_top.specs.Serving.{ServerState}
-use Rattle.nq_top.specs.Running.{Answer, InputCount, OutputCount, ServerCount, PutsOnly, Keeps, Blames, RoseAt, ServerRoseAt, PutsAt, KeepsAt, Comes}
+use Rattle.nq_top.specs.Running.{Answer, InputCount, OutputCount, ServerCount, PutsOnly, Keeps, AskedOnly, Blames, RoseAt, ServerRoseAt, PutsAt, KeepsAt, AskedAt, Comes}
 use Rattle.nq_top.specs.declared.refusal.Refused.TheVariants as refused
 use Rattle.nq_top.specs.declared.refusal.InputRefusal.TheVariants as input
 use Rattle.nq_top.specs.declared.refusal.ServerRefusal.TheVariants as server
@@ -18,6 +18,8 @@ inputs_of before now (Err (refusal.Input input.Memory)) h = h
 inputs_of before now (Err (refusal.Input (input.Refused refused.Usage))) h = h
 inputs_of before now (Err (refusal.Input (input.Refused (refused.TooLong name limit)))) h = h
 inputs_of before now (Err (refusal.Input (input.Refused (refused.Schema fault)))) h = h
+inputs_of before now (Err (refusal.Input (input.Refused (refused.Query fault)))) h = h
+inputs_of before now (Err (refusal.Input (input.Refused (refused.IllTyped rule place)))) h = h
 inputs_of before now (Err (refusal.Input (input.Refused (refused.Table name fault)))) h = h
 inputs_of before now (Err (refusal.Input (input.Refused refused.NotBuilt))) h = h
 inputs_of before now (Err (refusal.Input (input.Failed name))) h = h
@@ -37,6 +39,8 @@ output_of before now (Err (refusal.Input input.Memory)) h = h
 output_of before now (Err (refusal.Input (input.Refused refused.Usage))) h = h
 output_of before now (Err (refusal.Input (input.Refused (refused.TooLong name limit)))) h = h
 output_of before now (Err (refusal.Input (input.Refused (refused.Schema fault)))) h = h
+output_of before now (Err (refusal.Input (input.Refused (refused.Query fault)))) h = h
+output_of before now (Err (refusal.Input (input.Refused (refused.IllTyped rule place)))) h = h
 output_of before now (Err (refusal.Input (input.Refused (refused.Table name fault)))) h = h
 output_of before now (Err (refusal.Input (input.Refused refused.NotBuilt))) h = h
 output_of before now (Err (refusal.Input (input.Failed name))) h = h
@@ -56,6 +60,8 @@ server_of bound before now (Err (refusal.Input input.Memory)) h = h
 server_of bound before now (Err (refusal.Input (input.Refused refused.Usage))) h = h
 server_of bound before now (Err (refusal.Input (input.Refused (refused.TooLong name limit)))) h = h
 server_of bound before now (Err (refusal.Input (input.Refused (refused.Schema fault)))) h = h
+server_of bound before now (Err (refusal.Input (input.Refused (refused.Query fault)))) h = h
+server_of bound before now (Err (refusal.Input (input.Refused (refused.IllTyped rule place)))) h = h
 server_of bound before now (Err (refusal.Input (input.Refused (refused.Table name fault)))) h = h
 server_of bound before now (Err (refusal.Input (input.Refused refused.NotBuilt))) h = h
 server_of bound before now (Err (refusal.Input (input.Failed name))) h = h
@@ -75,6 +81,8 @@ puts_of old new (Err (refusal.Input input.Memory)) h = h
 puts_of old new (Err (refusal.Input (input.Refused refused.Usage))) h = h
 puts_of old new (Err (refusal.Input (input.Refused (refused.TooLong name limit)))) h = h
 puts_of old new (Err (refusal.Input (input.Refused (refused.Schema fault)))) h = h
+puts_of old new (Err (refusal.Input (input.Refused (refused.Query fault)))) h = h
+puts_of old new (Err (refusal.Input (input.Refused (refused.IllTyped rule place)))) h = h
 puts_of old new (Err (refusal.Input (input.Refused (refused.Table name fault)))) h = h
 puts_of old new (Err (refusal.Input (input.Refused refused.NotBuilt))) h = h
 puts_of old new (Err (refusal.Input (input.Failed name))) h = h
@@ -94,6 +102,8 @@ keeps_of old new (Err (refusal.Input input.Memory)) h = tt
 keeps_of old new (Err (refusal.Input (input.Refused refused.Usage))) h = h
 keeps_of old new (Err (refusal.Input (input.Refused (refused.TooLong name limit)))) h = h
 keeps_of old new (Err (refusal.Input (input.Refused (refused.Schema fault)))) h = h
+keeps_of old new (Err (refusal.Input (input.Refused (refused.Query fault)))) h = h
+keeps_of old new (Err (refusal.Input (input.Refused (refused.IllTyped rule place)))) h = h
 keeps_of old new (Err (refusal.Input (input.Refused (refused.Table name fault)))) h = h
 keeps_of old new (Err (refusal.Input (input.Refused refused.NotBuilt))) h = h
 keeps_of old new (Err (refusal.Input (input.Failed name))) h = h
@@ -106,6 +116,27 @@ keeps_of old new (Err refusal.OutputFailed) h = h
 pub keeps_at : (old new : ServerState) (status : ℕ) (a : Answer) → status ≡ status_of a → Keeps old new a → KeepsAt old new status
 keeps_at old new status a is h = subst (λ (s : ℕ). KeepsAt old new s) (sym is) (keeps_of old new a h)
 
+-- whom a server's status names
+asked_of : (asks : Bool) (a : Answer) → AskedOnly asks a → AskedAt asks (status_of a)
+asked_of asks (Ok u) h = h
+asked_of asks (Err (refusal.Input input.Memory)) h = h
+asked_of asks (Err (refusal.Input (input.Refused refused.Usage))) h = h
+asked_of asks (Err (refusal.Input (input.Refused (refused.TooLong name limit)))) h = h
+asked_of asks (Err (refusal.Input (input.Refused (refused.Schema fault)))) h = h
+asked_of asks (Err (refusal.Input (input.Refused (refused.Query fault)))) h = h
+asked_of asks (Err (refusal.Input (input.Refused (refused.IllTyped rule place)))) h = h
+asked_of asks (Err (refusal.Input (input.Refused (refused.Table name fault)))) h = h
+asked_of asks (Err (refusal.Input (input.Refused refused.NotBuilt))) h = h
+asked_of asks (Err (refusal.Input (input.Failed name))) h = h
+asked_of asks (Err (refusal.Server server.Memory)) h = tt
+asked_of asks (Err (refusal.Server (server.TableFailed name))) h = h
+asked_of asks (Err (refusal.Server (server.TextFailed text))) h = h
+asked_of asks (Err (refusal.Server (server.BadAnswer text row column))) h = h
+asked_of asks (Err refusal.OutputFailed) h = h
+
+pub asked_at : (asks : Bool) (status : ℕ) (a : Answer) → status ≡ status_of a → AskedOnly asks a → AskedAt asks status
+asked_at asks status a is h = subst (λ (s : ℕ). AskedAt asks s) (sym is) (asked_of asks a h)
+
 -- status 2 is the answer to words of no listed form
 is_usage : (a : Answer) → status_of a ≡ 2 → a ≡ Err (refusal.Input (input.Refused refused.Usage))
 is_usage (Ok u) h = cc
@@ -113,6 +144,8 @@ is_usage (Err (refusal.Input input.Memory)) h = cc
 is_usage (Err (refusal.Input (input.Refused refused.Usage))) h = refl
 is_usage (Err (refusal.Input (input.Refused (refused.TooLong name limit)))) h = cc
 is_usage (Err (refusal.Input (input.Refused (refused.Schema fault)))) h = cc
+is_usage (Err (refusal.Input (input.Refused (refused.Query fault)))) h = cc
+is_usage (Err (refusal.Input (input.Refused (refused.IllTyped rule place)))) h = cc
 is_usage (Err (refusal.Input (input.Refused (refused.Table name fault)))) h = cc
 is_usage (Err (refusal.Input (input.Refused refused.NotBuilt))) h = cc
 is_usage (Err (refusal.Input (input.Failed name))) h = cc
@@ -133,6 +166,8 @@ blames_of honest (Err (refusal.Input input.Memory)) h blames = absurd (cc)
 blames_of honest (Err (refusal.Input (input.Refused refused.Usage))) h blames = absurd (cc)
 blames_of honest (Err (refusal.Input (input.Refused (refused.TooLong name limit)))) h blames = absurd (cc)
 blames_of honest (Err (refusal.Input (input.Refused (refused.Schema fault)))) h blames = absurd (cc)
+blames_of honest (Err (refusal.Input (input.Refused (refused.Query fault)))) h blames = absurd (cc)
+blames_of honest (Err (refusal.Input (input.Refused (refused.IllTyped rule place)))) h blames = absurd (cc)
 blames_of honest (Err (refusal.Input (input.Refused (refused.Table name fault)))) h blames = absurd (cc)
 blames_of honest (Err (refusal.Input (input.Refused refused.NotBuilt))) h blames = absurd (cc)
 blames_of honest (Err (refusal.Input (input.Failed name))) h blames = absurd (cc)
@@ -150,7 +185,7 @@ pub comes_of : (held : Option Files) (tells : Files → Answer → Type 0) (note
     → status ≡ status_of a → Notes notes_old notes_new before now a → IfSome held (λ files. tells files a) → Comes held tells notes_old notes_new before now status
 comes_of held tells notes_old notes_new before now status a is notes told = record { answer = a; is = is; notes = notes; told = told }
 
-pub ruleset status_rules = (inputs_at, output_at, server_at, puts_at, keeps_at, usage_at, blames_at, comes_of)
+pub ruleset status_rules = (inputs_at, output_at, server_at, puts_at, keeps_at, asked_at, usage_at, blames_at, comes_of)
 
 -- status 9 comes only below the bound of the server's faults
 pub main_server : (bound before now status : ℕ) → ServerRoseAt 9 bound before now status → status ≡ 9 → before < bound

@@ -1,19 +1,63 @@
--- The words of a command, and the names of the inputs that it fetches.
-use Rattle.std.specs.Prelude.{ℕ, List, [], ◌∷◌, ◌++◌, codes, Option, Some, None, cond}
+-- The words of a command, the names of the inputs that it fetches, and the lines that are written of a query.
+use Rattle.std.specs.Prelude.{ℕ, Bool, true, false, ◌&&◌, List, [], ◌∷◌, ◌++◌, codes, Option, Some, None, cond}
 use Rattle.std.specs.Str.{bytes_eq}
+use Rattle.nq_model.specs.Types.{TypeTree}
+use Rattle.nq_model.specs.TypeTexts.{written_type}
 
--- the names of a schema, of a query and of a folder of table texts
-pub record Command : Type 0 where
-  pub schema : List ℕ
-  pub query : List ℕ
-  pub folder : List ℕ
+-- What is done with a query that is accepted: its value is written, over the table texts of a folder; or
+-- that it is accepted; or its type.
+pub data Aim : Type 0 where
+  run : List ℕ → Aim
+  check : Aim
+  show_types : Aim
 
--- the command that words are: `run SCHEMA QUERY DIR`
+-- a text on the program is written, or a query is put to an aim: the names of a schema and of the query
+pub data Command : Type 0 where
+  help : Command
+  version : Command
+  of_query : Aim → List ℕ → List ℕ → Command
+
+-- `--help` or `--version`
+abbrev pub one_word : List ℕ → Option Command
+one_word word = cond (bytes_eq word (codes "--help")) (Some help) (cond (bytes_eq word (codes "--version")) (Some version) None)
+
+-- `check SCHEMA QUERY`
+abbrev pub three_words : List ℕ → List ℕ → List ℕ → Option Command
+three_words word schema query = cond (bytes_eq word (codes "check")) (Some (of_query check schema query)) None
+
+-- `run SCHEMA QUERY DIR`, or `show types SCHEMA QUERY`
+abbrev pub four_words : List ℕ → List ℕ → List ℕ → List ℕ → Option Command
+four_words word second third fourth =
+    cond (bytes_eq word (codes "run")) (Some (of_query (run fourth) second third))
+    (cond (bytes_eq word (codes "show") && bytes_eq second (codes "types")) (Some (of_query show_types third fourth)) None)
+
+-- the command that words are, if they are a listed form
 unfoldable pub command_of : List (List ℕ) → Option Command
-command_of (word ∷ schema ∷ query ∷ folder ∷ []) =
-    cond (bytes_eq word (codes "run")) (Some (record { schema = schema; query = query; folder = folder })) None
+command_of (word ∷ []) = one_word word
+command_of (word ∷ schema ∷ query ∷ []) = three_words word schema query
+command_of (word ∷ second ∷ third ∷ fourth ∷ []) = four_words word second third fourth
 command_of _ = None
+
+-- whether a server is asked
+abbrev pub aim_asks : Aim → Bool
+aim_asks (run folder) = true
+aim_asks check = false
+aim_asks show_types = false
+
+abbrev pub asks_server : Option Command → Bool
+asks_server None = false
+asks_server (Some help) = false
+asks_server (Some version) = false
+asks_server (Some (of_query aim schema query)) = aim_asks aim
 
 -- the name of a table's text
 abbrev pub file_of : List ℕ → List ℕ → List ℕ
 file_of folder table = folder ++ (codes "/" ++ (table ++ codes ".csv"))
+
+-- what is written of a query that is accepted
+abbrev pub accepted_line : List ℕ
+accepted_line = codes "ok\n"
+
+-- what is written of a query's type
+abbrev pub type_line : TypeTree → List ℕ
+type_line type = written_type type ++ codes "\n"

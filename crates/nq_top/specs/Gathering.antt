@@ -1,20 +1,25 @@
 -- What the gathering of inputs says of the calls and of what is held.
-use Rattle.std.specs.Prelude.{◌≡◌, ◌<◌, ◌≤◌, ◌+◌, ℕ, ⊤, List, [], ◌∷◌, ◌++◌, length, map, All, Contains, Option, Some, Result, Ok, Err}
+use Rattle.std.specs.Prelude.{◌≡◌, ◌<◌, ◌≤◌, ◌+◌, ℕ, Bool, true, false, ⊤, List, [], ◌∷◌, ◌++◌, length, map, All, Contains, Option, Some, Result, Ok, Err}
 use Rattle.nq_edge.specs.Edge.{Rose, TellsMore, IsLonger}
 use Rattle.nq_model.specs.Cells.{RowFits}
 use Rattle.nq_model.specs.Orders.{AreDistinct}
 use Rattle.nq_model.specs.Tables.{names_of, types_of}
-use Rattle.nq_model.specs.declared.table.Cell.{Cell}
+use Rattle.nq_model.specs.Terms.{PlacedTerm}
+use Rattle.nq_model.specs.Types.{TypeTree}
 use Rattle.nq_model.specs.declared.table.Schema.{Schema}
 use Rattle.nq_model.specs.declared.table.TableShape.{TableShape}
 use Rattle.sql_profile.specs.Servers.{table_names}
 use Rattle.sql_profile.specs.declared.server.Loaded.{Loaded}
 use Rattle.schema_reader.specs.declared.fault.SchemaFault.{SchemaFault}
 use Rattle.schema_reader.specs.declared.fault.SchemaFault.TheVariants as schema
-use Rattle.table_reader.specs.declared.TableFault.{TableFault}
-use Rattle.nq_top.specs.Judging.{Judgement, Verdict, refused, accepted}
-use Rattle.nq_top.specs.declared.gather.Gathered.{Gathered}
-use Rattle.nq_top.specs.declared.refusal.Refused.TheVariants.{Usage, TooLong, NotBuilt, Schema as SchemaRefused, Table as TableRefused}
+use Rattle.nq_parser.specs.declared.fault.SyntaxFault.{SyntaxFault}
+use Rattle.nq_parser.specs.declared.fault.SyntaxFault.TheVariants as query
+use Rattle.nq_top.specs.Reading.{type_read}
+use Rattle.nq_top.specs.Judging.{Judgement, Verdict, refused, written, accepted}
+use Rattle.nq_top.specs.declared.gathered.Gathered.{Gathered}
+use Rattle.nq_top.specs.declared.gathered.Gathered.TheVariants as gathered
+use Rattle.nq_top.specs.declared.refusal.Refused.{Refused}
+use Rattle.nq_top.specs.declared.refusal.Refused.TheVariants.{Usage, TooLong, NotBuilt, Schema as SchemaRefused, Query as QueryRefused, IllTyped, Table as TableRefused}
 use Rattle.nq_top.specs.declared.refusal.InputRefusal.{InputRefusal}
 use Rattle.nq_top.specs.declared.refusal.InputRefusal.TheVariants as input
 
@@ -54,57 +59,62 @@ RefusalTells judgement old new input.Memory = FetchedSome judgement.names old ne
 RefusalTells judgement old new (input.Refused r) = Judges judgement (refused r) old new
 RefusalTells judgement old new (input.Failed name) = FetchedUpTo name judgement.names old new
 
--- want of memory, or the refusal of a schema text
+-- why a text was not read: want of memory, or what it is refused for, which is not the words
 abbrev pub IsOfText : InputRefusal → Type 0
 IsOfText input.Memory = ⊤
 IsOfText (input.Refused Usage) = ⊥
 IsOfText (input.Refused (TooLong failed limit)) = ⊥
 IsOfText (input.Refused (SchemaRefused fault)) = ⊤
+IsOfText (input.Refused (QueryRefused fault)) = ⊤
+IsOfText (input.Refused (IllTyped rule place)) = ⊤
 IsOfText (input.Refused NotBuilt) = ⊥
-IsOfText (input.Refused (TableRefused failed fault)) = ⊥
+IsOfText (input.Refused (TableRefused failed fault)) = ⊤
 IsOfText (input.Failed failed) = ⊥
 
 -- the refusal for a fault of a schema text
-abbrev pub refusal_of : SchemaFault → InputRefusal
-refusal_of schema.Memory = input.Memory
-refusal_of (schema.NotUtf8 place) = input.Refused (SchemaRefused (schema.NotUtf8 place))
-refusal_of (schema.Syntax place) = input.Refused (SchemaRefused (schema.Syntax place))
-refusal_of (schema.TwiceTable place) = input.Refused (SchemaRefused (schema.TwiceTable place))
-refusal_of (schema.TwiceColumn place) = input.Refused (SchemaRefused (schema.TwiceColumn place))
-refusal_of (schema.NoColumn place) = input.Refused (SchemaRefused (schema.NoColumn place))
-refusal_of (schema.KeyColumn place) = input.Refused (SchemaRefused (schema.KeyColumn place))
-refusal_of (schema.OverLimit place) = input.Refused (SchemaRefused (schema.OverLimit place))
+abbrev pub schema_refusal : SchemaFault → InputRefusal
+schema_refusal schema.Memory = input.Memory
+schema_refusal (schema.NotUtf8 place) = input.Refused (SchemaRefused (schema.NotUtf8 place))
+schema_refusal (schema.Syntax place) = input.Refused (SchemaRefused (schema.Syntax place))
+schema_refusal (schema.TwiceTable place) = input.Refused (SchemaRefused (schema.TwiceTable place))
+schema_refusal (schema.TwiceColumn place) = input.Refused (SchemaRefused (schema.TwiceColumn place))
+schema_refusal (schema.NoColumn place) = input.Refused (SchemaRefused (schema.NoColumn place))
+schema_refusal (schema.KeyColumn place) = input.Refused (SchemaRefused (schema.KeyColumn place))
+schema_refusal (schema.OverLimit place) = input.Refused (SchemaRefused (schema.OverLimit place))
 
--- what the reading of a schema text says
-abbrev pub SchemaRefuses : Result Schema SchemaFault → InputRefusal → Type 0
-SchemaRefuses given input.Memory = ⊤
-SchemaRefuses given (input.Refused Usage) = ⊥
-SchemaRefuses given (input.Refused (TooLong failed limit)) = ⊥
-SchemaRefuses given (input.Refused (SchemaRefused fault)) = given ≡ Err fault
-SchemaRefuses given (input.Refused NotBuilt) = ⊥
-SchemaRefuses given (input.Refused (TableRefused failed fault)) = ⊥
-SchemaRefuses given (input.Failed failed) = ⊥
+-- the refusal for a fault of a query text
+abbrev pub query_refusal : SyntaxFault → InputRefusal
+query_refusal query.Memory = input.Memory
+query_refusal (query.NotUtf8 place) = input.Refused (QueryRefused (query.NotUtf8 place))
+query_refusal (query.Token place) = input.Refused (QueryRefused (query.Token place))
+query_refusal (query.Unexpected place) = input.Refused (QueryRefused (query.Unexpected place))
+query_refusal (query.IntRange place) = input.Refused (QueryRefused (query.IntRange place))
+query_refusal (query.Deep place) = input.Refused (QueryRefused (query.Deep place))
+query_refusal (query.Unbound place) = input.Refused (QueryRefused (query.Unbound place))
+query_refusal (query.TwiceLabel place) = input.Refused (QueryRefused (query.TwiceLabel place))
 
-abbrev pub SchemaSays : Result Schema SchemaFault → Result Schema InputRefusal → Type 0
-SchemaSays given (Ok schema) = given ≡ Ok schema
-SchemaSays given (Err r) = SchemaRefuses given r
+-- what an answer says of what a text is read as: it is this, or it is refused for this
+abbrev pub Refuses : {A : Type 0} → Result A Refused → InputRefusal → Type 0
+Refuses given input.Memory = ⊤
+Refuses given (input.Refused r) = given ≡ Err r
+Refuses given (input.Failed failed) = ⊥
 
--- what the reading of a table text says
-abbrev pub RowsRefused : Result (List (List Cell)) TableFault → List ℕ → InputRefusal → Type 0
-RowsRefused given name input.Memory = ⊤
-RowsRefused given name (input.Refused Usage) = ⊥
-RowsRefused given name (input.Refused (TooLong failed limit)) = ⊥
-RowsRefused given name (input.Refused (SchemaRefused fault)) = ⊥
-RowsRefused given name (input.Refused NotBuilt) = ⊥
-RowsRefused given name (input.Refused (TableRefused failed fault)) = (failed ≡ name) × (given ≡ Err fault)
-RowsRefused given name (input.Failed failed) = ⊥
+abbrev pub ReadSays : {A B : Type 0} → (B → A) → Result A Refused → Result B InputRefusal → Type 0
+ReadSays view given (Ok b) = given ≡ Ok (view b)
+ReadSays view given (Err r) = Refuses given r
 
-abbrev pub RowsSay : Result (List (List Cell)) TableFault → List ℕ → Result (List (List Cell)) InputRefusal → Type 0
-RowsSay given name (Ok rows) = given ≡ Ok rows
-RowsSay given name (Err r) = RowsRefused given name r
+-- what gathered inputs come to
+abbrev pub verdict_of : Gathered → Verdict
+verdict_of (gathered.Tables tables asked) = accepted tables asked
+verdict_of (gathered.Text text) = written text
+
+-- whether a server is asked
+abbrev pub gathered_asks : Gathered → Bool
+gathered_asks (gathered.Tables tables asked) = true
+gathered_asks (gathered.Text text) = false
 
 abbrev pub GatherTells : Judgement → Told → Told → Result Gathered InputRefusal → Type 0
-GatherTells judgement old new (Ok gathered) = Judges judgement (accepted gathered.tables gathered.asked) old new
+GatherTells judgement old new (Ok gathered) = Judges judgement (verdict_of gathered) old new
 GatherTells judgement old new (Err r) = RefusalTells judgement old new r
 
 -- what one fetch says of its input
@@ -139,6 +149,21 @@ pub record AreServable (tables : List Loaded) (asked : ℕ) : Type 0 where
   pub names_differ : AreDistinct (table_names tables)
   pub columns_differ : All (λ table. AreDistinct (names_of table.columns)) tables
   pub fit : All (λ table. All (RowFits (types_of table.columns)) table.rows) tables
+
+abbrev pub IsServable : Gathered → Type 0
+IsServable (gathered.Tables tables asked) = AreServable tables asked
+IsServable (gathered.Text text) = ⊤
+
+-- tables of these shapes may be loaded, whatever rows of their columns they hold
+pub record AreLoadable (shapes : List TableShape) : Type 0 where
+  pub unquoted : All (λ shape. IsUnquoted shape.name) shapes
+  pub names_differ : AreDistinct (map (λ shape. shape.name) shapes)
+  pub columns_differ : All (λ shape. AreDistinct (names_of shape.columns)) shapes
+
+-- the term has a type over the schema
+pub record IsTyped (schema : Schema) (term : PlacedTerm) : Type 0 where
+  pub type : TypeTree
+  pub typed : type_read schema term ≡ Ok type
 
 -- tables that were read and shapes that are still to be read make tables that may be loaded
 pub record CanGather (done : List Loaded) (shapes : List TableShape) (asked : ℕ) : Type 0 where

@@ -1,26 +1,25 @@
 -- What the inputs of a command come to where no call fails: each is fetched and judged before the next.
-use Rattle.std.specs.Prelude.{◌≢◌, ℕ, ◌-◌, nat_lt, List, [], ◌∷◌, ◌++◌, length, Option, Some, None, Result, Ok, Err, cond}
-use Rattle.std.specs.List.{position_from}
+use Rattle.std.specs.Prelude.{ℕ, ◌-◌, ◌+◌, nat_lt, List, [], ◌∷◌, ◌++◌, length, Option, Some, None, Result, Ok, Err, cond}
+use Rattle.std.specs.Str.{bytes_eq}
+use Rattle.nq_model.specs.Terms.{PlacedTerm, PlacedNode, at}
+use Rattle.nq_model.specs.Types.{TypeTree}
 use Rattle.nq_model.specs.declared.table.Cell.{Cell}
 use Rattle.nq_model.specs.declared.table.Schema.{Schema}
 use Rattle.nq_model.specs.declared.table.TableShape.{TableShape}
 use Rattle.nq_edge.specs.Edge.{Files, bytes_at}
 use Rattle.sql_profile.specs.declared.server.Loaded.{Loaded}
-use Rattle.nq_top.specs.Commands.{Command, command_of, file_of}
-use Rattle.schema_reader.specs.Answers.{Reads}
-use Rattle.schema_reader.specs.declared.fault.SchemaFault.{SchemaFault}
-use Rattle.schema_reader.specs.declared.fault.SchemaFault.TheVariants as fault
-use Rattle.table_reader.specs.declared.TableFault.{TableFault}
-use Rattle.nq_top.specs.FirstForm.{is_first_query}
-use Rattle.table_reader.specs.Tables.{table_of}
+use Rattle.nq_top.specs.Commands.{Aim, run, check, show_types, Command, help, version, of_query, command_of, file_of, accepted_line, type_line}
+use Rattle.nq_top.specs.Help.{help_text, version_text}
+use Rattle.nq_top.specs.Reading.{QueryReading, Reading, schema_read, term_read, type_read, rows_read}
 use Rattle.nq_top.specs.declared.refusal.Refused.{Refused}
-use Rattle.nq_top.specs.declared.refusal.Refused.TheVariants.{Usage, TooLong, NotBuilt, Schema as SchemaRefused, Table as TableRefused}
+use Rattle.nq_top.specs.declared.refusal.Refused.TheVariants.{Usage, TooLong, NotBuilt}
 
--- The first refusal; or a name that is not held, whose fetch fails; or the tables of the schema in its
--- order, with the place of the one that the query names.
+-- The first refusal; or a name that is not held, whose fetch fails; or the text that is written; or the
+-- tables of the schema in its order, with the place of the one whose rows a server is asked for.
 pub data Verdict : Type 0 where
   missing : List ℕ → Verdict
   refused : Refused → Verdict
+  written : List ℕ → Verdict
   accepted : List Loaded → ℕ → Verdict
 
 -- the names that are fetched, in order, and what comes of them
@@ -44,27 +43,10 @@ judged name limit next (Some bytes) = after name (cond (nat_lt limit (length byt
 unfoldable pub fetched_then : Files → List ℕ → ℕ → (List ℕ → Judgement) → Judgement
 fetched_then files name limit next = judged name limit next (bytes_at files name)
 
--- Schema texts as they are read: to each the schema that it spells, or its one fault. There is one such
--- reading, since each text spells one schema or has one fault, and not both.
-pub record SchemaReading : Type 0 where
-  pub says : List ℕ → Result Schema SchemaFault
-  pub right : (text : List ℕ) → Reads (says text) text
-  pub certain : (text : List ℕ) → says text ≢ Err fault.Memory
-
--- the schema is judged on, or its fault is the refusal
-abbrev pub schema_said : Result Schema SchemaFault → (Schema → Judgement) → Judgement
-schema_said (Ok schema) next = next schema
-schema_said (Err fault) next = at_once (refused (SchemaRefused fault))
-
--- the query is judged on, and else nothing of the form is built
-abbrev pub query_said : Option ℕ → (ℕ → Judgement) → Judgement
-query_said None next = at_once (refused NotBuilt)
-query_said (Some asked) next = next asked
-
--- the rows are judged on, or the fault of the table text is the refusal
-abbrev pub table_said : List ℕ → Result (List (List Cell)) TableFault → (List (List Cell) → Judgement) → Judgement
-table_said name (Ok rows) next = next rows
-table_said name (Err fault) next = at_once (refused (TableRefused name fault))
+-- what was read is judged on, or what it is refused for is the refusal
+abbrev pub read_then : {A : Type 0} → Result A Refused → (A → Judgement) → Judgement
+read_then (Ok a) next = next a
+read_then (Err r) next = at_once (refused r)
 
 abbrev pub loaded_as : TableShape → List (List Cell) → Loaded
 loaded_as shape rows = record { name = shape.name; columns = shape.columns; rows = rows }
@@ -74,24 +56,54 @@ abbrev pub tables_judged : Files → List ℕ → List TableShape → ℕ → Li
 tables_judged files folder [] left done asked = at_once (accepted done asked)
 tables_judged files folder (shape ∷ shapes) left done asked =
     fetched_then files (file_of folder shape.name) left
-    (λ text. table_said shape.name (table_of shape text) (λ rows. tables_judged files folder shapes (left - length text) (done ++ loaded_as shape rows ∷ []) asked))
+    (λ text. read_then (rows_read shape text) (λ rows. tables_judged files folder shapes (left - length text) (done ++ loaded_as shape rows ∷ []) asked))
 
--- the place of the table of the schema that the query names
-unfoldable pub asked_place : List TableShape → List ℕ → Option ℕ
-asked_place shapes text = position_from (λ shape. is_first_query shape.name text) 0 shapes
+-- the table that a query is, if it is `table t`
+unfoldable pub table_named : PlacedTerm → Option (List ℕ)
+table_named (at place (PlacedNode.table name)) = Some name
+table_named _ = None
 
-abbrev pub query_judged : Files → List ℕ → List ℕ → List TableShape → Judgement
-query_judged files query folder shapes =
-    fetched_then files query 1048576 (λ text. query_said (asked_place shapes text) (λ asked. tables_judged files folder shapes 67108864 [] asked))
+-- a query of another form is not built
+abbrev pub built : Option (List ℕ) → Result (List ℕ) Refused
+built (Some name) = Ok name
+built None = Err NotBuilt
 
-abbrev pub schema_judged : SchemaReading → Files → List ℕ → List ℕ → List ℕ → Judgement
-schema_judged reading files schema query folder =
-    fetched_then files schema 1048576 (λ text. schema_said (reading.says text) (λ found. query_judged files query folder found.tables))
+-- how many tables stand before the first of that name
+abbrev pub place_named : List ℕ → List TableShape → ℕ
+place_named name [] = 0
+place_named name (shape ∷ shapes) = cond (bytes_eq name shape.name) 0 (1 + place_named name shapes)
 
-abbrev pub command_judged : SchemaReading → Option Command → Files → Judgement
+-- a query that is run
+abbrev pub run_judged : Files → List ℕ → Schema → PlacedTerm → Judgement
+run_judged files folder schema term =
+    read_then (built (table_named term)) (λ name. tables_judged files folder schema.tables 67108864 [] (place_named name schema.tables))
+
+-- a query that is accepted with its type
+unfoldable pub aim_judged : Files → Aim → Schema → PlacedTerm → TypeTree → Judgement
+aim_judged files (run folder) schema term type = run_judged files folder schema term
+aim_judged files check schema term type = at_once (written accepted_line)
+aim_judged files show_types schema term type = at_once (written (type_line type))
+
+-- a query that was read: it is typed over the schema
+abbrev pub term_judged : Files → Aim → Schema → PlacedTerm → Judgement
+term_judged files aim schema term = read_then (type_read schema term) (λ type. aim_judged files aim schema term type)
+
+-- the query, after the schema
+abbrev pub query_judged : QueryReading → Files → Aim → Schema → List ℕ → Judgement
+query_judged reading files aim schema query =
+    fetched_then files query 1048576 (λ text. read_then (term_read reading text) (λ term. term_judged files aim schema term))
+
+-- the schema, and then the query
+abbrev pub schema_judged : Reading → Files → Aim → List ℕ → List ℕ → Judgement
+schema_judged reading files aim schema query =
+    fetched_then files schema 1048576 (λ text. read_then (schema_read reading.schemas text) (λ found. query_judged reading.queries files aim found query))
+
+abbrev pub command_judged : Reading → Option Command → Files → Judgement
 command_judged reading None files = at_once (refused Usage)
-command_judged reading (Some command) files = schema_judged reading files command.schema command.query command.folder
+command_judged reading (Some help) files = at_once (written help_text)
+command_judged reading (Some version) files = at_once (written version_text)
+command_judged reading (Some (of_query aim schema query)) files = schema_judged reading files aim schema query
 
 -- the words, then the schema, then the query, then each table text in the order of the schema
-unfoldable pub judgement : SchemaReading → List (List ℕ) → Files → Judgement
+unfoldable pub judgement : Reading → List (List ℕ) → Files → Judgement
 judgement reading words files = command_judged reading (command_of words) files

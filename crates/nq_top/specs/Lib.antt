@@ -1,7 +1,8 @@
 pub mod Commands
-pub mod FirstForm
+pub mod Help
 pub mod Words
 pub mod Refusals
+pub mod Reading
 pub mod Judging
 pub mod Gathering
 pub mod Meanings

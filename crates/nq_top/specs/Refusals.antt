@@ -2,6 +2,8 @@
 use Rattle.std.specs.Prelude.{ℕ, List, ◌++◌, codes, decimal, Result, Ok, Err}
 use Rattle.schema_reader.specs.declared.fault.SchemaFault.{SchemaFault}
 use Rattle.schema_reader.specs.declared.fault.SchemaFault.TheVariants as schema
+use Rattle.nq_parser.specs.declared.fault.SyntaxFault.{SyntaxFault}
+use Rattle.nq_parser.specs.declared.fault.SyntaxFault.TheVariants as query
 use Rattle.table_reader.specs.declared.TableFault.{TableFault}
 use Rattle.table_reader.specs.declared.TableFault.TheVariants as table
 use Rattle.nq_top.specs.declared.refusal.Refused.{Refused}
@@ -17,6 +19,8 @@ abbrev pub refused_status : Refused → ℕ
 refused_status refused.Usage = 2
 refused_status (refused.TooLong name limit) = 10
 refused_status (refused.Schema fault) = 3
+refused_status (refused.Query fault) = 4
+refused_status (refused.IllTyped rule place) = 5
 refused_status refused.NotBuilt = 13
 refused_status (refused.Table name fault) = 6
 
@@ -58,6 +62,24 @@ schema_note (schema.NoColumn place) = schema_fault_note (codes "NoColumn") place
 schema_note (schema.KeyColumn place) = schema_fault_note (codes "KeyColumn") place
 schema_note (schema.OverLimit place) = schema_fault_note (codes "OverLimit") place
 
+-- the line of a fault of a query text; want of memory is none
+abbrev pub query_fault_note : List ℕ → ℕ → List ℕ
+query_fault_note fault place = codes "nq: query refused: " ++ (fault ++ (codes " at " ++ (decimal place ++ codes "\n")))
+
+abbrev pub query_note : SyntaxFault → List ℕ
+query_note query.Memory = memory_note
+query_note (query.NotUtf8 place) = query_fault_note (codes "NotUtf8") place
+query_note (query.Token place) = query_fault_note (codes "Token") place
+query_note (query.Unexpected place) = query_fault_note (codes "Unexpected") place
+query_note (query.IntRange place) = query_fault_note (codes "IntRange") place
+query_note (query.Deep place) = query_fault_note (codes "Deep") place
+query_note (query.Unbound place) = query_fault_note (codes "Unbound") place
+query_note (query.TwiceLabel place) = query_fault_note (codes "TwiceLabel") place
+
+-- the line of a broken typing rule
+abbrev pub type_note : ℕ → ℕ → List ℕ
+type_note rule place = codes "nq: ill typed: rule " ++ (decimal rule ++ (codes " at " ++ (decimal place ++ codes "\n")))
+
 -- the line of a fault of a table text with two numbers, each after its words
 abbrev pub table_fault_note : List ℕ → List ℕ → ℕ → List ℕ → ℕ → List ℕ
 table_fault_note name words first more second =
@@ -77,6 +99,8 @@ abbrev pub refused_note : Refused → List ℕ
 refused_note refused.Usage = codes "nq: usage\n"
 refused_note (refused.TooLong name limit) = codes "nq: input too long: " ++ (name ++ (codes " over " ++ (decimal limit ++ codes "\n")))
 refused_note (refused.Schema fault) = schema_note fault
+refused_note (refused.Query fault) = query_note fault
+refused_note (refused.IllTyped rule place) = type_note rule place
 refused_note refused.NotBuilt = codes "nq: not built\n"
 refused_note (refused.Table name fault) = table_note name fault
 

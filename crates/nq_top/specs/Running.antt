@@ -8,7 +8,7 @@ use Rattle.sql_profile.specs.Scans.{scan_types}
 use Rattle.sql_profile.specs.Servers.{Asks, RoseBelow}
 use Rattle.sql_profile.specs.declared.server.Loaded.{Loaded}
 use Rattle.nq_top.specs.Gathering.{Told, InputCounts, Judges, RefusalTells}
-use Rattle.nq_top.specs.Judging.{Judgement, accepted}
+use Rattle.nq_top.specs.Judging.{Judgement, Verdict, missing, refused, written, accepted}
 use Rattle.nq_top.specs.Meanings.{query_meaning}
 use Rattle.nq_top.specs.Noting.{Notes}
 use Rattle.nq_top.specs.Refusals.{status_of}
@@ -61,6 +61,13 @@ Keeps old new (Err (refusal.Input r)) = new ≡ old
 Keeps old new (Err (refusal.Server r)) = ⊤
 Keeps old new (Err refusal.OutputFailed) = ⊤
 
+-- a server refuses only a command that asks it
+abbrev pub AskedOnly : Bool → Answer → Type 0
+AskedOnly asks (Ok _) = ⊤
+AskedOnly asks (Err (refusal.Input r)) = ⊤
+AskedOnly asks (Err (refusal.Server r)) = asks ≡ true
+AskedOnly asks (Err refusal.OutputFailed) = ⊤
+
 abbrev pub Blames : Bool → Answer → Type 0
 Blames honest (Ok _) = ⊤
 Blames honest (Err (refusal.Input r)) = ⊤
@@ -69,13 +76,18 @@ Blames honest (Err refusal.OutputFailed) = ⊤
 
 -- 3. what an answer says of the inputs, of the server and of the output
 
--- the inputs come to tables, the server serves this text for them, and it was put
+-- the text that is written for a verdict: the inputs say it, or the server serves it for their tables
+abbrev pub Gives : Served → Verdict → List ℕ → Type 0
+Gives served (missing name) text = ⊥
+Gives served (refused r) text = ⊥
+Gives served (written said) text = text ≡ said
+Gives served (accepted tables asked) text = served tables asked (Ok text)
+
+-- the inputs are accepted, all their names were fetched, and the text that they give was put
 pub record Writes (served : Served) (judgement : Judgement) (old new : Told) (put : List ℕ → Type 0) : Type 0 where
-  pub tables : List Loaded
-  pub asked : ℕ
   pub text : List ℕ
-  pub judges : Judges judgement (accepted tables asked) old new
-  pub serves : served tables asked (Ok text)
+  pub gives : Gives served judgement.verdict text
+  pub fetched : TellsMore old new judgement.names
   pub puts : put text
 
 -- the inputs come to tables, for which the server gives no text
@@ -119,6 +131,10 @@ is_input_status status = list_any (λ s. s == status) (2 ∷ 3 ∷ 4 ∷ 5 ∷ 6
 abbrev pub KeepsAt : ServerState → ServerState → ℕ → Type 0
 KeepsAt old new status = MatchBool (is_input_status status) (new ≡ old) ⊤
 
+-- a server is named only where a command asks it
+abbrev pub AskedAt : Bool → ℕ → Type 0
+AskedAt asks status = MatchBool ((status == 9) || (status == 11)) (asks ≡ true) ⊤
+
 -- The status and the note line are those of one answer; and where the inputs are told, so is what it says.
 pub record Comes (held : Option Files) (tells : Files → Answer → Type 0) (notes_old notes_new : Option (List ℕ)) (before now status : ℕ) : Type 0 where
   pub answer : Answer
@@ -131,10 +147,17 @@ pub record Comes (held : Option Files) (tells : Files → Answer → Type 0) (no
 abbrev pub IsDone : ℕ → Type 0
 IsDone status = (status ≡ 0) ⊎ (status ≡ 1)
 
--- Where the inputs come to tables, no call failed, and the server is fair to them, the run succeeds but
--- for want of memory.
+-- the inputs are accepted, and where a server is asked it is fair to them
+abbrev pub IsDue : (List Loaded → ℕ → Type 0) → Verdict → Type 0
+IsDue fair (missing name) = ⊥
+IsDue fair (refused r) = ⊥
+IsDue fair (written text) = ⊤
+IsDue fair (accepted tables asked) = fair tables asked
+
+-- Where the inputs are accepted, no call on them or on the output failed, and a server that is asked does
+-- not fail and is fair, the run succeeds but for want of memory.
 abbrev pub Completes : Judgement → Type 0 → (List Loaded → ℕ → Type 0) → ℕ → Type 0
-Completes judgement failed fair status = (tables : List Loaded) (asked : ℕ) → judgement.verdict ≡ accepted tables asked → (failed → ⊥) → fair tables asked → IsDone status
+Completes judgement failed fair status = (failed → ⊥) → IsDue fair judgement.verdict → IsDone status
 
 -- the answers that were told in a call fit the columns of the table that was asked for
 pub record ToldFit (tables : List Loaded) (asked : ℕ) (old new : Option Asks) : Type 0 where
@@ -147,3 +170,8 @@ pub record ToldFit (tables : List Loaded) (asked : ℕ) (old new : Option Asks) 
 -- a server is honest, or tells its asks and gave answers that fit
 abbrev pub IsFair : Bool → Option Asks → Option Asks → List Loaded → ℕ → Type 0
 IsFair honest old new tables asked = (honest ≡ true) ⊎ ToldFit tables asked old new
+
+-- a server that did not fail in a call, and is fair
+pub record Serves (failed : Type 0) (honest : Bool) (old new : Option Asks) (tables : List Loaded) (asked : ℕ) : Type 0 where
+  pub not_failed : failed → ⊥
+  pub fair : IsFair honest old new tables asked

@@ -1,6 +1,6 @@
 -- What a run says of its server: the tables that it was loaded with, the text that it was asked, and its
 -- answer.
-use Rattle.std.specs.Prelude.{◌≡◌, ℕ, Bool, true, ⊤, List, ◌∷◌, ◌++◌, All, Option, Some, is_some, slice_get, Result, Ok, Err}
+use Rattle.std.specs.Prelude.{◌≡◌, ℕ, Bool, true, ⊤, List, ◌∷◌, ◌++◌, All, Option, Some, is_some, slice_get, MatchBool, Result, Ok, Err}
 use Rattle.nq_model.specs.Cells.{RowFits}
 use Rattle.nq_model.specs.Canonical.{canonical_text}
 use Rattle.nq_model.specs.Orders.{by_label}
@@ -12,6 +12,8 @@ use Rattle.sql_profile.specs.Scans.{scan_text, scan_types}
 use Rattle.sql_profile.specs.Servers.{Asks, with_ask, RoseBelow}
 use Rattle.sql_profile.specs.declared.server.Loaded.{Loaded}
 use Rattle.nq_top.specs.Meanings.{answer_value, query_meaning}
+use Rattle.nq_top.specs.declared.gathered.Gathered.{Gathered}
+use Rattle.nq_top.specs.declared.gathered.Gathered.TheVariants as gathered
 use Rattle.nq_top.specs.declared.refusal.ServerRefusal.{ServerRefusal}
 use Rattle.nq_top.specs.declared.refusal.ServerRefusal.TheVariants as server
 
@@ -94,6 +96,21 @@ RefusalServes tables asked old new honest (server.BadAnswer text row column) = A
 abbrev pub ServeTells : List Loaded → ℕ → ServerState → ServerState → Bool → Result (List ℕ) ServerRefusal → Type 0
 ServeTells tables asked old new honest (Ok text) = ServesText tables asked old new honest text
 ServeTells tables asked old new honest (Err r) = RefusalServes tables asked old new honest r
+
+-- what is said of the text that is written for gathered inputs: a server gave it, or they say it themselves
+-- and the server is as it was
+abbrev pub TextTells : Gathered → ServerState → ServerState → Bool → Result (List ℕ) ServerRefusal → Type 0
+TextTells (gathered.Tables tables asked) old new honest result = ServeTells tables asked old new honest result
+TextTells (gathered.Text said) old new honest (Ok text) = text ≡ said
+TextTells (gathered.Text said) old new honest (Err r) = ⊥
+
+-- a server that is not asked is as it was: what it holds, the asks that it tells, and its count of faults
+pub record Untouched (old new : ServerState) (before now : ℕ) : Type 0 where
+  pub state : new ≡ old
+  pub count : now ≡ before
+
+abbrev pub LeavesServer : Bool → ServerState → ServerState → ℕ → ℕ → Type 0
+LeavesServer asks old new before now = MatchBool asks ⊤ (Untouched old new before now)
 
 -- an answer that does not fit comes of no honest server
 abbrev pub RefusalBlames : Bool → ServerRefusal → Type 0

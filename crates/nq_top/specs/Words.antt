@@ -1,6 +1,16 @@
 -- The words of a command as the program has them.
-use Rattle.nq_top.specs.Commands.{Command}
+use Rattle.nq_top.specs.Commands.{Aim, run, check, show_types, Command, help, version, of_query}
+use Rattle.nq_top.specs.declared.words.Aim.{Aim as Aims}
+use Rattle.nq_top.specs.declared.words.Aim.TheVariants as aim
 use Rattle.nq_top.specs.declared.words.Command.{Command as Words}
+use Rattle.nq_top.specs.declared.words.Command.TheVariants as words
+
+abbrev pub aim_view : Aims → Aim
+aim_view (aim.Run folder) = run folder.now
+aim_view aim.Check = check
+aim_view aim.ShowTypes = show_types
 
 abbrev pub command_view : Words → Command
-command_view command = record { schema = command.schema.now; query = command.query.now; folder = command.folder.now }
+command_view words.Help = help
+command_view words.Version = version
+command_view (words.OfQuery aim schema query) = of_query (aim_view aim) schema.now query.now

@@ -2,16 +2,21 @@
 #![tactic(auto)]
 
 mod answer;
-mod first_form;
+mod fetch;
 mod gather;
+mod gathered;
+mod help;
+mod laws;
 mod load;
 mod note;
-mod pieces;
+mod read;
 mod refusal;
 mod run;
 mod serve;
+mod tables;
 mod top;
 mod words;
 
+pub use laws::{reading_laws, run_laws};
 pub use refusal::{InputRefusal, Refusal, Refused, ServerRefusal};
 pub use top::{nq_lent, nq_main};

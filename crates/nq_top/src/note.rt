@@ -1,11 +1,12 @@
 // The note line of an answer, put in pieces, which takes no memory.
 ghost use Rattle.nq_edge.specs.Lines.{PutsLine};
-ghost use Rattle.nq_top.specs.Refusals.{schema_fault_note, schema_note, table_fault_note, table_note, refused_note, input_note, server_note, note_of};
+ghost use Rattle.nq_top.specs.Refusals.{schema_fault_note, schema_note, query_fault_note, query_note, type_note, table_fault_note, table_note, refused_note, input_note, server_note, note_of};
 ghost use Rattle.nq_top.specs.Noting.{Notes};
 
 use crate::refusal::{InputRefusal, Refusal, Refused, ServerRefusal};
 use itoa::Buffer;
 use nq_edge::{Sink, put_five, put_one, put_seven, put_three};
+use nq_parser::SyntaxFault;
 use schema_reader::SchemaFault;
 use table_reader::TableFault;
 
@@ -51,6 +52,45 @@ fn put_schema<N: Sink>(notes: &mut N, fault: &SchemaFault)
         SchemaFault::KeyColumn { place } => put_schema_fault(notes, b"KeyColumn", place),
         SchemaFault::OverLimit { place } => put_schema_fault(notes, b"OverLimit", place),
     }
+}
+
+// Puts that a query text has a fault at a place.
+fn put_query_fault<N: Sink>(notes: &mut N, fault: &[u8], place: u64)
+    ensures { PutsLine (N.written notes.old) (N.written notes.new) (N.faults notes.old) (N.faults notes.new)
+        (query_fault_note fault.now place) }
+{
+    let mut digits = Buffer::new();
+    let place = digits.format(place).as_bytes();
+    put_five(notes, b"nq: query refused: ", fault, b" at ", place, b"\n");
+}
+
+// Puts the fault of a query text.
+fn put_query<N: Sink>(notes: &mut N, fault: &SyntaxFault)
+    ensures { PutsLine (N.written notes.old) (N.written notes.new) (N.faults notes.old) (N.faults notes.new)
+        (query_note fault.now) }
+{
+    match *fault {
+        SyntaxFault::Memory => put_one(notes, b"nq: want of memory\n"),
+        SyntaxFault::NotUtf8 { place } => put_query_fault(notes, b"NotUtf8", place),
+        SyntaxFault::Token { place } => put_query_fault(notes, b"Token", place),
+        SyntaxFault::Unexpected { place } => put_query_fault(notes, b"Unexpected", place),
+        SyntaxFault::IntRange { place } => put_query_fault(notes, b"IntRange", place),
+        SyntaxFault::Deep { place } => put_query_fault(notes, b"Deep", place),
+        SyntaxFault::Unbound { place } => put_query_fault(notes, b"Unbound", place),
+        SyntaxFault::TwiceLabel { place } => put_query_fault(notes, b"TwiceLabel", place),
+    }
+}
+
+// Puts that a query breaks a typing rule at a place.
+fn put_ill_typed<N: Sink>(notes: &mut N, rule: u8, place: u64)
+    ensures { PutsLine (N.written notes.old) (N.written notes.new) (N.faults notes.old) (N.faults notes.new)
+        (type_note rule place) }
+{
+    let mut rule_digits = Buffer::new();
+    let mut place_digits = Buffer::new();
+    let rule = rule_digits.format(rule).as_bytes();
+    let place = place_digits.format(place).as_bytes();
+    put_five(notes, b"nq: ill typed: rule ", rule, b" at ", place, b"\n");
 }
 
 // Puts that a row of a table text has another number of cells.
@@ -161,6 +201,8 @@ fn put_refused<N: Sink>(notes: &mut N, refused: &Refused)
             put_too_long(notes, name.as_str().as_bytes(), *limit);
         }
         Refused::Schema(fault) => put_schema(notes, fault),
+        Refused::Query(fault) => put_query(notes, fault),
+        Refused::IllTyped { rule, place } => put_ill_typed(notes, *rule, *place),
         Refused::NotBuilt => put_one(notes, b"nq: not built\n"),
         Refused::Table(name, fault) => put_table(notes, name.as_str().as_bytes(), fault),
     }

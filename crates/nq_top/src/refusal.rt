@@ -1,5 +1,6 @@
 // Why a command gives no text.
 use nq_model::{Label, Memory, Text};
+use nq_parser::SyntaxFault;
 use schema_reader::SchemaFault;
 use table_reader::TableFault;
 
@@ -12,6 +13,10 @@ pub enum Refused {
     TooLong(Text, u64),
     /// The bytes of the schema spell none.
     Schema(SchemaFault),
+    /// The bytes of the query spell none.
+    Query(SyntaxFault),
+    /// The query breaks this typing rule at this place, first in the order of judging.
+    IllTyped { rule: u8, place: u64 },
     /// The query is not of a form that is built.
     NotBuilt,
     /// The text of the table of this name is refused.

@@ -1,18 +1,49 @@
 // A whole run, but for its note.
-ghost use Rattle.std.specs.Prelude.{◌≡◌, ◌↔◌, [], List, ℕ, map, None, Err, IfSome, string_bytes};
-ghost use Rattle.nq_top.specs.Commands.{command_of};
-ghost use Rattle.nq_top.specs.Judging.{SchemaReading, judgement};
-ghost use Rattle.nq_top.specs.Serving.{StaysHonest, ServeTells};
-ghost use Rattle.nq_top.specs.Running.{InputCount, OutputCount, ServerCount, PutsOnly, Keeps, Blames, Tells};
+ghost use Rattle.std.specs.Prelude.{◌≡◌, ◌↔◌, [], List, ℕ, map, None, Err, true, IfSome, OnErr, is_some, string_bytes};
+ghost use Rattle.nq_top.specs.Commands.{command_of, asks_server};
+ghost use Rattle.nq_top.specs.Reading.{Reading};
+ghost use Rattle.nq_top.specs.Judging.{judgement};
+ghost use Rattle.nq_top.specs.Gathering.{IsServable, gathered_asks};
+ghost use Rattle.nq_top.specs.Serving.{ServerCounts, StaysHonest, TextTells, LeavesServer, ServeTells};
+ghost use Rattle.nq_top.specs.Running.{InputCount, OutputCount, ServerCount, PutsOnly, Keeps, AskedOnly, Blames, Tells};
 
 use crate::gather::gather;
-use crate::refusal::{InputRefusal, Refusal, Refused};
+use crate::gathered::Gathered;
+use crate::refusal::{InputRefusal, Refusal, Refused, ServerRefusal};
 use crate::serve::serve;
 use nq_edge::{Inputs, PutFault, Sink};
+use nq_model::List;
 use sql_profile::SqlServer;
 use std::alloc::Global;
 
-/// Reads the inputs of the command that words are, has the server answer, and puts the text, whole.
+// The text that is written for gathered inputs, which a server gives where it is asked.
+fn text_for(
+    alloc: Global,
+    gathered: Gathered,
+    server: &mut Box<dyn SqlServer>,
+) -> Result<List<u8>, ServerRefusal>
+    requires empty { loaded server.old ≡ [] }
+    requires servable { IsServable gathered }
+    ensures counts { ServerCounts (bound server.old) (failures server.old) (failures server.new) result }
+    ensures honesty_stays { honest server.new ≡ honest server.old }
+    ensures bound_stays { bound server.new ≡ bound server.old }
+    ensures telling { is_some (asks server.new) ≡ is_some (asks server.old) }
+    ensures leaves { LeavesServer (gathered_asks gathered)
+        (record { loaded = loaded server.old; asks = asks server.old }) (record { loaded = loaded server.new; asks = asks server.new })
+        (failures server.old) (failures server.new) }
+    ensures asked { OnErr result (gathered_asks gathered ≡ true) }
+    ensures tells { TextTells gathered
+        (record { loaded = loaded server.old; asks = asks server.old }) (record { loaded = loaded server.new; asks = asks server.new })
+        (honest server.old) result }
+{
+    match gathered {
+        Gathered::Tables { tables, asked } => serve(alloc, tables, asked, server),
+        Gathered::Text(text) => Ok(text),
+    }
+}
+
+/// Reads the inputs of the command that words are, has the server answer where it is asked, and puts the
+/// text, whole.
 #[tactic(auto, using(crate::proofs::Runs::run_rules))]
 pub fn run<I: Inputs, O: Sink>(
     alloc: Global,
@@ -31,10 +62,14 @@ pub fn run<I: Inputs, O: Sink>(
     ensures keeps { Keeps
         (record { loaded = loaded server.old; asks = asks server.old }) (record { loaded = loaded server.new; asks = asks server.new })
         result }
+    ensures leaves { LeavesServer (asks_server (command_of (map (λ word. string_bytes word) words.now)))
+        (record { loaded = loaded server.old; asks = asks server.old }) (record { loaded = loaded server.new; asks = asks server.new })
+        (failures server.old) (failures server.new) }
     ensures constants { StaysHonest (honest server.old) (honest server.new)
         (bound server.old) (bound server.new) (asks server.old) (asks server.new) }
+    ensures asked { AskedOnly (asks_server (command_of (map (λ word. string_bytes word) words.now))) result }
     ensures blames { Blames (honest server.old) result }
-    ensures tells { IfSome (I.held inputs.old) (λ files. (reading : SchemaReading) → Tells
+    ensures tells { IfSome (I.held inputs.old) (λ files. (reading : Reading) → Tells
         (λ tables asked. ServeTells tables asked
         (record { loaded = loaded server.old; asks = asks server.old }) (record { loaded = loaded server.new; asks = asks server.new })
         (honest server.old))
@@ -45,7 +80,7 @@ pub fn run<I: Inputs, O: Sink>(
         Ok(gathered) => gathered,
         Err(refusal) => return Err(Refusal::Input(refusal)),
     };
-    let text = serve(alloc, gathered, server)?;
+    let text = text_for(alloc, gathered, server)?;
     match out.put(text.as_slice()) {
         Ok(()) => Ok(()),
         Err(PutFault::Failed) => Err(Refusal::OutputFailed),

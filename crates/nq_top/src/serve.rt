@@ -11,7 +11,6 @@ ghost use Rattle.std.proofs.Common.{get_or};
 ghost use Rattle.nq_model.specs.declared.table.ColumnType.TheVariants as column;
 
 use crate::answer::answer_text;
-use crate::gather::Gathered;
 use crate::load::load_tables;
 use crate::refusal::ServerRefusal;
 use nq_model::{ColumnType, Label, List, Memory, label_order};
@@ -127,25 +126,25 @@ fn text_of(alloc: Global, question: &Question, answer: Answer) -> Result<List<u8
     }
 }
 
-/// Loads the tables into the server, asks it for the rows of the one that the query names, and writes
-/// the canonical text of the bag that the answer stands for.
+/// Loads the tables into the server, asks it for the rows of the one at the place, and gives the canonical
+/// text of the bag that the answer stands for.
 #[tactic(auto, using(crate::proofs::Serves::serve_rules))]
 pub fn serve(
     alloc: Global,
-    gathered: Gathered,
+    tables: List<Loaded>,
+    asked: usize,
     server: &mut Box<dyn SqlServer>,
 ) -> Result<List<u8>, ServerRefusal>
     requires empty { loaded server.old ≡ [] }
-    requires servable { AreServable gathered.tables gathered.asked }
+    requires servable { AreServable tables asked }
     ensures counts { ServerCounts (bound server.old) (failures server.old) (failures server.new) result }
     ensures honesty_stays { honest server.new ≡ honest server.old }
     ensures bound_stays { bound server.new ≡ bound server.old }
     ensures telling { is_some (asks server.new) ≡ is_some (asks server.old) }
-    ensures tells { ServeTells gathered.tables gathered.asked
+    ensures tells { ServeTells tables asked
         (record { loaded = loaded server.old; asks = asks server.old }) (record { loaded = loaded server.new; asks = asks server.new })
         (honest server.old) result }
 {
-    let Gathered { tables, asked } = gathered;
     let question = question_of(alloc, &tables.as_slice()[asked])?;
     let answer = answer_of(alloc, server, tables, question.text.as_slice())?;
     text_of(alloc, &question, answer)

@@ -2,11 +2,12 @@
 ghost use Rattle.std.specs.Prelude.{◌≡◌, ◌<◌, ◌↔◌, ◌⊎◌, [], true, List, ℕ, map, None, IfSome, string_bytes};
 ghost use Rattle.nq_edge.specs.Edge.{Rose};
 ghost use Rattle.sql_profile.specs.Servers.{RoseBelow};
-ghost use Rattle.nq_top.specs.Commands.{command_of};
-ghost use Rattle.nq_top.specs.Judging.{SchemaReading, judgement};
+ghost use Rattle.nq_top.specs.Commands.{command_of, asks_server};
+ghost use Rattle.nq_top.specs.Reading.{Reading};
+ghost use Rattle.nq_top.specs.Judging.{judgement};
 ghost use Rattle.nq_top.specs.Refusals.{status_of};
-ghost use Rattle.nq_top.specs.Serving.{StaysHonest, ServeTells};
-ghost use Rattle.nq_top.specs.Running.{RoseAt, ServerRoseAt, PutsAt, KeepsAt, Tells, Means, Comes, Completes, IsFair};
+ghost use Rattle.nq_top.specs.Serving.{StaysHonest, LeavesServer, ServeTells};
+ghost use Rattle.nq_top.specs.Running.{RoseAt, ServerRoseAt, PutsAt, KeepsAt, AskedAt, Tells, Means, Comes, Completes, Serves};
 
 use crate::note::put_note;
 use crate::refusal::{InputRefusal, Refusal, Refused, ServerRefusal};
@@ -23,6 +24,8 @@ fn refused_status(refused: &Refused) -> u8
         Refused::Usage => 2,
         Refused::TooLong(..) => 10,
         Refused::Schema(_) => 3,
+        Refused::Query(_) => 4,
+        Refused::IllTyped { .. } => 5,
         Refused::NotBuilt => 13,
         Refused::Table(..) => 6,
     }
@@ -50,11 +53,12 @@ fn status_of(answer: &Result<(), Refusal>) -> u8
 ///
 /// The clauses `inputs`, `output` and `server` say that a count rose exactly where the status is 7, 8 or
 /// 9; `usage`, that the status is 2 exactly where the words are no listed form; `puts`, that nothing was
-/// put but at 0 and 8; `keeps`, that a refusal before the server is called leaves it as it was;
-/// `constants`, that its honesty, its bound and whether it tells its asks stay; `blames`, that 11 comes
-/// from no honest server; `comes`, that the status and the note line are those of one answer, and what
-/// that answer says; `completes`, that only a failed call, an unfair server or want of memory keeps
-/// accepted inputs from status 0.
+/// put but at 0 and 8; `keeps`, that a refusal before the server is called leaves it as it was; `leaves`,
+/// that a command that asks no server leaves it as it was at every status; `constants`, that its honesty,
+/// its bound and whether it tells its asks stay; `asked`, that 9 and 11 come of no command that asks no
+/// server; `blames`, that 11 comes from no honest server; `comes`, that the status and the note line are
+/// those of one answer, and what that answer says; `completes`, that only a failed call, an unfair server or
+/// want of memory keeps accepted inputs from status 0.
 #[tactic(auto, using(crate::proofs::Statuses::status_rules))]
 pub fn nq_lent<I: Inputs, O: Sink, N: Sink>(
     alloc: Global,
@@ -73,22 +77,26 @@ pub fn nq_lent<I: Inputs, O: Sink, N: Sink>(
     ensures keeps { KeepsAt
         (record { loaded = loaded server.old; asks = asks server.old }) (record { loaded = loaded server.new; asks = asks server.new })
         result }
+    ensures leaves { LeavesServer (asks_server (command_of (map (λ word. string_bytes word) words.now)))
+        (record { loaded = loaded server.old; asks = asks server.old }) (record { loaded = loaded server.new; asks = asks server.new })
+        (failures server.old) (failures server.new) }
     ensures constants { StaysHonest (honest server.old) (honest server.new)
         (bound server.old) (bound server.new) (asks server.old) (asks server.new) }
+    ensures asked { AskedAt (asks_server (command_of (map (λ word. string_bytes word) words.now))) result }
     ensures blames { result ≡ 11 → honest server.old ≡ true → ⊥ }
     ensures comes { Comes (I.held inputs.old)
-        (λ files answer. (reading : SchemaReading) → Tells
+        (λ files answer. (reading : Reading) → Tells
         (λ tables asked. ServeTells tables asked
         (record { loaded = loaded server.old; asks = asks server.old }) (record { loaded = loaded server.new; asks = asks server.new })
         (honest server.old))
         (judgement reading (map (λ word. string_bytes word) words.now) files)
         (I.fetched inputs.old) (I.fetched inputs.new) (O.written out.old) (O.written out.new) answer)
         (N.written notes.old) (N.written notes.new) (N.faults notes.old) (N.faults notes.new) result }
-    ensures completes { IfSome (I.held inputs.old) (λ files. (reading : SchemaReading) → Completes
+    ensures completes { IfSome (I.held inputs.old) (λ files. (reading : Reading) → Completes
         (judgement reading (map (λ word. string_bytes word) words.now) files)
-        (Rose (I.faults inputs.old) (I.faults inputs.new) ⊎ (Rose (O.faults out.old) (O.faults out.new)
-        ⊎ RoseBelow (bound server.old) (failures server.old) (failures server.new)))
-        (IsFair (honest server.old) (asks server.old) (asks server.new)) result) }
+        (Rose (I.faults inputs.old) (I.faults inputs.new) ⊎ Rose (O.faults out.old) (O.faults out.new))
+        (Serves (RoseBelow (bound server.old) (failures server.old) (failures server.new))
+        (honest server.old) (asks server.old) (asks server.new)) result) }
 {
     let answer = run(alloc, words, inputs, out, server);
     put_note(notes, &answer);
@@ -115,13 +123,14 @@ pub fn nq_main<I: Inputs, O: Sink, N: Sink>(
     ensures server { result ≡ 9 → failures server < bound server }
     ensures usage { (result ≡ 2) ↔ (command_of (map (λ word. string_bytes word) words.now) ≡ None) }
     ensures puts { PutsAt (O.written out.old) (O.written out.new) result }
+    ensures asked { AskedAt (asks_server (command_of (map (λ word. string_bytes word) words.now))) result }
     ensures blames { result ≡ 11 → honest server ≡ true → ⊥ }
     ensures comes { Comes (I.held inputs.old)
-        (λ files answer. (reading : SchemaReading) → Tells (Means (honest server))
+        (λ files answer. (reading : Reading) → Tells (Means (honest server))
         (judgement reading (map (λ word. string_bytes word) words.now) files)
         (I.fetched inputs.old) (I.fetched inputs.new) (O.written out.old) (O.written out.new) answer)
         (N.written notes.old) (N.written notes.new) (N.faults notes.old) (N.faults notes.new) result }
-    ensures completes { IfSome (I.held inputs.old) (λ files. (reading : SchemaReading) → Completes
+    ensures completes { IfSome (I.held inputs.old) (λ files. (reading : Reading) → Completes
         (judgement reading (map (λ word. string_bytes word) words.now) files)
         (Rose (I.faults inputs.old) (I.faults inputs.new) ⊎ Rose (O.faults out.old) (O.faults out.new))
         (λ tables asked. (failures server ≡ bound server) × (honest server ≡ true)) result) }

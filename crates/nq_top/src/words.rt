@@ -1,14 +1,68 @@
 // The words of the command line.
 ghost use Rattle.std.specs.Prelude.{◌≡◌, List, ℕ, map, option_map, string_bytes};
-ghost use Rattle.nq_top.specs.Commands.{command_of};
+ghost use Rattle.nq_top.specs.Commands.{one_word, three_words, four_words, command_of};
 ghost use Rattle.nq_top.specs.Words.{command_view};
 
-/// The names that a command is given: of a schema, of a query and of a folder of table texts.
+/// What is done with a query that is accepted.
 #[derive(Clone, Copy)]
-pub struct Command<'a> {
-    pub schema: &'a str,
-    pub query: &'a str,
-    pub folder: &'a str,
+pub enum Aim<'a> {
+    /// Its value is written, over the table texts of the folder of this name.
+    Run(&'a str),
+    /// That it is accepted is written.
+    Check,
+    /// Its type is written.
+    ShowTypes,
+}
+
+/// What the words ask for.
+#[derive(Clone, Copy)]
+pub enum Command<'a> {
+    Help,
+    Version,
+    /// An aim, with the names of the schema and of the query.
+    OfQuery(Aim<'a>, &'a str, &'a str),
+}
+
+// The command of one word.
+fn one_word<'a>(word: &str) -> Option<Command<'a>>
+    ensures { option_map command_view result ≡ one_word word.now }
+{
+    if word == "--help" {
+        Some(Command::Help)
+    } else if word == "--version" {
+        Some(Command::Version)
+    } else {
+        None
+    }
+}
+
+// The command of three words.
+fn three_words<'a>(word: &str, schema: &'a str, query: &'a str) -> Option<Command<'a>>
+    ensures { option_map command_view result ≡ three_words word.now schema.now query.now }
+{
+    if word == "check" {
+        Some(Command::OfQuery(Aim::Check, schema, query))
+    } else {
+        None
+    }
+}
+
+// The command of four words.
+fn four_words<'a>(
+    word: &str,
+    second: &'a str,
+    third: &'a str,
+    fourth: &'a str,
+) -> Option<Command<'a>>
+    ensures { option_map command_view result ≡ four_words word.now second.now third.now fourth.now }
+{
+    if word == "run" {
+        Some(Command::OfQuery(Aim::Run(fourth), second, third))
+    } else if word == "show" && second == "types" {
+        Some(Command::OfQuery(Aim::ShowTypes, third, fourth))
+    } else {
+        None
+    }
 }
 
 /// The command that words are, if they are one. It takes no memory.
@@ -17,16 +71,14 @@ pub fn command_of<'a>(words: &'a [String]) -> Option<Command<'a>>
     ensures { option_map command_view result ≡ command_of (map (λ word. string_bytes word) words.now) }
 {
     match words {
-        [word, schema, query, folder] => {
-            if word.as_str() != "run" {
-                return None;
-            }
-            Some(Command {
-                schema: schema.as_str(),
-                query: query.as_str(),
-                folder: folder.as_str(),
-            })
-        }
+        [word] => one_word(word.as_str()),
+        [word, schema, query] => three_words(word.as_str(), schema.as_str(), query.as_str()),
+        [word, second, third, fourth] => four_words(
+            word.as_str(),
+            second.as_str(),
+            third.as_str(),
+            fourth.as_str(),
+        ),
         _ => None,
     }
 }

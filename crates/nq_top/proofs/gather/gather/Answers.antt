@@ -1,9 +1,22 @@
-use Rattle.std.proofs.Common.{◌∙◌, sym, ap}
-use Rattle.std.specs.Option.{option_map}
-use Rattle.nq_top.specs.Words.{command_view}
-use Rattle.nq_top.proofs.Gathers.{command_goes}
+use Rattle.std.proofs.Common.{rules, Some, refl}
+use Rattle.nq_top.specs.Commands.{of_query, help, version}
+use Rattle.nq_top.specs.Help.{help_text, version_text}
+use Rattle.nq_top.specs.Words.{aim_view}
+use Rattle.nq_top.proofs.Gathers.{command_goes, writes_at_once, refused_at_once}
 use Rattle.nq_top.proofs.gather.gather.Goals as goal
 
-pub returns-in-Some-clause-tells : goal.returns-in-Some-clause-tells
-returns-in-Some-clause-tells g c =
-    command_goes _ _ (command_view c.in-Some.command) _ _ _ (sym c.command_of.ensures ∙ ap (option_map command_view) c.in-Some.is) c.gather_schema.ensures.tells
+pub returns-in-Some-OfQuery-clause-tells : goal.returns-in-Some-OfQuery-clause-tells
+returns-in-Some-OfQuery-clause-tells g c =
+    command_goes _ _ (Some (of_query (aim_view c.in-Some-OfQuery.aim) c.in-Some-OfQuery.schema.now c.in-Some-OfQuery.query.now)) _ _ c.gather_schema.result
+    (search rules) c.gather_schema.ensures.tells
+
+pub returns-in_ok-help_text-in-Some-Help-clause-tells : goal.returns-in_ok-help_text-in-Some-Help-clause-tells
+returns-in_ok-help_text-in-Some-Help-clause-tells g c =
+    writes_at_once _ _ (Some help) help_text c.in_ok-help_text-in-Some-Help.field-0 _ (search rules) (λ reading files. refl) c.in_ok-help_text-in-Some-Help.ensures
+
+pub returns-in_ok-version_text-in-Some-Version-clause-tells : goal.returns-in_ok-version_text-in-Some-Version-clause-tells
+returns-in_ok-version_text-in-Some-Version-clause-tells g c =
+    writes_at_once _ _ (Some version) version_text c.in_ok-version_text-in-Some-Version.field-0 _ (search rules) (λ reading files. refl) c.in_ok-version_text-in-Some-Version.ensures
+
+pub returns-in-None-clause-tells : goal.returns-in-None-clause-tells
+returns-in-None-clause-tells g c = refused_at_once _ _ _ (search rules)

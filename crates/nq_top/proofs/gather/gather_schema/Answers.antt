@@ -1,14 +1,21 @@
-use Rattle.std.proofs.Common.{List, All, sym, subst}
-use Rattle.nq_model.specs.declared.table.TableShape.{TableShape}
-use Rattle.nq_top.specs.Gathering.{IsUnquoted}
-use Rattle.nq_top.proofs.Gathers.{schema_stops_at}
+use Rattle.nq_top.specs.Words.{aim_view}
+use Rattle.nq_top.specs.Reading.{schema_read}
+use Rattle.nq_top.specs.Judging.{query_judged}
+use Rattle.nq_top.proofs.Gathers.{reading_stops, reading_goes}
 use Rattle.nq_top.proofs.gather.gather_schema.Goals as goal
 
-pub gather_query-requires-clause-unquoted : goal.gather_query-requires-clause-unquoted
-gather_query-requires-clause-unquoted g c =
-    subst (λ (shapes : List TableShape). All (λ shape. IsUnquoted shape.name) shapes) (sym c.as_slice-in-Ok.ensures) c.in-Ok.ensures.unquoted
+pub returns-in-Ok-clause-tells : goal.returns-in-Ok-clause-tells
+returns-in-Ok-clause-tells g c =
+    reading_goes _ _ c.in_ok-name.name c.args.schema.now c.in_ok-text.text c.as_slice.result.now 1048576
+    (λ reading text. schema_read reading.schemas text) (λ reading files found. query_judged reading.queries files (aim_view c.args.aim) found c.args.query.now)
+    _ _ _ c.in-Ok.found c.gather_query.result
+    c.in_ok-name.ensures c.as_slice.ensures c.in_ok-text.ensures.same c.in_ok-text.ensures.says c.in_ok-text.ensures.names
+    (λ reading. c.in-Ok.ensures.says reading.schemas) c.gather_query.ensures.tells
 
 pub returns-clause-tells : goal.returns-clause-tells
 returns-clause-tells g c =
-    schema_stops_at _ c.in_ok-name.name c.args.schema.now c.args.query.now c.args.folder.now c.in_ok-text.text c.as_slice.result.now _ _ c.in-Err.refusal
-    c.in_ok-name.ensures c.as_slice.ensures c.in_ok-text.ensures.says c.in_ok-text.ensures.names c.in-Err.ensures.says
+    reading_stops _ c.in_ok-name.name c.args.schema.now c.in_ok-text.text c.as_slice.result.now 1048576
+    (λ reading text. schema_read reading.schemas text) (λ reading files found. query_judged reading.queries files (aim_view c.args.aim) found c.args.query.now)
+    _ _ c.in-Err.refusal
+    c.in_ok-name.ensures c.as_slice.ensures c.in_ok-text.ensures.says c.in_ok-text.ensures.names
+    (λ reading. c.in-Err.ensures.says reading.schemas)

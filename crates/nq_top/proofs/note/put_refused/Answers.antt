@@ -5,3 +5,6 @@ returns-in-TooLong g c = rw c.in-TooLong.is (rw c.as_str.ensures.value at (rw c.
 
 pub returns-in-NotBuilt : goal.returns-in-NotBuilt
 returns-in-NotBuilt g c = rw c.in-NotBuilt.is c.put_one-in-NotBuilt.ensures
+
+pub returns-in-IllTyped : goal.returns-in-IllTyped
+returns-in-IllTyped g c = rw c.in-IllTyped.is c.put_ill_typed.ensures

@@ -1,0 +1,395 @@
+// Whole runs that read and type queries.
+use crate::tests::padded;
+use nq_edge::{HeldInputs, HeldSink};
+use nq_model::{List, Text};
+use nq_top::nq_main;
+use sql_profile::{ScanServer, SqlServer};
+use std::alloc::Global;
+use std::process::Abort;
+use std::test::Fail;
+
+const ORG: &str = "table departments (name: text);
+table employees (dept: text, name: text, salary: int);
+table tasks (employee: text, task: text);
+table contacts (dept: text, name: text, client: bool);
+";
+
+const DEPARTMENTS: &str = "name\nProduct\nQuality\nResearch\nSales\n";
+
+const EMPLOYEES: &str =
+    "dept,name,salary\nProduct,Alex,20000\nProduct,Bert,900\nSales,Erik,2000000\n";
+
+const TASKS: &str = "employee,task\nAlex,build\nBert,build\nErik,call\nErik,enthuse\n";
+
+const CONTACTS: &str = "dept,name,client\nProduct,Pam,false\nQuality,Quinn,true\nSales,Sue,true\n";
+
+const NAMES: &str =
+    "{(name = 'Product'), (name = 'Quality'), (name = 'Research'), (name = 'Sales')}\n";
+
+const NESTED: &str = "let tasksOf = fun (e: text) ->
+  for (t <- table tasks) where (t.employee == e) [t.task];
+for (d <- table departments)
+[(department = d.name,
+  employees = for (e <- table employees) where (e.dept == d.name)
+    [(name = e.name, tasks = tasksOf(e.name))])]
+";
+
+const HELP: &str = "nq answers typed queries over flat tables.
+
+nq run SCHEMA QUERY DIR     writes the value of the query over the tables of DIR
+nq check SCHEMA QUERY       writes ok where the query is accepted
+nq show types SCHEMA QUERY  writes the type of the query
+nq --help                   writes this text
+nq --version                writes the name and the version of the program
+
+SCHEMA and QUERY are files, and the table t is the file DIR/t.csv.
+README.md explains the statuses, under Commands.
+";
+
+// The words, the query, the numbers of the fetches that fail and the room of the output; and the status,
+// the output and the note that are wanted.
+#[derive(Clone, Copy)]
+struct Row {
+    words: &'static [&'static str],
+    query: &'static str,
+    failing: &'static [u64],
+    room: u64,
+    status: u8,
+    out: &'static str,
+    note: &'static str,
+}
+
+const CHECK: Row = Row {
+    words: &["check", "org", "q"],
+    query: "[1]",
+    failing: &[],
+    room: 2000,
+    status: 0,
+    out: "ok\n",
+    note: "",
+};
+
+const SHOW: Row = Row {
+    words: &["show", "types", "org", "q"],
+    out: "[int]\n",
+    ..CHECK
+};
+
+const RUN: Row = Row {
+    words: &["run", "org", "q", "data"],
+    query: "table departments",
+    out: NAMES,
+    ..CHECK
+};
+
+// A query that `check` refuses with a status and a note.
+const SYNTAX: Row = Row {
+    status: 4,
+    out: "",
+    ..CHECK
+};
+
+const TYPES: Row = Row {
+    status: 5,
+    out: "",
+    ..CHECK
+};
+
+const USAGE: Row = Row {
+    status: 2,
+    out: "",
+    note: "nq: usage\n",
+    ..CHECK
+};
+
+const ROWS: [Row; 40] = [
+    CHECK,
+    Row {
+        query: "[9223372036854775808]",
+        note: "nq: query refused: IntRange at 1\n",
+        ..SYNTAX
+    },
+    Row {
+        query: "[1 < 2 < 3]",
+        note: "nq: query refused: Unexpected at 7\n",
+        ..SYNTAX
+    },
+    Row {
+        query: "[x]",
+        note: "nq: query refused: Unbound at 1\n",
+        ..SYNTAX
+    },
+    Row {
+        query: "[(a = 1, a = 2)]",
+        note: "nq: query refused: TwiceLabel at 9\n",
+        ..SYNTAX
+    },
+    Row {
+        query: "",
+        note: "nq: query refused: Unexpected at 0\n",
+        ..SYNTAX
+    },
+    Row {
+        query: "[1 & 2]",
+        note: "nq: query refused: Token at 3\n",
+        ..SYNTAX
+    },
+    // `run` and `show types` read in the same way.
+    Row {
+        query: "[x]",
+        status: 4,
+        out: "",
+        note: "nq: query refused: Unbound at 1\n",
+        ..RUN
+    },
+    Row {
+        query: "[x]",
+        status: 4,
+        out: "",
+        note: "nq: query refused: Unbound at 1\n",
+        ..SHOW
+    },
+    Row {
+        query: "1 + 1",
+        note: "nq: ill typed: rule 23 at 2\n",
+        ..TYPES
+    },
+    Row {
+        query: "[fun (x: int) -> x]",
+        note: "nq: ill typed: rule 17 at 0\n",
+        ..TYPES
+    },
+    Row {
+        query: "for (d <- table departments) [d.a]",
+        note: "nq: ill typed: rule 15 at 31\n",
+        ..TYPES
+    },
+    Row {
+        query: "table nobody",
+        note: "nq: ill typed: rule 5 at 0\n",
+        ..TYPES
+    },
+    Row {
+        query: "[(f = 1)]",
+        ..CHECK
+    },
+    Row {
+        query: "table nobody",
+        status: 5,
+        out: "",
+        note: "nq: ill typed: rule 5 at 0\n",
+        ..RUN
+    },
+    // A query that is ill typed is refused for that, before it is no form that is built.
+    Row {
+        query: "1 + 1",
+        status: 5,
+        out: "",
+        note: "nq: ill typed: rule 23 at 2\n",
+        ..RUN
+    },
+    Row {
+        query: "[1]",
+        status: 13,
+        out: "",
+        note: "nq: not built\n",
+        ..RUN
+    },
+    Row {
+        query: "(table departments) ++ [: (name: text)]",
+        status: 13,
+        out: "",
+        note: "nq: not built\n",
+        ..RUN
+    },
+    RUN,
+    Row {
+        query: "# all of them\n((table # by name\n departments)) # and no more",
+        ..RUN
+    },
+    Row {
+        query: NESTED,
+        ..CHECK
+    },
+    Row {
+        query: NESTED,
+        out: "[(department: text, employees: [(name: text, tasks: [text])])]\n",
+        ..SHOW
+    },
+    SHOW,
+    // Labels stand in byte order.
+    Row {
+        query: "table employees",
+        out: "[(dept: text, name: text, salary: int)]\n",
+        ..SHOW
+    },
+    Row {
+        query: "[(b = 1, a = [(c = true)])]",
+        out: "[(a: [(c: bool)], b: int)]\n",
+        ..SHOW
+    },
+    // The schema and the query are fetched, and nothing else.
+    Row {
+        failing: &[3],
+        ..CHECK
+    },
+    Row {
+        failing: &[1],
+        status: 7,
+        out: "",
+        note: "nq: input failed: org\n",
+        ..CHECK
+    },
+    Row {
+        failing: &[2],
+        status: 7,
+        out: "",
+        note: "nq: input failed: q\n",
+        ..SHOW
+    },
+    Row {
+        room: 2,
+        status: 8,
+        out: "ok",
+        note: "nq: output failed\n",
+        ..CHECK
+    },
+    Row {
+        words: &["--help"],
+        failing: &[1],
+        out: HELP,
+        ..CHECK
+    },
+    Row {
+        words: &["--version"],
+        failing: &[1],
+        out: "nq 0.1.0\n",
+        ..CHECK
+    },
+    Row {
+        words: &["--version"],
+        room: 4,
+        status: 8,
+        out: "nq 0",
+        note: "nq: output failed\n",
+        ..CHECK
+    },
+    Row {
+        words: &["--help", "run"],
+        ..USAGE
+    },
+    Row {
+        words: &["help"],
+        ..USAGE
+    },
+    Row {
+        words: &["check", "org"],
+        ..USAGE
+    },
+    Row {
+        words: &["check", "org", "q", "data"],
+        ..USAGE
+    },
+    Row {
+        words: &["run", "org", "q"],
+        ..USAGE
+    },
+    Row {
+        words: &["show", "types", "org"],
+        ..USAGE
+    },
+    Row {
+        words: &["show", "tables", "org", "q"],
+        ..USAGE
+    },
+    Row {
+        words: &["Check", "org", "q"],
+        ..USAGE
+    },
+];
+
+// The inputs of a row, whose query is this text.
+fn inputs_of(alloc: Global, row: &Row, query: List<u8>) -> Result<HeldInputs, Fail> {
+    let failing = List::from_slice(alloc, row.failing)?;
+    let mut files = List::new(alloc);
+    files.push((Text::from_str(alloc, "org")?, padded(alloc, 0, ORG)?))?;
+    files.push((Text::from_str(alloc, "q")?, query))?;
+    let departments = padded(alloc, 0, DEPARTMENTS)?;
+    files.push((Text::from_str(alloc, "data/departments.csv")?, departments))?;
+    let employees = padded(alloc, 0, EMPLOYEES)?;
+    files.push((Text::from_str(alloc, "data/employees.csv")?, employees))?;
+    let tasks = padded(alloc, 0, TASKS)?;
+    files.push((Text::from_str(alloc, "data/tasks.csv")?, tasks))?;
+    let contacts = padded(alloc, 0, CONTACTS)?;
+    files.push((Text::from_str(alloc, "data/contacts.csv")?, contacts))?;
+    Ok(HeldInputs::new(alloc, files, failing)?)
+}
+
+// Runs a row, whose query is this text.
+fn run_row(rt: &impl Abort, alloc: Global, row: &Row, query: List<u8>) -> Result<(), Fail> {
+    let mut words = Vec::new(alloc);
+    for word in row.words {
+        words.push(String::from_str(alloc, word)?)?;
+    }
+    let mut inputs = inputs_of(alloc, row, query)?;
+    let mut out = HeldSink::new(alloc, row.room)?;
+    let mut notes = HeldSink::new(alloc, 200)?;
+    let server: Box<dyn SqlServer> = Box::new(alloc, ScanServer::new(alloc))?;
+    let status = nq_main(
+        alloc,
+        words.as_slice(),
+        &mut inputs,
+        &mut out,
+        &mut notes,
+        server,
+    );
+    assert_eq!(rt; status, row.status, "{} {}", row.query, row.note);
+    assert_eq!(rt; out.bytes(), row.out.as_bytes());
+    assert_eq!(rt; notes.bytes(), row.note.as_bytes());
+    Ok(())
+}
+
+// So many opening brackets, a number, and as many closing ones.
+fn brackets(alloc: Global, depth: usize) -> Result<List<u8>, Fail> {
+    let mut bytes = List::new(alloc);
+    for _ in 0..depth {
+        bytes.push(b'[')?;
+    }
+    bytes.push(b'1')?;
+    for _ in 0..depth {
+        bytes.push(b']')?;
+    }
+    Ok(bytes)
+}
+
+#[test]
+fn runs_each_row(rt: HostRuntime) -> Result<(), Fail> {
+    let alloc = rt.alloc();
+    for row in &ROWS {
+        run_row(&rt, alloc, row, padded(alloc, 0, row.query)?)?;
+    }
+    // The greatest depth is 200, and a number has depth 1.
+    run_row(&rt, alloc, &CHECK, brackets(alloc, 199)?)?;
+    let deep = Row {
+        note: "nq: query refused: Deep at 200\n",
+        ..SYNTAX
+    };
+    run_row(&rt, alloc, &deep, brackets(alloc, 200)?)?;
+    // The longest query, and one that is a byte longer.
+    let blank = 1_048_576 - 3;
+    run_row(&rt, alloc, &CHECK, padded(alloc, blank, "[1]")?)?;
+    let not_built = Row {
+        status: 13,
+        out: "",
+        note: "nq: not built\n",
+        ..RUN
+    };
+    run_row(&rt, alloc, &not_built, padded(alloc, blank, "[1]")?)?;
+    let long = Row {
+        status: 10,
+        out: "",
+        note: "nq: input too long: q over 1048576\n",
+        ..RUN
+    };
+    run_row(&rt, alloc, &long, padded(alloc, blank + 1, "[1]")?)
+}

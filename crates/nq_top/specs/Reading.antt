@@ -1,0 +1,71 @@
+-- What the texts of a schema, of a query and of a table are read as: what each spells, or why it is refused.
+use Rattle.std.specs.Prelude.{◌≢◌, ℕ, List, Result, Ok, Err}
+use Rattle.nq_model.specs.Judging.{BrokenRule, program_judged}
+use Rattle.nq_model.specs.QueryTexts.{Spells, HasFault, Fault}
+use Rattle.nq_model.specs.Terms.{PlacedTerm}
+use Rattle.nq_model.specs.Types.{TypeTree}
+use Rattle.nq_model.specs.declared.table.Cell.{Cell}
+use Rattle.nq_model.specs.declared.table.Schema.{Schema}
+use Rattle.nq_model.specs.declared.table.TableShape.{TableShape}
+use Rattle.nq_parser.specs.declared.fault.SyntaxFault.{SyntaxFault}
+use Rattle.nq_parser.specs.declared.fault.SyntaxFault.TheVariants as syntax
+use Rattle.schema_reader.specs.Answers.{Reads}
+use Rattle.schema_reader.specs.declared.fault.SchemaFault.{SchemaFault}
+use Rattle.schema_reader.specs.declared.fault.SchemaFault.TheVariants as fault
+use Rattle.table_reader.specs.Tables.{table_of}
+use Rattle.nq_top.specs.declared.refusal.Refused.{Refused}
+use Rattle.nq_top.specs.declared.refusal.Refused.TheVariants.{Schema as SchemaRefused, Query as QueryRefused, IllTyped, Table as TableRefused}
+
+-- Schema texts as they are read: to each the schema that it spells, or its one fault. There is one such
+-- reading, since each text spells one schema or has one fault, and not both.
+pub record SchemaReading : Type 0 where
+  pub says : List ℕ → Result Schema SchemaFault
+  pub right : (text : List ℕ) → Reads (says text) text
+  pub certain : (text : List ℕ) → says text ≢ Err fault.Memory
+
+-- the text spells the term at depth 200, or has the fault
+abbrev pub ReadsQuery : Result PlacedTerm SyntaxFault → List ℕ → Type 0
+ReadsQuery (Ok term) text = Spells 200 text term
+ReadsQuery (Err syntax.Memory) text = ⊥
+ReadsQuery (Err (syntax.NotUtf8 place)) text = HasFault 200 text Fault.not_utf8 place
+ReadsQuery (Err (syntax.Token place)) text = HasFault 200 text Fault.token place
+ReadsQuery (Err (syntax.Unexpected place)) text = HasFault 200 text Fault.unexpected place
+ReadsQuery (Err (syntax.IntRange place)) text = HasFault 200 text Fault.int_range place
+ReadsQuery (Err (syntax.Deep place)) text = HasFault 200 text Fault.deep place
+ReadsQuery (Err (syntax.Unbound place)) text = HasFault 200 text Fault.unbound place
+ReadsQuery (Err (syntax.TwiceLabel place)) text = HasFault 200 text Fault.twice_label place
+
+-- Query texts as they are read: to each the term that it spells, or its one fault. There is one such
+-- reading, since each text spells one term or has one fault, and not both.
+pub record QueryReading : Type 0 where
+  pub says : List ℕ → Result PlacedTerm SyntaxFault
+  pub right : (text : List ℕ) → ReadsQuery (says text) text
+
+-- texts as they are read
+pub record Reading : Type 0 where
+  pub schemas : SchemaReading
+  pub queries : QueryReading
+
+-- a fault as what it is refused for
+abbrev pub refused_as : {A F : Type 0} → (F → Refused) → Result A F → Result A Refused
+refused_as name (Ok a) = Ok a
+refused_as name (Err fault) = Err (name fault)
+
+-- the schema that a text spells
+unfoldable pub schema_read : SchemaReading → List ℕ → Result Schema Refused
+schema_read reading text = refused_as SchemaRefused (reading.says text)
+
+-- the term that a text spells
+unfoldable pub term_read : QueryReading → List ℕ → Result PlacedTerm Refused
+term_read reading text = refused_as QueryRefused (reading.says text)
+
+abbrev pub ill_typed : BrokenRule → Refused
+ill_typed broken = IllTyped broken.rule broken.place
+
+-- the type of a term over a schema, or the first broken rule
+unfoldable pub type_read : Schema → PlacedTerm → Result TypeTree Refused
+type_read schema term = refused_as ill_typed (program_judged schema term)
+
+-- the rows that a text gives for a table
+unfoldable pub rows_read : TableShape → List ℕ → Result (List (List Cell)) Refused
+rows_read shape text = refused_as (TableRefused shape.name) (table_of shape text)

@@ -1,0 +1,35 @@
+// The texts on the program.
+ghost use Rattle.std.specs.Prelude.{◌≡◌, IfOk};
+ghost use Rattle.nq_top.specs.Help.{help_text, version_text};
+
+use nq_model::{List, Memory};
+use std::alloc::Global;
+
+/// The listed forms of words, a line for each.
+#[tactic(auto, unfolding(crate::specs::Help::help_text))]
+pub fn help_text(alloc: Global) -> Result<List<u8>, Memory>
+    ensures { IfOk result (λ text. text ≡ help_text) }
+{
+    List::from_slice(
+        alloc,
+        b"nq answers typed queries over flat tables.
+
+nq run SCHEMA QUERY DIR     writes the value of the query over the tables of DIR
+nq check SCHEMA QUERY       writes ok where the query is accepted
+nq show types SCHEMA QUERY  writes the type of the query
+nq --help                   writes this text
+nq --version                writes the name and the version of the program
+
+SCHEMA and QUERY are files, and the table t is the file DIR/t.csv.
+README.md explains the statuses, under Commands.
+",
+    )
+}
+
+/// The name and the version of the program.
+#[tactic(auto, unfolding(crate::specs::Help::version_text))]
+pub fn version_text(alloc: Global) -> Result<List<u8>, Memory>
+    ensures { IfOk result (λ text. text ≡ version_text) }
+{
+    List::from_slice(alloc, b"nq 0.1.0\n")
+}
