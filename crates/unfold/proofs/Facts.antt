@@ -4,8 +4,10 @@ use Rattle.std.proofs.lemmas.List.{reverse-append, map-append}
 use Rattle.std.specs.Prelude.{MatchOption}
 use Rattle.nq_model.specs.declared.term.Term.{Term}
 use Rattle.unfold.specs.declared.built.Built.{Built}
-use Rattle.nq_model.specs.Terms.{PlacedTerm, PlacedNode, PlacedFields, at, placed, placed_fields_of}
-use Rattle.nq_model.specs.Substitution.{shift, shift_fields}
+use Rattle.nq_model.specs.declared.term.Node.TheVariants.{Rec}
+use Rattle.nq_model.specs.Terms.{PlacedTerm, PlacedNode, PlacedFields, at, placed, placed_node, placed_fields, placed_fields_of}
+use Rattle.nq_model.specs.Substitution.{shift, shift_fields, fields_with_places}
+use Rattle.nq_model.proofs.Terms.{placed_term, node_record}
 use Rattle.nq_model.specs.Unfolding.{picked}
 use Rattle.unfold.specs.Hereditary.{or_else, field_by, substitute, substitute_fields, apply_by, apply_at, walk, walk_fields}
 
@@ -48,6 +50,16 @@ substitute_fields-of app c s (f ∷ fs) = ap (PlacedFields.with_field f.0 (subst
 pub walk_fields-of : (n : ℕ) (fs : List (List ℕ × PlacedTerm)) → walk_fields n (placed_fields_of fs) ≡ placed_fields_of (map (λ f. (f.0, walk n f.1)) fs)
 walk_fields-of n [] = refl
 walk_fields-of n (f ∷ fs) = ap (PlacedFields.with_field f.0 (walk n f.1)) (walk_fields-of n fs)
+
+-- a choice between equal terms
+pub same_branches : (p : ℕ) (x y n v w : PlacedTerm) → y ≡ v → n ≡ w → at p (PlacedNode.choose x y n) ≡ at p (PlacedNode.choose x v w)
+same_branches p x y n v w e f = ap (λ z. at p (PlacedNode.choose x z n)) e ∙ ap (λ z. at p (PlacedNode.choose x v z)) f
+
+-- a record over fields to which something was done
+pub record_made : (f : PlacedTerm → PlacedTerm) (each : PlacedFields → PlacedFields) → ((p : ℕ) (fs : PlacedFields) → f (at p (PlacedNode.rec fs)) ≡ at p (PlacedNode.rec (each fs))) → ((fs : List (List ℕ × PlacedTerm)) → each (placed_fields_of fs) ≡ placed_fields_of (map (λ x. (x.0, f x.1)) fs)) → (t : Term) (fs gs : List (List ℕ × Term)) → t.node ≡ Rec fs → fields_with_places gs ≡ map (λ x. (x.0, f x.1)) (fields_with_places fs) → at t.place (PlacedNode.rec (placed_fields gs)) ≡ f (placed t)
+record_made f each is of t fs gs old h =
+    let a : placed t ≡ at t.place (PlacedNode.rec (placed_fields fs)) = placed_term t ∙ ap (at t.place) (ap placed_node old ∙ node_record fs) in
+    ap (λ x. at t.place (PlacedNode.rec (placed_fields_of x))) h ∙ ap (λ x. at t.place (PlacedNode.rec x)) (sym (of (fields_with_places fs))) ∙ sym (is t.place (placed_fields fs)) ∙ ap f (sym a)
 
 app_nil : {A : Type 0} (xs : List A) → xs ++ [] ≡ xs
 app_nil [] = refl

@@ -4,9 +4,9 @@ ghost use Rattle.nq_model.specs.Terms.{placed, at, PlacedNode, placed_fields};
 ghost use Rattle.nq_model.specs.Unfolding.{picked};
 ghost use Rattle.unfold.specs.Hereditary.{field_by};
 
-use crate::built::{Built, further, grown};
-use crate::substitute::chosen;
-use nq_model::{Label, List, Memory, Node, Term, boxed};
+use crate::built::{Built, further};
+use crate::forms::{chosen, of_field};
+use nq_model::{Label, List, Memory, Node, Term};
 use std::alloc::Global;
 
 /// What becomes of the field `label` of a done term.
@@ -70,21 +70,6 @@ pub(crate) fn field(
             label,
         ),
     }
-}
-
-// A field that is not contracted.
-fn of_field(alloc: Global, place: u64, of: Built<Term>, label: Label) -> Result<Built<Term>, Memory>
-    ensures { IfOk result (λ b. placed b.term ≡ at place (PlacedNode.field (placed of.term) label)) }
-{
-    let deep = of.deep;
-    let of = boxed(alloc, of.term)?;
-    grown(
-        deep,
-        Term {
-            place,
-            node: Node::Field { of, label },
-        },
-    )
 }
 
 // Where the first field of that label stands.

@@ -3,6 +3,7 @@
 
 mod built;
 mod field;
+mod forms;
 mod fuel;
 mod laws;
 mod slot;

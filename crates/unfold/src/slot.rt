@@ -41,6 +41,7 @@ fn take(alloc: Global, under: u64, slot: &mut Slot) -> Result<Built<Term>, Memor
 }
 
 /// What stands for the variable `k` of that place, where the slot is for the variable `from`.
+#[inline(never)]
 pub(crate) fn put(
     alloc: Global,
     place: u64,

@@ -4,11 +4,15 @@
 ghost use Rattle.std.specs.Prelude.{◌≡◌, map, IfOk};
 ghost use Rattle.nq_model.specs.Terms.{placed, at, PlacedNode};
 ghost use Rattle.nq_model.specs.Substitution.{fields_with_places};
-ghost use Rattle.unfold.specs.Hereditary.{substitute, apply_by, apply_at};
+ghost use Rattle.unfold.specs.Hereditary.{substitute, apply_by, apply_at, field_by};
 ghost use Rattle.unfold.specs.Slots.{Puts};
 
-use crate::built::{Built, further, grown, leaf, one_more};
+use crate::built::{Built, further, leaf, one_more};
 use crate::field::field;
+use crate::forms::{
+    Part, applied, binary, binding, choice, chosen, comprehension, emptiness, function, guard,
+    single, unary, union, with_fields,
+};
 use crate::slot::{Slot, put};
 use crate::uses::uses;
 use nq_model::{Label, List, Memory, Node, Term, boxed};
@@ -31,182 +35,104 @@ pub(crate) fn substitute(
     let Term { place, node } = term;
     match node {
         Node::Var(k) => put(alloc, place, k, from, by),
-        Node::Int(n) => Ok(leaf(Term {
-            place,
-            node: Node::Int(n),
-        })),
-        Node::Bool(b) => Ok(leaf(Term {
-            place,
-            node: Node::Bool(b),
-        })),
-        Node::Text(text) => Ok(leaf(Term {
-            place,
-            node: Node::Text(text),
-        })),
-        Node::Table(label) => Ok(leaf(Term {
-            place,
-            node: Node::Table(label),
-        })),
+        Node::Int(_) | Node::Bool(_) | Node::Text(_) | Node::Table(_) | Node::Nil(_) => {
+            Ok(leaf(Term { place, node }))
+        }
         Node::Unary { op, of } => {
             let of = substitute_box(alloc, rank, room, from, by, of)?;
-            grown(
-                of.deep,
-                Term {
-                    place,
-                    node: Node::Unary { op, of: of.term },
-                },
-            )
+            unary(place, op, of)
         }
         Node::Binary { op, left, right } => {
             let left = substitute_box(alloc, rank, room, from, by, left)?;
             let right = substitute_box(alloc, rank, room, from, by, right)?;
-            grown(
-                left.deep.max(right.deep),
-                Term {
-                    place,
-                    node: Node::Binary {
-                        op,
-                        left: left.term,
-                        right: right.term,
-                    },
-                },
-            )
+            binary(place, op, left, right)
         }
         Node::If { test, yes, no } => {
             let test = substitute_box(alloc, rank, room, from, by, test)?;
             let yes = substitute_box(alloc, rank, room, from, by, yes)?;
             let no = substitute_box(alloc, rank, room, from, by, no)?;
-            grown(
-                test.deep.max(yes.deep).max(no.deep),
-                Term {
-                    place,
-                    node: Node::If {
-                        test: test.term,
-                        yes: yes.term,
-                        no: no.term,
-                    },
-                },
-            )
+            choice(place, test, yes, no)
         }
         Node::Fun { taken, body } => {
             let body = substitute_box(alloc, rank, room, one_more(from)?, by, body)?;
-            grown(
-                body.deep,
-                Term {
-                    place,
-                    node: Node::Fun {
-                        taken,
-                        body: body.term,
-                    },
-                },
-            )
+            function(place, taken, body)
         }
         Node::Apply { func, arg } => {
-            let func = substitute(alloc, rank, room, from, by, Box::into_inner(func))?;
-            let arg = substitute(alloc, rank, room, from, by, Box::into_inner(arg))?;
-            apply(alloc, rank, room, place, func, arg)
+            substitute_apply(alloc, rank, room, from, by, place, func, arg)
         }
         Node::Rec(fields) => {
             let fields = substitute_fields(alloc, rank, room, from, by, fields)?;
-            grown(
-                fields.deep,
-                Term {
-                    place,
-                    node: Node::Rec(fields.term),
-                },
-            )
+            with_fields(place, fields)
         }
         Node::Field { of, label } => {
-            let of = substitute(alloc, rank, room, from, by, Box::into_inner(of))?;
-            field(alloc, room, place, label, of)
+            substitute_field(alloc, rank, room, from, by, place, of, label)
         }
-        Node::Empty(of) => {
-            let of = substitute_box(alloc, rank, room, from, by, of)?;
-            grown(
-                of.deep,
-                Term {
-                    place,
-                    node: Node::Empty(of.term),
-                },
-            )
-        }
-        Node::Single(of) => {
-            let of = substitute_box(alloc, rank, room, from, by, of)?;
-            grown(
-                of.deep,
-                Term {
-                    place,
-                    node: Node::Single(of.term),
-                },
-            )
-        }
-        Node::Nil(element) => Ok(leaf(Term {
-            place,
-            node: Node::Nil(element),
-        })),
+        Node::Empty(of) => emptiness(place, substitute_box(alloc, rank, room, from, by, of)?),
+        Node::Single(of) => single(place, substitute_box(alloc, rank, room, from, by, of)?),
         Node::Union { left, right } => {
             let left = substitute_box(alloc, rank, room, from, by, left)?;
             let right = substitute_box(alloc, rank, room, from, by, right)?;
-            grown(
-                left.deep.max(right.deep),
-                Term {
-                    place,
-                    node: Node::Union {
-                        left: left.term,
-                        right: right.term,
-                    },
-                },
-            )
+            union(place, left, right)
         }
-        Node::For {
-            source,
-            body: element,
-        } => {
+        Node::For { source, body } => {
             let source = substitute_box(alloc, rank, room, from, by, source)?;
-            let element = substitute_box(alloc, rank, room, one_more(from)?, by, element)?;
-            grown(
-                source.deep.max(element.deep),
-                Term {
-                    place,
-                    node: Node::For {
-                        source: source.term,
-                        body: element.term,
-                    },
-                },
-            )
+            let body = substitute_box(alloc, rank, room, one_more(from)?, by, body)?;
+            comprehension(place, source, body)
         }
         Node::Guard { test, body } => {
             let test = substitute_box(alloc, rank, room, from, by, test)?;
             let body = substitute_box(alloc, rank, room, from, by, body)?;
-            grown(
-                test.deep.max(body.deep),
-                Term {
-                    place,
-                    node: Node::Guard {
-                        test: test.term,
-                        body: body.term,
-                    },
-                },
-            )
+            guard(place, test, body)
         }
-        Node::Bind { value, body: rest } => {
+        Node::Bind { value, body } => {
             let value = substitute_box(alloc, rank, room, from, by, value)?;
-            let rest = substitute_box(alloc, rank, room, one_more(from)?, by, rest)?;
-            grown(
-                value.deep.max(rest.deep),
-                Term {
-                    place,
-                    node: Node::Bind {
-                        value: value.term,
-                        body: rest.term,
-                    },
-                },
-            )
+            let body = substitute_box(alloc, rank, room, one_more(from)?, by, body)?;
+            binding(place, value, body)
         }
     }
 }
 
+// The parts that follow have frames of their own, so that those of `substitute` stay small.
+
 #[cycle(hereditary)]
+#[inline(never)]
+fn substitute_apply(
+    alloc: Global,
+    rank: u64,
+    room: u64,
+    from: u64,
+    by: &mut Slot,
+    place: u64,
+    func: Box<Term>,
+    arg: Box<Term>,
+) -> Result<Built<Term>, Memory>
+    ensures { IfOk result (λ b. Puts by.old by.new (λ s. placed b.term ≡ apply_at rank place (substitute (apply_at rank) from s (placed func.value)) (substitute (apply_at rank) from s (placed arg.value)))) }
+{
+    let func = substitute(alloc, rank, room, from, by, Box::into_inner(func))?;
+    let arg = substitute(alloc, rank, room, from, by, Box::into_inner(arg))?;
+    apply(alloc, rank, room, place, func, arg)
+}
+
+#[cycle(hereditary)]
+#[inline(never)]
+fn substitute_field(
+    alloc: Global,
+    rank: u64,
+    room: u64,
+    from: u64,
+    by: &mut Slot,
+    place: u64,
+    of: Box<Term>,
+    label: Label,
+) -> Result<Built<Term>, Memory>
+    ensures { IfOk result (λ b. Puts by.old by.new (λ s. placed b.term ≡ field_by place label (substitute (apply_at rank) from s (placed of.value)))) }
+{
+    let of = substitute(alloc, rank, room, from, by, Box::into_inner(of))?;
+    field(alloc, room, place, label, of)
+}
+
+#[cycle(hereditary)]
+#[inline(never)]
 fn substitute_box(
     alloc: Global,
     rank: u64,
@@ -214,7 +140,7 @@ fn substitute_box(
     from: u64,
     by: &mut Slot,
     term: Box<Term>,
-) -> Result<Built<Box<Term>>, Memory>
+) -> Result<Part, Memory>
     ensures { IfOk result (λ b. Puts by.old by.new (λ s. placed b.term.value ≡ substitute (apply_at rank) from s (placed term.value))) }
 {
     let done = substitute(alloc, rank, room, from, by, Box::into_inner(term))?;
@@ -226,6 +152,7 @@ fn substitute_box(
 }
 
 #[cycle(hereditary)]
+#[inline(never)]
 fn substitute_fields(
     alloc: Global,
     rank: u64,
@@ -274,6 +201,7 @@ pub(crate) fn apply(
 
 // The same, where what the body of the function applies may be applied at `rank`.
 #[cycle(hereditary)]
+#[inline(never)]
 fn apply_above(
     alloc: Global,
     rank: u64,
@@ -301,21 +229,7 @@ fn apply_above(
             substitute(alloc, rank, room, 0, &mut slot, body)
         }
         Node::If { test, yes, no } => {
-            let again = Built {
-                term: arg.term.copy(alloc)?,
-                deep: arg.deep,
-            };
-            let yes = Built {
-                term: Box::into_inner(yes),
-                deep,
-            };
-            let no = Built {
-                term: Box::into_inner(no),
-                deep,
-            };
-            let yes = apply_above(alloc, rank, room, place, yes, again)?;
-            let no = apply_above(alloc, rank, room, place, no, arg)?;
-            chosen(alloc, place, deep, test, yes, no)
+            apply_branches(alloc, rank, room, place, deep, test, yes, no, arg)
         }
         other => applied(
             alloc,
@@ -332,46 +246,30 @@ fn apply_above(
     }
 }
 
-/// A choice between two done terms, of which the test is at most `deep` deep.
-pub(crate) fn chosen(
+// A choice between the applications of two done functions, where the choice was `deep` deep.
+#[cycle(hereditary)]
+#[inline(never)]
+fn apply_branches(
     alloc: Global,
+    rank: u64,
+    room: u64,
     place: u64,
     deep: u64,
     test: Box<Term>,
-    yes: Built<Term>,
-    no: Built<Term>,
-) -> Result<Built<Term>, Memory>
-    ensures { IfOk result (λ b. placed b.term ≡ at place (PlacedNode.choose (placed test.value) (placed yes.term) (placed no.term))) }
-{
-    let deep = deep.max(yes.deep).max(no.deep);
-    let yes = boxed(alloc, yes.term)?;
-    let no = boxed(alloc, no.term)?;
-    grown(
-        deep,
-        Term {
-            place,
-            node: Node::If { test, yes, no },
-        },
-    )
-}
-
-// An application that is not contracted.
-fn applied(
-    alloc: Global,
-    place: u64,
-    func: Built<Term>,
+    yes: Box<Term>,
+    no: Box<Term>,
     arg: Built<Term>,
 ) -> Result<Built<Term>, Memory>
-    ensures { IfOk result (λ b. placed b.term ≡ at place (PlacedNode.apply (placed func.term) (placed arg.term))) }
+    ensures { IfOk result (λ b. placed b.term ≡ at place (PlacedNode.choose (placed test.value) (apply_by (substitute (apply_at rank) 0) place (placed yes.value) (placed arg.term)) (apply_by (substitute (apply_at rank) 0) place (placed no.value) (placed arg.term)))) }
 {
-    let deep = func.deep.max(arg.deep);
-    let func = boxed(alloc, func.term)?;
-    let arg = boxed(alloc, arg.term)?;
-    grown(
-        deep,
-        Term {
-            place,
-            node: Node::Apply { func, arg },
-        },
-    )
+    let again = arg.term.copy(alloc)?;
+    let again = Built {
+        term: again,
+        deep: arg.deep,
+    };
+    let yes = Box::into_inner(yes);
+    let no = Box::into_inner(no);
+    let yes = apply_above(alloc, rank, room, place, Built { term: yes, deep }, again)?;
+    let no = apply_above(alloc, rank, room, place, Built { term: no, deep }, arg)?;
+    chosen(alloc, place, deep, test, yes, no)
 }

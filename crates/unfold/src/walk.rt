@@ -5,11 +5,15 @@ ghost use Rattle.nq_model.specs.Terms.{placed, term_tree};
 ghost use Rattle.nq_model.specs.Substitution.{fields_with_places};
 ghost use Rattle.nq_model.specs.Typing.{IsAccepted};
 ghost use Rattle.unfold.specs.Depths.{term_depth};
-ghost use Rattle.unfold.specs.Hereditary.{walk, unfolded, substitute, apply_at};
+ghost use Rattle.unfold.specs.Hereditary.{walk, unfolded, substitute, apply_at, field_by};
 ghost use Rattle.unfold.specs.Unfolded.{IsUnfolding};
 
-use crate::built::{Built, depth, further, grown, leaf};
+use crate::built::{Built, depth, further, leaf};
 use crate::field::field;
+use crate::forms::{
+    Part, binary, choice, comprehension, emptiness, function, guard, single, unary, union,
+    with_fields,
+};
 use crate::fuel::fuel;
 use crate::slot::Slot;
 use crate::substitute::{apply, substitute};
@@ -54,182 +58,57 @@ fn walk(alloc: Global, rank: u64, room: u64, term: Term) -> Result<Built<Term>, 
     let room = further(room)?;
     let Term { place, node } = term;
     match node {
-        Node::Var(k) => Ok(leaf(Term {
-            place,
-            node: Node::Var(k),
-        })),
-        Node::Int(n) => Ok(leaf(Term {
-            place,
-            node: Node::Int(n),
-        })),
-        Node::Bool(b) => Ok(leaf(Term {
-            place,
-            node: Node::Bool(b),
-        })),
-        Node::Text(text) => Ok(leaf(Term {
-            place,
-            node: Node::Text(text),
-        })),
-        Node::Table(label) => Ok(leaf(Term {
-            place,
-            node: Node::Table(label),
-        })),
-        Node::Unary { op, of } => {
-            let of = walk_box(alloc, rank, room, of)?;
-            grown(
-                of.deep,
-                Term {
-                    place,
-                    node: Node::Unary { op, of: of.term },
-                },
-            )
-        }
+        Node::Var(_)
+        | Node::Int(_)
+        | Node::Bool(_)
+        | Node::Text(_)
+        | Node::Table(_)
+        | Node::Nil(_) => Ok(leaf(Term { place, node })),
+        Node::Unary { op, of } => unary(place, op, walk_box(alloc, rank, room, of)?),
         Node::Binary { op, left, right } => {
             let left = walk_box(alloc, rank, room, left)?;
             let right = walk_box(alloc, rank, room, right)?;
-            grown(
-                left.deep.max(right.deep),
-                Term {
-                    place,
-                    node: Node::Binary {
-                        op,
-                        left: left.term,
-                        right: right.term,
-                    },
-                },
-            )
+            binary(place, op, left, right)
         }
         Node::If { test, yes, no } => {
             let test = walk_box(alloc, rank, room, test)?;
             let yes = walk_box(alloc, rank, room, yes)?;
             let no = walk_box(alloc, rank, room, no)?;
-            grown(
-                test.deep.max(yes.deep).max(no.deep),
-                Term {
-                    place,
-                    node: Node::If {
-                        test: test.term,
-                        yes: yes.term,
-                        no: no.term,
-                    },
-                },
-            )
+            choice(place, test, yes, no)
         }
-        Node::Fun { taken, body } => {
-            let body = walk_box(alloc, rank, room, body)?;
-            grown(
-                body.deep,
-                Term {
-                    place,
-                    node: Node::Fun {
-                        taken,
-                        body: body.term,
-                    },
-                },
-            )
-        }
-        Node::Apply { func, arg } => {
-            let func = walk(alloc, rank, room, Box::into_inner(func))?;
-            let arg = walk(alloc, rank, room, Box::into_inner(arg))?;
-            apply(alloc, rank, room, place, func, arg)
-        }
+        Node::Fun { taken, body } => function(place, taken, walk_box(alloc, rank, room, body)?),
+        Node::Apply { func, arg } => walk_apply(alloc, rank, room, place, func, arg),
         Node::Rec(fields) => {
             let fields = walk_fields(alloc, rank, room, fields)?;
-            grown(
-                fields.deep,
-                Term {
-                    place,
-                    node: Node::Rec(fields.term),
-                },
-            )
+            with_fields(place, fields)
         }
-        Node::Field { of, label } => {
-            let of = walk(alloc, rank, room, Box::into_inner(of))?;
-            field(alloc, room, place, label, of)
-        }
-        Node::Empty(of) => {
-            let of = walk_box(alloc, rank, room, of)?;
-            grown(
-                of.deep,
-                Term {
-                    place,
-                    node: Node::Empty(of.term),
-                },
-            )
-        }
-        Node::Single(of) => {
-            let of = walk_box(alloc, rank, room, of)?;
-            grown(
-                of.deep,
-                Term {
-                    place,
-                    node: Node::Single(of.term),
-                },
-            )
-        }
-        Node::Nil(element) => Ok(leaf(Term {
-            place,
-            node: Node::Nil(element),
-        })),
+        Node::Field { of, label } => walk_field(alloc, rank, room, place, of, label),
+        Node::Empty(of) => emptiness(place, walk_box(alloc, rank, room, of)?),
+        Node::Single(of) => single(place, walk_box(alloc, rank, room, of)?),
         Node::Union { left, right } => {
             let left = walk_box(alloc, rank, room, left)?;
             let right = walk_box(alloc, rank, room, right)?;
-            grown(
-                left.deep.max(right.deep),
-                Term {
-                    place,
-                    node: Node::Union {
-                        left: left.term,
-                        right: right.term,
-                    },
-                },
-            )
+            union(place, left, right)
         }
-        Node::For {
-            source,
-            body: element,
-        } => {
+        Node::For { source, body } => {
             let source = walk_box(alloc, rank, room, source)?;
-            let element = walk_box(alloc, rank, room, element)?;
-            grown(
-                source.deep.max(element.deep),
-                Term {
-                    place,
-                    node: Node::For {
-                        source: source.term,
-                        body: element.term,
-                    },
-                },
-            )
+            let body = walk_box(alloc, rank, room, body)?;
+            comprehension(place, source, body)
         }
         Node::Guard { test, body } => {
             let test = walk_box(alloc, rank, room, test)?;
             let body = walk_box(alloc, rank, room, body)?;
-            grown(
-                test.deep.max(body.deep),
-                Term {
-                    place,
-                    node: Node::Guard {
-                        test: test.term,
-                        body: body.term,
-                    },
-                },
-            )
+            guard(place, test, body)
         }
-        Node::Bind { value, body: rest } => {
-            let rest = walk(alloc, rank, room, Box::into_inner(rest))?;
-            bind(alloc, rank, room, value, rest.term)
-        }
+        Node::Bind { value, body } => walk_bind(alloc, rank, room, value, body),
     }
 }
 
+// The parts that follow have frames of their own, so that those of a walk stay small.
+
 #[cycle(walk)]
-fn walk_box(
-    alloc: Global,
-    rank: u64,
-    room: u64,
-    term: Box<Term>,
-) -> Result<Built<Box<Term>>, Memory>
+#[inline(never)]
+fn walk_box(alloc: Global, rank: u64, room: u64, term: Box<Term>) -> Result<Part, Memory>
     ensures { IfOk result (λ b. placed b.term.value ≡ walk rank (placed term.value)) }
 {
     let done = walk(alloc, rank, room, Box::into_inner(term))?;
@@ -240,8 +119,57 @@ fn walk_box(
     })
 }
 
+#[cycle(walk)]
+#[inline(never)]
+fn walk_apply(
+    alloc: Global,
+    rank: u64,
+    room: u64,
+    place: u64,
+    func: Box<Term>,
+    arg: Box<Term>,
+) -> Result<Built<Term>, Memory>
+    ensures { IfOk result (λ b. placed b.term ≡ apply_at rank place (walk rank (placed func.value)) (walk rank (placed arg.value))) }
+{
+    let func = walk(alloc, rank, room, Box::into_inner(func))?;
+    let arg = walk(alloc, rank, room, Box::into_inner(arg))?;
+    apply(alloc, rank, room, place, func, arg)
+}
+
+#[cycle(walk)]
+#[inline(never)]
+fn walk_field(
+    alloc: Global,
+    rank: u64,
+    room: u64,
+    place: u64,
+    of: Box<Term>,
+    label: Label,
+) -> Result<Built<Term>, Memory>
+    ensures { IfOk result (λ b. placed b.term ≡ field_by place label (walk rank (placed of.value))) }
+{
+    let of = walk(alloc, rank, room, Box::into_inner(of))?;
+    field(alloc, room, place, label, of)
+}
+
+#[cycle(walk)]
+#[inline(never)]
+fn walk_bind(
+    alloc: Global,
+    rank: u64,
+    room: u64,
+    value: Box<Term>,
+    body: Box<Term>,
+) -> Result<Built<Term>, Memory>
+    ensures { IfOk result (λ b. placed b.term ≡ substitute (apply_at rank) 0 (walk rank (placed value.value)) (walk rank (placed body.value))) }
+{
+    let body = walk(alloc, rank, room, Box::into_inner(body))?;
+    bind(alloc, rank, room, value, body.term)
+}
+
 // A walked body with the walked value in place of its variable. A value that is not used is not walked.
 #[cycle(walk)]
+#[inline(never)]
 fn bind(
     alloc: Global,
     rank: u64,
@@ -265,6 +193,7 @@ fn bind(
 }
 
 #[cycle(walk)]
+#[inline(never)]
 fn walk_fields(
     alloc: Global,
     rank: u64,

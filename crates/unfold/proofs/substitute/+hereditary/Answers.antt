@@ -2,9 +2,8 @@ use Rattle.std.proofs.Common.{◌≡◌, ◌-◌, refl, reverse, sym, ap, ◌∙
 use Rattle.std.proofs.lemmas.Result.{IfOk-weaker}
 use Rattle.nq_model.specs.Terms.{PlacedNode, at, placed, placed_node}
 use Rattle.nq_model.proofs.Terms.{placed_term, node_fun, node_choose}
-use Rattle.nq_model.proofs.Substitution.{record_done}
 use Rattle.unfold.specs.Hereditary.{substitute, substitute_fields, apply_by, apply_at}
-use Rattle.unfold.proofs.Facts.{apply_more, substitute_fields-of, turned}
+use Rattle.unfold.proofs.Facts.{apply_more, record_made, same_branches, substitute_fields-of, turned}
 use Rattle.unfold.proofs.substitute.+hereditary.Goals as goal
 
 pub apply_above-returns-in-Fun : goal.apply_above-returns-in-Fun
@@ -13,20 +12,25 @@ apply_above-returns-in-Fun t c =
     let m = ap (λ z. apply_by (substitute (apply_at c.args.rank) 0) c.args.place z (placed c.args.arg.term)) old ∙ ap (λ z. substitute (apply_at c.args.rank) 0 (placed c.args.arg.term) (placed z)) (sym c.into_inner-body.ensures) in
     IfOk-weaker c.substitute.result _ (λ b. placed b.term ≡ apply_by (substitute (apply_at c.args.rank) 0) c.args.place (placed c.args.func.term) (placed c.args.arg.term)) (λ b h. (h (placed c.args.arg.term) refl).0 ∙ sym m) c.substitute.ensures
 
-pub apply_above-returns-in_ok-no-in-If : goal.apply_above-returns-in_ok-no-in-If
-apply_above-returns-in_ok-no-in-If t c =
+pub apply_above-returns-in-If : goal.apply_above-returns-in-If
+apply_above-returns-in-If t c =
     let old = placed_term c.args.func.term ∙ ap (at c.args.func.term.place) (ap placed_node c.in-If.is ∙ node_choose c.in-If.test c.in-If.yes c.in-If.no) in
     let m = ap (λ z. apply_by (substitute (apply_at c.args.rank) 0) c.args.place z (placed c.args.arg.term)) old in
-    let y : placed c.in_ok-yes-in-If.yes.term ≡ apply_by (substitute (apply_at c.args.rank) 0) c.args.place (placed c.in-If.yes.value) (placed c.args.arg.term) = c.in_ok-yes-in-If.ensures ∙ ap (λ z. apply_by (substitute (apply_at c.args.rank) 0) c.args.place (placed c.into_inner.result) z) c.in_ok-copy-in-If.ensures ∙ ap (λ z. apply_by (substitute (apply_at c.args.rank) 0) c.args.place (placed z) (placed c.args.arg.term)) c.into_inner.ensures in
-    let n : placed c.in_ok-no-in-If.no.term ≡ apply_by (substitute (apply_at c.args.rank) 0) c.args.place (placed c.in-If.no.value) (placed c.args.arg.term) = c.in_ok-no-in-If.ensures ∙ ap (λ z. apply_by (substitute (apply_at c.args.rank) 0) c.args.place (placed z) (placed c.args.arg.term)) c.into_inner-in-If.ensures in
-    IfOk-weaker c.chosen.result (λ b. placed b.term ≡ at c.args.place (PlacedNode.choose (placed c.in-If.test.value) (placed c.in_ok-yes-in-If.yes.term) (placed c.in_ok-no-in-If.no.term))) (λ b. placed b.term ≡ apply_by (substitute (apply_at c.args.rank) 0) c.args.place (placed c.args.func.term) (placed c.args.arg.term)) (λ b h. h ∙ ap (λ z. at c.args.place (PlacedNode.choose (placed c.in-If.test.value) z (placed c.in_ok-no-in-If.no.term))) y ∙ ap (λ z. at c.args.place (PlacedNode.choose (placed c.in-If.test.value) (apply_by (substitute (apply_at c.args.rank) 0) c.args.place (placed c.in-If.yes.value) (placed c.args.arg.term)) z)) n ∙ sym m) c.chosen.ensures
+    IfOk-weaker c.apply_branches.result _ (λ b. placed b.term ≡ apply_by (substitute (apply_at c.args.rank) 0) c.args.place (placed c.args.func.term) (placed c.args.arg.term)) (λ b h. h ∙ sym m) c.apply_branches.ensures
+
+pub apply_branches-returns : goal.apply_branches-returns
+apply_branches-returns t c =
+    let y : placed c.in_ok-yes.yes.term ≡ apply_by (substitute (apply_at c.args.rank) 0) c.args.place (placed c.args.yes.value) (placed c.args.arg.term) = c.in_ok-yes.ensures ∙ ap (λ z. apply_by (substitute (apply_at c.args.rank) 0) c.args.place (placed c.into_inner-yes.result) z) c.in_ok-again.ensures ∙ ap (λ z. apply_by (substitute (apply_at c.args.rank) 0) c.args.place (placed z) (placed c.args.arg.term)) c.into_inner-yes.ensures in
+    let n : placed c.in_ok-no.no.term ≡ apply_by (substitute (apply_at c.args.rank) 0) c.args.place (placed c.args.no.value) (placed c.args.arg.term) = c.in_ok-no.ensures ∙ ap (λ z. apply_by (substitute (apply_at c.args.rank) 0) c.args.place (placed z) (placed c.args.arg.term)) c.into_inner-no.ensures in
+    let w : at c.args.place (PlacedNode.choose (placed c.args.test.value) (placed c.in_ok-yes.yes.term) (placed c.in_ok-no.no.term)) ≡ at c.args.place (PlacedNode.choose (placed c.args.test.value) (apply_by (substitute (apply_at c.args.rank) 0) c.args.place (placed c.args.yes.value) (placed c.args.arg.term)) (apply_by (substitute (apply_at c.args.rank) 0) c.args.place (placed c.args.no.value) (placed c.args.arg.term))) = same_branches c.args.place (placed c.args.test.value) (placed c.in_ok-yes.yes.term) (placed c.in_ok-no.no.term) (apply_by (substitute (apply_at c.args.rank) 0) c.args.place (placed c.args.yes.value) (placed c.args.arg.term)) (apply_by (substitute (apply_at c.args.rank) 0) c.args.place (placed c.args.no.value) (placed c.args.arg.term)) y n in
+    IfOk-weaker c.chosen.result (λ b. placed b.term ≡ at c.args.place (PlacedNode.choose (placed c.args.test.value) (placed c.in_ok-yes.yes.term) (placed c.in_ok-no.no.term))) (λ b. placed b.term ≡ at c.args.place (PlacedNode.choose (placed c.args.test.value) (apply_by (substitute (apply_at c.args.rank) 0) c.args.place (placed c.args.yes.value) (placed c.args.arg.term)) (apply_by (substitute (apply_at c.args.rank) 0) c.args.place (placed c.args.no.value) (placed c.args.arg.term)))) (λ b h. h ∙ w) c.chosen.ensures
 
 pub substitute-returns-in_ok-fields-in-Rec : goal.substitute-returns-in_ok-fields-in-Rec
 substitute-returns-in_ok-fields-in-Rec t c =
-    IfOk-weaker c.grown-in-Rec.result _ _ (λ b h s i.
+    IfOk-weaker c.with_fields.result _ _ (λ b h s i.
     let r = c.in_ok-fields-in-Rec.ensures s i in
-    let w = record_done (substitute (apply_at c.args.rank) c.args.from s) (substitute_fields (apply_at c.args.rank) c.args.from s) (λ p fs. refl) (substitute_fields-of (apply_at c.args.rank) c.args.from s) c.args.term _ c.in-Rec.fields c.in_ok-fields-in-Rec.fields.term c.in-Rec.is refl refl r.0 in
-    (h ∙ w, r.1)) c.grown-in-Rec.ensures
+    let w = record_made (substitute (apply_at c.args.rank) c.args.from s) (substitute_fields (apply_at c.args.rank) c.args.from s) (λ p fs. refl) (substitute_fields-of (apply_at c.args.rank) c.args.from s) c.args.term c.in-Rec.fields c.in_ok-fields-in-Rec.fields.term c.in-Rec.is r.0 in
+    (h ∙ w, r.1)) c.with_fields.ensures
 
 pub substitute_fields-returns : goal.substitute_fields-returns
 substitute_fields-returns t c = λ s h.

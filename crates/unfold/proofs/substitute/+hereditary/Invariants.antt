@@ -5,19 +5,28 @@ use Rattle.unfold.specs.Slots.{Puts}
 use Rattle.unfold.proofs.substitute.+hereditary.Given as goal
 
 abbrev pub decreases-apply : goal.decreases-apply
-decreases-apply l = 2 * l.room + 1
+decreases-apply l = 3 * l.room + 1
 
 abbrev pub decreases-apply_above : goal.decreases-apply_above
-decreases-apply_above l = 2 * l.room
+decreases-apply_above l = 3 * l.room
+
+abbrev pub decreases-apply_branches : goal.decreases-apply_branches
+decreases-apply_branches l = 3 * l.room + 1
 
 abbrev pub decreases-substitute : goal.decreases-substitute
-decreases-substitute l = 2 * l.room
+decreases-substitute l = 3 * l.room
+
+abbrev pub decreases-substitute_apply : goal.decreases-substitute_apply
+decreases-substitute_apply l = 3 * l.room + 2
 
 abbrev pub decreases-substitute_box : goal.decreases-substitute_box
-decreases-substitute_box l = 2 * l.room + 1
+decreases-substitute_box l = 3 * l.room + 1
+
+abbrev pub decreases-substitute_field : goal.decreases-substitute_field
+decreases-substitute_field l = 3 * l.room + 1
 
 abbrev pub decreases-substitute_fields : goal.decreases-substitute_fields
-decreases-substitute_fields l = 2 * l.room + 1
+decreases-substitute_fields l = 3 * l.room + 1
 
 abbrev pub invariant-substitute_fields-loop-last : goal.invariant-substitute_fields-loop-last
 invariant-substitute_fields-loop-last l =

@@ -1,15 +1,14 @@
 use Rattle.std.proofs.Common.{◌≡◌, refl, reverse, ap, ◌∙◌}
 use Rattle.std.proofs.lemmas.Result.{IfOk-weaker}
 use Rattle.nq_model.specs.Terms.{placed}
-use Rattle.nq_model.proofs.Substitution.{record_done}
 use Rattle.unfold.specs.Hereditary.{walk, walk_fields}
-use Rattle.unfold.proofs.Facts.{walk_fields-of, turned}
+use Rattle.unfold.proofs.Facts.{walk_fields-of, record_made, turned}
 use Rattle.unfold.proofs.walk.+walk.Goals as goal
 
 pub walk-returns-in_ok-fields-in-Rec : goal.walk-returns-in_ok-fields-in-Rec
 walk-returns-in_ok-fields-in-Rec t c =
-    let w = record_done (walk c.args.rank) (walk_fields c.args.rank) (λ p fs. refl) (walk_fields-of c.args.rank) c.args.term _ c.in-Rec.fields c.in_ok-fields-in-Rec.fields.term c.in-Rec.is refl refl c.in_ok-fields-in-Rec.ensures in
-    IfOk-weaker c.grown-in-Rec.result _ (λ b. placed b.term ≡ walk c.args.rank (placed c.args.term)) (λ b h. h ∙ w) c.grown-in-Rec.ensures
+    let w = record_made (walk c.args.rank) (walk_fields c.args.rank) (λ p fs. refl) (walk_fields-of c.args.rank) c.args.term c.in-Rec.fields c.in_ok-fields-in-Rec.fields.term c.in-Rec.is c.in_ok-fields-in-Rec.ensures in
+    IfOk-weaker c.with_fields.result _ (λ b. placed b.term ≡ walk c.args.rank (placed c.args.term)) (λ b h. h ∙ w) c.with_fields.ensures
 
 pub walk_fields-returns : goal.walk_fields-returns
 walk_fields-returns t c =

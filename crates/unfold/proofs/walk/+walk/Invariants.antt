@@ -4,16 +4,25 @@ use Rattle.unfold.specs.Hereditary.{walk}
 use Rattle.unfold.proofs.walk.+walk.Given as goal
 
 abbrev pub decreases-walk : goal.decreases-walk
-decreases-walk l = 2 * l.room
+decreases-walk l = 3 * l.room
 
 abbrev pub decreases-walk_box : goal.decreases-walk_box
-decreases-walk_box l = 2 * l.room + 1
+decreases-walk_box l = 3 * l.room + 1
+
+abbrev pub decreases-walk_apply : goal.decreases-walk_apply
+decreases-walk_apply l = 3 * l.room + 1
+
+abbrev pub decreases-walk_field : goal.decreases-walk_field
+decreases-walk_field l = 3 * l.room + 1
+
+abbrev pub decreases-walk_bind : goal.decreases-walk_bind
+decreases-walk_bind l = 3 * l.room + 2
 
 abbrev pub decreases-walk_fields : goal.decreases-walk_fields
-decreases-walk_fields l = 2 * l.room + 1
+decreases-walk_fields l = 3 * l.room + 1
 
 abbrev pub decreases-bind : goal.decreases-bind
-decreases-bind l = 2 * l.room + 1
+decreases-bind l = 3 * l.room + 1
 
 abbrev pub invariant-walk_fields-loop-last : goal.invariant-walk_fields-loop-last
 invariant-walk_fields-loop-last l =
