@@ -38,16 +38,6 @@ pub(crate) fn grown(below: u64, term: Term) -> Result<Built<Term>, Memory>
     }
 }
 
-/// One step further down the stack, where there is room.
-pub(crate) fn further(room: u64) -> Result<u64, Memory>
-    ensures { IfOk result (λ left. left + 1 ≡ room) }
-{
-    match room.checked_sub(1) {
-        Some(left) => Ok(left),
-        None => Err(Memory),
-    }
-}
-
 /// The number of nodes on the longest way from a term to a leaf.
 #[cycle(depth)]
 pub(crate) fn depth(term: &Term) -> Result<u64, Memory>

@@ -4,8 +4,9 @@ ghost use Rattle.nq_model.specs.Terms.{placed, at, PlacedNode, placed_fields};
 ghost use Rattle.nq_model.specs.Unfolding.{picked};
 ghost use Rattle.unfold.specs.Hereditary.{field_by};
 
-use crate::built::{Built, further};
+use crate::built::Built;
 use crate::forms::{chosen, of_field};
+use crate::stack::{FIELD, further};
 use nq_model::{Label, List, Memory, Node, Term};
 use std::alloc::Global;
 
@@ -19,7 +20,7 @@ pub(crate) fn field(
 ) -> Result<Built<Term>, Memory>
     ensures { IfOk result (λ b. placed b.term ≡ field_by place label (placed of.term)) }
 {
-    let room = further(room)?;
+    let room = further(room, FIELD)?;
     let Built { term, deep } = of;
     let Term { place: own, node } = term;
     match node {

@@ -7,6 +7,7 @@ mod forms;
 mod fuel;
 mod laws;
 mod slot;
+mod stack;
 mod substitute;
 mod uses;
 mod walk;

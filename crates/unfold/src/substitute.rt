@@ -7,19 +7,20 @@ ghost use Rattle.nq_model.specs.Substitution.{fields_with_places};
 ghost use Rattle.unfold.specs.Hereditary.{substitute, apply_by, apply_at, field_by};
 ghost use Rattle.unfold.specs.Slots.{Puts};
 
-use crate::built::{Built, further, leaf, one_more};
+use crate::built::{Built, leaf, one_more};
 use crate::field::field;
 use crate::forms::{
     Part, applied, binary, binding, choice, chosen, comprehension, emptiness, function, guard,
     single, unary, union, with_fields,
 };
 use crate::slot::{Slot, put};
+use crate::stack::{APPLY, APPLY_BRANCHES, ARGUMENT, SUBSTITUTE, further};
 use crate::uses::uses;
 use nq_model::{Label, List, Memory, Node, Term, boxed};
 use std::alloc::Global;
 
 /// What the slot holds in place of the variable `from`, in a done term. `rank` bounds how deep arrows nest in
-/// the value's type, and `room` how far the stack may still grow.
+/// the value's type, and `room` is how many bytes the stack may still grow.
 #[cycle(hereditary)]
 pub(crate) fn substitute(
     alloc: Global,
@@ -31,7 +32,7 @@ pub(crate) fn substitute(
 ) -> Result<Built<Term>, Memory>
     ensures { IfOk result (λ b. Puts by.old by.new (λ s. placed b.term ≡ substitute (apply_at rank) from s (placed term))) }
 {
-    let room = further(room)?;
+    let room = further(room, SUBSTITUTE)?;
     let Term { place, node } = term;
     match node {
         Node::Var(k) => put(alloc, place, k, from, by),
@@ -74,20 +75,23 @@ pub(crate) fn substitute(
             let right = substitute_box(alloc, rank, room, from, by, right)?;
             union(place, left, right)
         }
-        Node::For { source, body } => {
+        Node::For {
+            source,
+            body: element,
+        } => {
             let source = substitute_box(alloc, rank, room, from, by, source)?;
-            let body = substitute_box(alloc, rank, room, one_more(from)?, by, body)?;
-            comprehension(place, source, body)
+            let element = substitute_box(alloc, rank, room, one_more(from)?, by, element)?;
+            comprehension(place, source, element)
         }
         Node::Guard { test, body } => {
             let test = substitute_box(alloc, rank, room, from, by, test)?;
             let body = substitute_box(alloc, rank, room, from, by, body)?;
             guard(place, test, body)
         }
-        Node::Bind { value, body } => {
+        Node::Bind { value, body: rest } => {
             let value = substitute_box(alloc, rank, room, from, by, value)?;
-            let body = substitute_box(alloc, rank, room, one_more(from)?, by, body)?;
-            binding(place, value, body)
+            let rest = substitute_box(alloc, rank, room, one_more(from)?, by, rest)?;
+            binding(place, value, rest)
         }
     }
 }
@@ -108,6 +112,7 @@ fn substitute_apply(
 ) -> Result<Built<Term>, Memory>
     ensures { IfOk result (λ b. Puts by.old by.new (λ s. placed b.term ≡ apply_at rank place (substitute (apply_at rank) from s (placed func.value)) (substitute (apply_at rank) from s (placed arg.value)))) }
 {
+    let room = further(room, ARGUMENT)?;
     let func = substitute(alloc, rank, room, from, by, Box::into_inner(func))?;
     let arg = substitute(alloc, rank, room, from, by, Box::into_inner(arg))?;
     apply(alloc, rank, room, place, func, arg)
@@ -212,7 +217,7 @@ fn apply_above(
 ) -> Result<Built<Term>, Memory>
     ensures { IfOk result (λ b. placed b.term ≡ apply_by (substitute (apply_at rank) 0) place (placed func.term) (placed arg.term)) }
 {
-    let room = further(room)?;
+    let room = further(room, APPLY)?;
     let Built { term, deep } = func;
     let Term { place: own, node } = term;
     match node {
@@ -262,6 +267,7 @@ fn apply_branches(
 ) -> Result<Built<Term>, Memory>
     ensures { IfOk result (λ b. placed b.term ≡ at place (PlacedNode.choose (placed test.value) (apply_by (substitute (apply_at rank) 0) place (placed yes.value) (placed arg.term)) (apply_by (substitute (apply_at rank) 0) place (placed no.value) (placed arg.term)))) }
 {
+    let room = further(room, APPLY_BRANCHES)?;
     let again = arg.term.copy(alloc)?;
     let again = Built {
         term: again,

@@ -8,7 +8,7 @@ ghost use Rattle.unfold.specs.Depths.{term_depth};
 ghost use Rattle.unfold.specs.Hereditary.{walk, unfolded, substitute, apply_at, field_by};
 ghost use Rattle.unfold.specs.Unfolded.{IsUnfolding};
 
-use crate::built::{Built, depth, further, leaf};
+use crate::built::{Built, depth, leaf};
 use crate::field::field;
 use crate::forms::{
     Part, binary, choice, comprehension, emptiness, function, guard, single, unary, union,
@@ -16,6 +16,7 @@ use crate::forms::{
 };
 use crate::fuel::fuel;
 use crate::slot::Slot;
+use crate::stack::{ARGUMENT, BIND, ROOM, WALK, further};
 use crate::substitute::{apply, substitute};
 use crate::uses::uses;
 use nq_model::{Label, List, Memory, Node, Schema, Term, boxed};
@@ -23,9 +24,6 @@ use std::alloc::Global;
 
 /// The deepest term that is answered, so that what recurses on it later needs no more stack than that.
 pub const DEEPEST: u64 = 2_000;
-
-// How many calls may stand on the stack at once.
-const ROOM: u64 = 3_000;
 
 /// The plain term that the steps of unfolding reach, places included, of the same type.
 ///
@@ -55,7 +53,7 @@ pub(crate) fn unfold_by_rank(alloc: Global, term: Term) -> Result<Term, Memory>
 fn walk(alloc: Global, rank: u64, room: u64, term: Term) -> Result<Built<Term>, Memory>
     ensures { IfOk result (λ b. placed b.term ≡ walk rank (placed term)) }
 {
-    let room = further(room)?;
+    let room = further(room, WALK)?;
     let Term { place, node } = term;
     match node {
         Node::Var(_)
@@ -131,6 +129,7 @@ fn walk_apply(
 ) -> Result<Built<Term>, Memory>
     ensures { IfOk result (λ b. placed b.term ≡ apply_at rank place (walk rank (placed func.value)) (walk rank (placed arg.value))) }
 {
+    let room = further(room, ARGUMENT)?;
     let func = walk(alloc, rank, room, Box::into_inner(func))?;
     let arg = walk(alloc, rank, room, Box::into_inner(arg))?;
     apply(alloc, rank, room, place, func, arg)
@@ -179,6 +178,7 @@ fn bind(
 ) -> Result<Built<Term>, Memory>
     ensures { IfOk result (λ b. placed b.term ≡ substitute (apply_at rank) 0 (walk rank (placed value.value)) (placed body)) }
 {
+    let room = further(room, BIND)?;
     let left = uses(&body, 0);
     if left == 0 {
         let mut none = Slot { value: None, left };
