@@ -18,12 +18,12 @@ pub(crate) const SUBSTITUTE: u64 = 1_600;
 
 pub(crate) const APPLY: u64 = 1_000;
 
-pub(crate) const APPLY_BRANCHES: u64 = 1_300;
+pub(crate) const APPLY_BRANCHES: u64 = 1_400;
 
 /// `walk_apply` or `substitute_apply`.
 pub(crate) const ARGUMENT: u64 = 800;
 
-pub(crate) const BIND: u64 = 900;
+pub(crate) const BIND: u64 = 1_000;
 
 pub(crate) const FIELD: u64 = 1_500;
 
