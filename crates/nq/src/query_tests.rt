@@ -349,13 +349,15 @@ fn run_row(rt: &impl Abort, alloc: Global, row: &Row, query: List<u8>) -> Result
     Ok(())
 }
 
-// So many opening brackets, a number, and as many closing ones.
-fn brackets(alloc: Global, depth: usize) -> Result<List<u8>, Fail> {
-    let mut bytes = List::new(alloc);
+// A text, so many opening brackets, another text, and as many closing ones.
+fn brackets(alloc: Global, first: &str, depth: usize, inner: &str) -> Result<List<u8>, Fail> {
+    let mut bytes = padded(alloc, 0, first)?;
     for _ in 0..depth {
         bytes.push(b'[')?;
     }
-    bytes.push(b'1')?;
+    for byte in inner.as_bytes() {
+        bytes.push(*byte)?;
+    }
     for _ in 0..depth {
         bytes.push(b']')?;
     }
@@ -369,12 +371,23 @@ fn runs_each_row(rt: HostRuntime) -> Result<(), Fail> {
         run_row(&rt, alloc, row, padded(alloc, 0, row.query)?)?;
     }
     // The greatest depth is 200, and a number has depth 1.
-    run_row(&rt, alloc, &CHECK, brackets(alloc, 199)?)?;
+    run_row(&rt, alloc, &CHECK, brackets(alloc, "", 199, "1")?)?;
     let deep = Row {
         note: "nq: query refused: Deep at 200\n",
         ..SYNTAX
     };
-    run_row(&rt, alloc, &deep, brackets(alloc, 200)?)?;
+    run_row(&rt, alloc, &deep, brackets(alloc, "", 200, "1")?)?;
+    // So it is for a type, which has a depth of its own.
+    let mut shallow_type = brackets(alloc, "[: ", 199, "int")?;
+    shallow_type.push(b']')?;
+    run_row(&rt, alloc, &CHECK, shallow_type)?;
+    let deep_type = Row {
+        note: "nq: query refused: Deep at 202\n",
+        ..SYNTAX
+    };
+    let mut long_type = brackets(alloc, "[: ", 200, "int")?;
+    long_type.push(b']')?;
+    run_row(&rt, alloc, &deep_type, long_type)?;
     // The longest query, and one that is a byte longer.
     let blank = 1_048_576 - 3;
     run_row(&rt, alloc, &CHECK, padded(alloc, blank, "[1]")?)?;

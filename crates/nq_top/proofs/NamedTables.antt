@@ -1,6 +1,6 @@
 -- The table that a query names, among the tables that its inputs come to.
 use Rattle.std.proofs.Common.{◌≡◌, ℕ, ◌+◌, ◌-◌, suc, Bool, true, false, cond, List, [], ◌∷◌, ◌++◌, map, length, nat_lt, Option, Some, None, Result, Ok, Err, slice_get, find, bytes_eq, refl, sym, ap, ◌∙◌, subst, append_assoc, append-nil, arith}
-use Rattle.nq_model.specs.Databases.{FilledTable, rows_value, table_meaning}
+use Rattle.nq_model.specs.Databases.{rows_value}
 use Rattle.nq_model.specs.Meaning.{meaning}
 use Rattle.nq_model.specs.Terms.{PlacedTerm, PlacedNode, at, bare}
 use Rattle.nq_model.specs.declared.table.Cell.{Cell}

@@ -98,7 +98,6 @@ ServeTells tables asked old new honest (Ok text) = ServesText tables asked old n
 ServeTells tables asked old new honest (Err r) = RefusalServes tables asked old new honest r
 
 -- what is said of the text that is written for gathered inputs: a server gave it, or they say it themselves
--- and the server is as it was
 abbrev pub TextTells : Gathered → ServerState → ServerState → Bool → Result (List ℕ) ServerRefusal → Type 0
 TextTells (gathered.Tables tables asked) old new honest result = ServeTells tables asked old new honest result
 TextTells (gathered.Text said) old new honest (Ok text) = text ≡ said
