@@ -2,10 +2,10 @@
 use Rattle.std.proofs.Common.{◌≡◌, ◌≤◌, List, [], ◌∷◌, ◌++◌, length, refl, ◌∙◌, ap, arith, length-append}
 use Rattle.std.proofs.lemmas.List.{map-append}
 use Rattle.nq_model.specs.QueryGrammar.{Syntax, TypeSyntax, Fields, One, More, TypeFields, TOne, TMore}
-use Rattle.nq_parser.specs.Trees.{syntax_view, type_view, grow, grow_types, fields, named, type_fields, typed}
-use Rattle.nq_parser.specs.declared.syntax.FieldName.{FieldName}
-use Rattle.nq_parser.specs.declared.syntax.Syntax.{Syntax as CodeSyntax}
-use Rattle.nq_parser.specs.declared.syntax.TypeSyntax.{TypeSyntax as CodeType}
+use Rattle.query_syntax.specs.Trees.{syntax_view, type_view, grow, grow_types, fields, named, type_fields, typed}
+use Rattle.query_syntax.specs.declared.syntax.FieldName.{FieldName}
+use Rattle.query_syntax.specs.declared.syntax.Syntax.{Syntax as CodeSyntax}
+use Rattle.query_syntax.specs.declared.syntax.TypeSyntax.{TypeSyntax as CodeType}
 
 grown : (fs : Fields) (xs : List (FieldName × Syntax)) (y : FieldName × Syntax) → grow fs (xs ++ y ∷ []) ≡ More (grow fs xs) y.0.before y.0.place y.0.label y.0.mark y.1
 grown fs [] y = refl

@@ -3,17 +3,9 @@ pub mod Complete
 pub mod Sound
 pub mod Filled
 pub mod Exact
-pub mod Views
 pub mod Utf8
 pub mod Lexed
 pub mod Verdicts
-pub mod Cutting
-pub mod Fronts
-pub mod Lowering
-pub mod LoweringNames
-pub mod LoweringSorts
-pub mod LoweringFields
-pub mod LoweringLists
 pub mod Needs
 pub mod Joining
 pub mod Stepping

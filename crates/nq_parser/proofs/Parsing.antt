@@ -9,16 +9,16 @@ use Rattle.nq_model.specs.QueryGrammar.{First}
 use Rattle.nq_model.specs.QueryScope.{wrongs, Wrong, Unbound, TwiceLabel}
 use Rattle.nq_model.specs.QueryTexts.{HasTokens, HasFault}
 use Rattle.nq_model.specs.declared.term.Term.{Term}
-use Rattle.nq_parser.specs.Fronts.{Cuts}
-use Rattle.nq_parser.specs.Lowering.{Lowered, IsFirst, fault_of}
+use Rattle.query_syntax.specs.Fronts.{Cuts}
+use Rattle.query_syntax.specs.Lowering.{Lowered, IsFirst, fault_of}
 use Rattle.nq_parser.specs.Machine.{State, step, fits, turn, run, start_state}
 use Rattle.nq_parser.specs.Parsing.{Parsed}
 use Rattle.nq_parser.specs.Reading.{Ends}
 use Rattle.nq_parser.specs.Runs.{IsReady, Reads}
-use Rattle.nq_parser.specs.Trees.{syntax_view}
-use Rattle.nq_parser.specs.declared.fault.SyntaxFault.{SyntaxFault}
-use Rattle.nq_parser.specs.declared.fault.SyntaxFault.TheVariants as code
-use Rattle.nq_parser.specs.declared.syntax.Syntax.{Syntax as CodeSyntax}
+use Rattle.query_syntax.specs.Trees.{syntax_view}
+use Rattle.query_syntax.specs.declared.fault.SyntaxFault.{SyntaxFault}
+use Rattle.query_syntax.specs.declared.fault.SyntaxFault.TheVariants as code
+use Rattle.query_syntax.specs.declared.syntax.Syntax.{Syntax as CodeSyntax}
 use Rattle.nq_parser.proofs.Exact.{ends_ready, fault_exact, ready_exact, ready_of}
 use Rattle.nq_parser.proofs.Verdicts.{close_fault, close_has}
 

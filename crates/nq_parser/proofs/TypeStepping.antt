@@ -4,9 +4,9 @@ use Rattle.std.specs.Prelude.{⊤}
 use Rattle.nq_model.specs.QueryTokens.{Token, Sign, Closing, ClosingBag, Comma, Arrow}
 use Rattle.nq_model.specs.QueryGrammar.{First, kind, TypeSyntax, TFun}
 use Rattle.nq_parser.specs.Machine.{Frame, TypeFrame, TInParen, TInRight, Around, InNil, InFun, after_type, after_around, start_type, start_base, begin_base}
-use Rattle.nq_parser.specs.Symbols.{symbol_view}
-use Rattle.nq_parser.specs.declared.symbol.Symbol.{Symbol}
-use Rattle.nq_parser.specs.declared.symbol.Symbol.TheVariants as symbols
+use Rattle.query_syntax.specs.Symbols.{symbol_view}
+use Rattle.query_syntax.specs.declared.symbol.Symbol.{Symbol}
+use Rattle.query_syntax.specs.declared.symbol.Symbol.TheVariants as symbols
 use Rattle.nq_parser.specs.TypeSettling.{NoArrow, SameBehind}
 use Rattle.nq_parser.specs.TypeStacks.{NoTypeParen}
 

@@ -2,8 +2,8 @@
 use Rattle.std.specs.Prelude.{ℕ, suc, ◌+◌, max, List, [], ◌∷◌, length}
 use Rattle.nq_model.specs.QueryGrammar.{Syntax, type_depth, type_fields_depth, depth, fields_depth, deepest, fields_deepest}
 use Rattle.nq_parser.specs.Machine.{FieldHead, AtFirst, AtNext, TypeHead, TAtFirst, TAtNext, Frame, InParen, InBag, InEmpty, InSource, InBody, InTest, InGuarded, InIf, InThen, InElse, InFunBody, InValue, InLetBody, InPrefix, InRight, InArg, InField, TypeFrame, TInBag, TInParen, TInRight, TInField, Around, InNil, InFun}
-use Rattle.nq_parser.specs.Symbols.{operator_view}
-use Rattle.nq_parser.specs.Trees.{syntax_view, type_view, fields, named, type_fields, typed}
+use Rattle.query_syntax.specs.Symbols.{operator_view}
+use Rattle.query_syntax.specs.Trees.{syntax_view, type_view, fields, named, type_fields, typed}
 use Rattle.nq_parser.specs.declared.part.Part.{Part}
 use Rattle.nq_parser.specs.declared.form.FieldHead.{FieldHead as CodeHead}
 use Rattle.nq_parser.specs.declared.form.FieldHead.TheVariants as head

@@ -1,6 +1,4 @@
 pub mod Forms
-pub mod Fronts
-pub mod Lowering
 pub mod Machine
 pub mod Needs
 pub mod Parsing
@@ -9,8 +7,6 @@ pub mod Runs
 pub mod Settling
 pub mod Stacks
 pub mod States
-pub mod Symbols
-pub mod Trees
 pub mod TypeSettling
 pub mod TypeStacks
 pub mod Words

@@ -3,8 +3,8 @@ use Rattle.std.specs.Prelude.{ℕ, List, ⊤, Result, Ok, Err}
 use Rattle.nq_model.specs.Terms.{placed}
 use Rattle.nq_model.specs.QueryTexts.{Fault, Spells, HasFault}
 use Rattle.nq_model.specs.declared.term.Term.{Term}
-use Rattle.nq_parser.specs.declared.fault.SyntaxFault.{SyntaxFault}
-use Rattle.nq_parser.specs.declared.fault.SyntaxFault.TheVariants as code
+use Rattle.query_syntax.specs.declared.fault.SyntaxFault.{SyntaxFault}
+use Rattle.query_syntax.specs.declared.fault.SyntaxFault.TheVariants as code
 
 -- the term that the text spells at depth d, or the fault that it has; want of memory is free
 abbrev pub Parsed : Result Term SyntaxFault → ℕ → List ℕ → Type 0

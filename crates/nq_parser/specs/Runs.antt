@@ -6,11 +6,11 @@ use Rattle.nq_model.specs.QueryTokens.{Token, place_of}
 use Rattle.nq_model.specs.QueryGrammar.{First}
 use Rattle.nq_parser.specs.Machine.{State, Ready, step, fits, run, start_state}
 use Rattle.nq_parser.specs.States.{state_view}
-use Rattle.nq_parser.specs.Trees.{syntax_view}
-use Rattle.nq_parser.specs.declared.fault.SyntaxFault.{SyntaxFault}
-use Rattle.nq_parser.specs.declared.fault.SyntaxFault.TheVariants as code
+use Rattle.query_syntax.specs.Trees.{syntax_view}
+use Rattle.query_syntax.specs.declared.fault.SyntaxFault.{SyntaxFault}
+use Rattle.query_syntax.specs.declared.fault.SyntaxFault.TheVariants as code
 use Rattle.nq_parser.specs.declared.state.State.{State as CodeState}
-use Rattle.nq_parser.specs.declared.syntax.Syntax.{Syntax as CodeSyntax}
+use Rattle.query_syntax.specs.declared.syntax.Syntax.{Syntax as CodeSyntax}
 
 -- the state behind the token, or why it does not go on; want of memory is free
 abbrev pub Advances : Result CodeState SyntaxFault → ℕ → State → Token → Type 0

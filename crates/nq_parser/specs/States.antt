@@ -5,7 +5,7 @@ use Rattle.nq_parser.specs.Machine.{Frame, State, Want, AtWord, AtTable, AtEmpty
 use Rattle.nq_parser.specs.Forms.{part_view, around_view}
 use Rattle.nq_parser.specs.Stacks.{frames}
 use Rattle.nq_parser.specs.TypeStacks.{type_frames}
-use Rattle.nq_parser.specs.Trees.{type_view, fields, named, type_fields, typed}
+use Rattle.query_syntax.specs.Trees.{type_view, fields, named, type_fields, typed}
 use Rattle.nq_parser.specs.declared.state.Position.{Position}
 use Rattle.nq_parser.specs.declared.state.Position.TheVariants as at
 use Rattle.nq_parser.specs.declared.state.State.{State as CodeState}

@@ -6,7 +6,7 @@ ghost use Rattle.nq_parser.specs.Machine.{asks, asks_of, begin_word, start, star
 ghost use Rattle.nq_parser.specs.Stacks.{frames};
 ghost use Rattle.nq_parser.specs.Forms.{form_view};
 ghost use Rattle.nq_parser.specs.States.{position_view, Stays, Steps};
-ghost use Rattle.nq_parser.specs.Symbols.{token_view};
+ghost use Rattle.query_syntax.specs.Symbols.{token_view};
 ghost use Rattle.nq_parser.specs.Words.{kind_view};
 
 use crate::form::{Around, Form};
@@ -14,12 +14,11 @@ use crate::leaf::leaf;
 use crate::levels::level;
 use crate::stack::Stack;
 use crate::state::{Position, State, TypeState};
-use crate::symbol::{Operator, Symbol, Token};
-use crate::syntax::{Syntax, Variable};
 use crate::type_stack::TypeStack;
 use crate::wants::wants;
 use crate::words::{WordKind, kind_of};
 use nq_model::{Binary, Label, Memory, Text, Unary};
+use query_syntax::{Operator, Symbol, Syntax, Token, Variable};
 use std::alloc::Global;
 
 /// A token where an expression begins.

@@ -6,7 +6,7 @@ ghost use Rattle.nq_parser.specs.Forms.{part_view};
 ghost use Rattle.nq_parser.specs.Machine.{after, shift};
 ghost use Rattle.nq_parser.specs.Stacks.{frames};
 ghost use Rattle.nq_parser.specs.States.{Stays, Steps};
-ghost use Rattle.nq_parser.specs.Symbols.{operator_view, token_view};
+ghost use Rattle.query_syntax.specs.Symbols.{operator_view, token_view};
 
 use crate::form::Form;
 use crate::inside::{close, close_bag, comma_behind, semicolon_behind, word_behind};
@@ -15,9 +15,9 @@ use crate::part::Part;
 use crate::settle::settle;
 use crate::stack::Stack;
 use crate::state::{Position, State};
-use crate::symbol::{Operator, Symbol, Token};
 use crate::wants::wants;
 use nq_model::Memory;
+use query_syntax::{Operator, Symbol, Token};
 use std::alloc::Global;
 
 /// A token behind an expression: forms that are open to the right end before it, and another goes on.

@@ -5,8 +5,8 @@ ghost use Rattle.nq_parser.specs.Forms.{part_view};
 ghost use Rattle.nq_parser.specs.Machine.{at_comma, at_dot, at_empty, at_for, at_for_name, at_for_open, at_fun, at_fun_close, at_fun_name, at_fun_open, at_label, at_let, at_let_name, at_table, at_where, if_name};
 ghost use Rattle.nq_parser.specs.Stacks.{frames};
 ghost use Rattle.nq_parser.specs.States.{state_view, Stays, Steps};
-ghost use Rattle.nq_parser.specs.Symbols.{token_view};
-ghost use Rattle.nq_parser.specs.Trees.{fields as record_fields, named, type_view};
+ghost use Rattle.query_syntax.specs.Symbols.{token_view};
+ghost use Rattle.query_syntax.specs.Trees.{fields as record_fields, named, type_view};
 ghost use Rattle.nq_parser.specs.Words.{kind_view};
 
 use crate::form::{Around, FieldHead, Form};
@@ -14,12 +14,11 @@ use crate::leaf::leaf;
 use crate::part::{Fields, Part, TypePart, deeper};
 use crate::stack::Stack;
 use crate::state::{Position, State, TypeState};
-use crate::symbol::{Symbol, Token};
-use crate::syntax::{Syntax, Variable};
 use crate::type_stack::TypeStack;
 use crate::wants::wants;
 use crate::words::{WordKind, kind_of};
 use nq_model::{Label, Memory};
+use query_syntax::{Symbol, Syntax, Token, Variable};
 use std::alloc::Global;
 
 /// The name of a table.

@@ -1,8 +1,7 @@
 // Forms that wait for an expression or a type, with the parts that were read.
 use crate::part::{Fields, Part, TypeFields, TypePart};
-use crate::symbol::Operator;
-use crate::syntax::Variable;
 use nq_model::{Label, Unary};
+use query_syntax::{Operator, Variable};
 
 /// What stands before the next field: the `(`, or the fields so far and a comma.
 #[derive(Drop)]

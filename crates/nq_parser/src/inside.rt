@@ -13,10 +13,10 @@ use crate::join::put_field;
 use crate::part::{Part, deeper};
 use crate::stack::Stack;
 use crate::state::{Position, State};
-use crate::syntax::Syntax;
 use crate::wants::wants;
 use crate::words::{WordKind, kind_of};
 use nq_model::{Label, Memory};
+use query_syntax::Syntax;
 use std::alloc::Global;
 
 /// A `)` behind the expression that the innermost form waited for.

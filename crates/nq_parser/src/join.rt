@@ -3,12 +3,12 @@ ghost use Rattle.std.specs.Prelude.{◌≡◌, IfOk};
 ghost use Rattle.nq_model.specs.QueryGrammar.{Apply, Bag, Empty, Field, Nil, Paren, Rec};
 ghost use Rattle.nq_parser.specs.Forms.{form_view, head_view, part_view, type_head_view};
 ghost use Rattle.nq_parser.specs.Machine.{joined, put_field, put_type};
-ghost use Rattle.nq_parser.specs.Trees.{fields as record_fields, named, type_fields, type_view, typed};
+ghost use Rattle.query_syntax.specs.Trees.{fields as record_fields, named, type_fields, type_view, typed};
 
 use crate::form::{FieldHead, Form, TypeHead};
 use crate::part::{Fields, Part, TypeFields, TypePart, deeper};
-use crate::syntax::{FieldName, Syntax};
 use nq_model::{Label, List, Memory};
+use query_syntax::{FieldName, Syntax};
 use std::alloc::Global;
 
 /// The whole form that a form with its last part is.

@@ -4,13 +4,13 @@ ghost use Rattle.nq_model.specs.QueryGrammar.{deepest, depth as depth_of};
 ghost use Rattle.nq_parser.specs.Machine.{Have};
 ghost use Rattle.nq_parser.specs.Stacks.{frames};
 ghost use Rattle.nq_parser.specs.States.{Steps};
-ghost use Rattle.nq_parser.specs.Trees.{syntax_view};
+ghost use Rattle.query_syntax.specs.Trees.{syntax_view};
 
 use crate::part::Part;
 use crate::stack::Stack;
 use crate::state::{Position, State};
-use crate::syntax::Syntax;
 use nq_model::Memory;
+use query_syntax::Syntax;
 use std::alloc::Global;
 
 /// An expression of depth 1 that holds no type was read whole.

@@ -3,13 +3,12 @@ ghost use Rattle.std.specs.Prelude.{◌≡◌};
 ghost use Rattle.nq_model.specs.QueryGrammar.{level, left_level};
 ghost use Rattle.nq_parser.specs.Forms.{form_view};
 ghost use Rattle.nq_parser.specs.Machine.{binds, ends, level_of};
-ghost use Rattle.nq_parser.specs.Symbols.{operator_view, token_view};
-ghost use Rattle.nq_parser.specs.Trees.{syntax_view};
+ghost use Rattle.query_syntax.specs.Symbols.{operator_view, token_view};
+ghost use Rattle.query_syntax.specs.Trees.{syntax_view};
 
 use crate::form::Form;
-use crate::symbol::{Operator, Symbol, Token};
-use crate::syntax::Syntax;
 use nq_model::Binary;
+use query_syntax::{Operator, Symbol, Syntax, Token};
 
 /// The level of an operator; on its right it asks for the next level.
 pub fn level(op: Operator) -> u64

@@ -1,24 +1,16 @@
-//! Reads query texts: tokens, syntax trees, and names as indexes.
+//! Reads query texts: their tokens one after the other, with a stack of unfinished forms.
 #![tactic(auto)]
 
 mod begin;
 mod behind;
 mod between;
-mod fault;
 mod fits;
 mod form;
-mod front;
 mod inside;
 mod join;
 mod laws;
 mod leaf;
 mod levels;
-mod lexer;
-mod lower;
-mod lower_labels;
-mod lower_literal;
-mod lower_type;
-mod marks;
 mod part;
 mod query;
 mod read;
@@ -26,8 +18,6 @@ mod settle;
 mod stack;
 mod state;
 mod step;
-mod symbol;
-mod syntax;
 mod type_begin;
 mod type_behind;
 mod type_between;
@@ -37,11 +27,6 @@ mod wants;
 mod word;
 mod words;
 
-pub use fault::SyntaxFault;
 pub use laws::query_laws;
 pub use query::parse;
-
-#[cfg(test)]
-mod reading_tests;
-#[cfg(test)]
-mod tests;
+pub use query_syntax::SyntaxFault;

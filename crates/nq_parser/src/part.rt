@@ -1,10 +1,10 @@
 // Parts that were read whole, with how deep they are.
 ghost use Rattle.std.specs.Prelude.{◌≡◌, ◌≤◌, suc, max, length, IfOk, ◌++◌, ◌∷◌, []};
 ghost use Rattle.nq_model.specs.QueryGrammar.{depth as depth_of, deepest, fields_depth, fields_deepest, type_depth, type_fields_depth};
-ghost use Rattle.nq_parser.specs.Trees.{syntax_view, type_view, fields as record_fields, named, type_fields, typed};
+ghost use Rattle.query_syntax.specs.Trees.{syntax_view, type_view, fields as record_fields, named, type_fields, typed};
 
-use crate::syntax::{FieldName, Syntax, TypeSyntax};
 use nq_model::{List, Memory, boxed};
+use query_syntax::{FieldName, Syntax, TypeSyntax};
 use std::alloc::Global;
 
 /// An expression, how deep it is, and how deep the deepest type in it is.

@@ -2,11 +2,9 @@
 ghost use Rattle.std.specs.Str.{IsUtf8};
 ghost use Rattle.nq_parser.specs.Parsing.{Parsed};
 
-use crate::fault::SyntaxFault;
-use crate::lexer::tokens;
-use crate::lower::lower;
 use crate::read::read;
 use nq_model::Term;
+use query_syntax::{SyntaxFault, lower, tokens};
 use std::alloc::Global;
 use std::str;
 

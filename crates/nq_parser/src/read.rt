@@ -3,15 +3,13 @@ ghost use Rattle.std.specs.Prelude.{◌≡◌, map};
 ghost use Rattle.nq_parser.specs.Reading.{Ends};
 ghost use Rattle.nq_parser.specs.Runs.{Advances, IsProgramOf, Reads};
 ghost use Rattle.nq_parser.specs.States.{state_view};
-ghost use Rattle.nq_parser.specs.Symbols.{token_view};
+ghost use Rattle.query_syntax.specs.Symbols.{token_view};
 
-use crate::fault::SyntaxFault;
 use crate::fits::fits;
 use crate::stack::Stack;
 use crate::state::{Position, State};
 use crate::step::step;
-use crate::symbol::Token;
-use crate::syntax::Syntax;
+use query_syntax::{Syntax, SyntaxFault, Token};
 use std::alloc::Global;
 
 /// The program that the tokens of a text spell at a depth. `Unexpected` and `Deep` come at the first token

@@ -5,15 +5,15 @@ ghost use Rattle.nq_parser.specs.Forms.{part_view};
 ghost use Rattle.nq_parser.specs.Machine.{after, shift};
 ghost use Rattle.nq_parser.specs.Settling.{Taken, top_ends};
 ghost use Rattle.nq_parser.specs.Stacks.{frames};
-ghost use Rattle.nq_parser.specs.Symbols.{token_view};
+ghost use Rattle.query_syntax.specs.Symbols.{token_view};
 
 use crate::form::Form;
 use crate::join::joined;
 use crate::levels::ends;
 use crate::part::Part;
 use crate::stack::Stack;
-use crate::symbol::Token;
 use nq_model::Memory;
+use query_syntax::Token;
 use std::alloc::Global;
 
 // Whether the innermost form ends before the token.

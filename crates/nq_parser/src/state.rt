@@ -2,8 +2,8 @@
 use crate::form::Around;
 use crate::part::{Fields, Part, TypeFields, TypePart};
 use crate::stack::Stack;
-use crate::syntax::Variable;
 use crate::type_stack::TypeStack;
+use query_syntax::Variable;
 
 /// The type that is being read: its unfinished forms, and where it stands.
 #[derive(Drop)]

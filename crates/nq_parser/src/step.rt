@@ -4,7 +4,7 @@ ghost use Rattle.nq_model.specs.QueryGrammar.{First};
 ghost use Rattle.nq_parser.specs.Machine.{step};
 ghost use Rattle.nq_parser.specs.Stacks.{frames};
 ghost use Rattle.nq_parser.specs.States.{position_view, state_view, Steps};
-ghost use Rattle.nq_parser.specs.Symbols.{token_view};
+ghost use Rattle.query_syntax.specs.Symbols.{token_view};
 
 use crate::begin::start;
 use crate::behind::after;
@@ -14,12 +14,12 @@ use crate::between::{
 };
 use crate::stack::Stack;
 use crate::state::{Position, State};
-use crate::symbol::Token;
 use crate::type_begin::start_type;
 use crate::type_behind::after_type;
 use crate::type_between::{at_type_comma, at_type_label, at_type_word};
 use crate::word::at_word;
 use nq_model::Memory;
+use query_syntax::Token;
 use std::alloc::Global;
 
 /// The state behind the token; none where the token may not stand there.

@@ -6,7 +6,7 @@ ghost use Rattle.nq_parser.specs.Forms.{around_view};
 ghost use Rattle.nq_parser.specs.Machine.{begin_base, start_base, start_type};
 ghost use Rattle.nq_parser.specs.Stacks.{frames};
 ghost use Rattle.nq_parser.specs.States.{Stays, Steps};
-ghost use Rattle.nq_parser.specs.Symbols.{token_view};
+ghost use Rattle.query_syntax.specs.Symbols.{token_view};
 ghost use Rattle.nq_parser.specs.TypeStacks.{type_frames};
 ghost use Rattle.nq_parser.specs.Words.{kind_view};
 
@@ -14,11 +14,10 @@ use crate::form::TypeForm;
 use crate::part::TypePart;
 use crate::stack::Stack;
 use crate::state::{Position, State, TypeState};
-use crate::symbol::{Symbol, Token};
-use crate::syntax::{TypeSyntax, Variable};
 use crate::wants::wants_type;
 use crate::words::{WordKind, kind_of};
 use nq_model::{Label, Memory};
+use query_syntax::{Symbol, Token, TypeSyntax, Variable};
 use std::alloc::Global;
 
 /// A token where a type begins.

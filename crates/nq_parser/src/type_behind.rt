@@ -6,8 +6,8 @@ ghost use Rattle.nq_parser.specs.Forms.{around_view, part_view, type_head_view};
 ghost use Rattle.nq_parser.specs.Machine.{after_around, after_type, put_type};
 ghost use Rattle.nq_parser.specs.Stacks.{frames};
 ghost use Rattle.nq_parser.specs.States.{Stays, Steps};
-ghost use Rattle.nq_parser.specs.Symbols.{token_view};
-ghost use Rattle.nq_parser.specs.Trees.{type_view};
+ghost use Rattle.query_syntax.specs.Symbols.{token_view};
+ghost use Rattle.query_syntax.specs.Trees.{type_view};
 ghost use Rattle.nq_parser.specs.TypeSettling.{end_view};
 ghost use Rattle.nq_parser.specs.TypeStacks.{type_frames};
 
@@ -16,11 +16,10 @@ use crate::join::put_type;
 use crate::part::{Part, TypePart, deeper};
 use crate::stack::Stack;
 use crate::state::{Position, State, TypeState};
-use crate::symbol::{Symbol, Token};
-use crate::syntax::{Syntax, TypeSyntax};
 use crate::type_settle::{TypeEnd, settle_type};
 use crate::wants::wants_type;
 use nq_model::{Label, Memory, boxed};
+use query_syntax::{Symbol, Syntax, Token, TypeSyntax};
 use std::alloc::Global;
 
 /// A token behind a type: function types end before it, and what stands around them goes on.

@@ -5,8 +5,8 @@ ghost use Rattle.nq_parser.specs.Forms.{around_view};
 ghost use Rattle.nq_parser.specs.Machine.{at_type_comma, at_type_label, at_type_word, no_type_label};
 ghost use Rattle.nq_parser.specs.Stacks.{frames};
 ghost use Rattle.nq_parser.specs.States.{Steps};
-ghost use Rattle.nq_parser.specs.Symbols.{token_view};
-ghost use Rattle.nq_parser.specs.Trees.{type_fields, typed};
+ghost use Rattle.query_syntax.specs.Symbols.{token_view};
+ghost use Rattle.query_syntax.specs.Trees.{type_fields, typed};
 ghost use Rattle.nq_parser.specs.TypeStacks.{type_frames};
 ghost use Rattle.nq_parser.specs.Words.{kind_view};
 
@@ -14,12 +14,11 @@ use crate::form::{TypeForm, TypeHead};
 use crate::part::{TypeFields, TypePart};
 use crate::stack::Stack;
 use crate::state::{Position, State, TypeState};
-use crate::symbol::{Symbol, Token};
-use crate::syntax::{TypeSyntax, Variable};
 use crate::type_behind::after_type;
 use crate::wants::wants_type;
 use crate::words::{WordKind, kind_of};
 use nq_model::{Label, Memory};
+use query_syntax::{Symbol, Token, TypeSyntax, Variable};
 use std::alloc::Global;
 
 /// The label behind a comma in a record type.

@@ -1,15 +1,15 @@
 // Function types that end before a token.
 ghost use Rattle.std.specs.Prelude.{◌≡◌, IfOk};
 ghost use Rattle.nq_model.specs.QueryGrammar.{TFun};
-ghost use Rattle.nq_parser.specs.Trees.{type_view};
+ghost use Rattle.query_syntax.specs.Trees.{type_view};
 ghost use Rattle.nq_parser.specs.TypeSettling.{end_view, SameBehind};
 ghost use Rattle.nq_parser.specs.TypeStacks.{type_frames};
 
 use crate::form::{TypeForm, TypeHead};
 use crate::part::{TypePart, deeper};
-use crate::syntax::TypeSyntax;
 use crate::type_stack::TypeStack;
 use nq_model::{Label, Memory, boxed};
+use query_syntax::TypeSyntax;
 use std::alloc::Global;
 
 /// What stands around function types that have ended: a form that a token ends, or none.

@@ -4,7 +4,7 @@ ghost use Rattle.nq_model.specs.QueryGrammar.{First, kind};
 ghost use Rattle.nq_parser.specs.Machine.{at_word, InParen, no_label, start, InIf};
 ghost use Rattle.nq_parser.specs.Stacks.{frames};
 ghost use Rattle.nq_parser.specs.States.{Steps};
-ghost use Rattle.nq_parser.specs.Symbols.{token_view};
+ghost use Rattle.query_syntax.specs.Symbols.{token_view};
 
 use crate::begin::start;
 use crate::behind::after;
@@ -13,11 +13,10 @@ use crate::form::{FieldHead, Form};
 use crate::part::Part;
 use crate::stack::Stack;
 use crate::state::{Position, State};
-use crate::symbol::{Symbol, Token};
-use crate::syntax::{Syntax, Variable};
 use crate::wants::wants;
 use crate::words::{WordKind, kind_of};
 use nq_model::Memory;
+use query_syntax::{Symbol, Syntax, Token, Variable};
 use std::alloc::Global;
 
 /// A token behind `(` and a word: an `=`, or the word is no label.

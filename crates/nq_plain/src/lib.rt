@@ -2,20 +2,14 @@
 //! with the definition as its contract. Tests compare quicker programs with them.
 #![tactic(auto)]
 
-#[cfg(test)]
-mod build;
 mod cells;
 mod contraction;
 mod elements;
 mod evaluator;
-#[cfg(test)]
-mod org;
 mod records;
 mod scope;
 mod stepper;
 mod tables;
-#[cfg(test)]
-mod tests;
 
 pub use contraction::Stepped;
 pub use evaluator::evaluate;

@@ -11,8 +11,8 @@ use Rattle.nq_model.specs.declared.term.Term.{Term}
 use Rattle.nq_model.specs.declared.ty.Ty.{Ty}
 use Rattle.nq_parser.proofs.Verdicts.{not_both, one_term, one_fault}
 use Rattle.nq_parser.specs.Parsing.{Parsed}
-use Rattle.nq_parser.specs.declared.fault.SyntaxFault.{SyntaxFault}
-use Rattle.nq_parser.specs.declared.fault.SyntaxFault.TheVariants as code
+use Rattle.query_syntax.specs.declared.fault.SyntaxFault.{SyntaxFault}
+use Rattle.query_syntax.specs.declared.fault.SyntaxFault.TheVariants as code
 use Rattle.nq_top.specs.Gathering.{IsOfText, query_refusal, ReadSays}
 use Rattle.nq_top.specs.Reading.{QueryReading, ReadsQuery, refused_as, term_read, type_read, ill_typed}
 use Rattle.nq_top.specs.declared.refusal.Refused.TheVariants.{Query as QueryRefused, IllTyped}

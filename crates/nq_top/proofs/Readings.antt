@@ -7,8 +7,8 @@ use Rattle.nq_model.specs.QueryTexts.{Fault as QueryFault}
 use Rattle.nq_model.specs.Terms.{PlacedTerm}
 use Rattle.nq_model.specs.declared.table.Schema.{Schema}
 use Rattle.nq_parser.proofs.Verdicts as parser
-use Rattle.nq_parser.specs.declared.fault.SyntaxFault.{SyntaxFault}
-use Rattle.nq_parser.specs.declared.fault.SyntaxFault.TheVariants as syntax
+use Rattle.query_syntax.specs.declared.fault.SyntaxFault.{SyntaxFault}
+use Rattle.query_syntax.specs.declared.fault.SyntaxFault.TheVariants as syntax
 use Rattle.schema_reader.proofs.Verdicts as reader
 use Rattle.schema_reader.specs.Answers.{fault_view, HasCause, Reads}
 use Rattle.schema_reader.specs.declared.fault.SchemaFault.{SchemaFault}

@@ -12,8 +12,8 @@ use Rattle.sql_profile.specs.Servers.{table_names}
 use Rattle.sql_profile.specs.declared.server.Loaded.{Loaded}
 use Rattle.schema_reader.specs.declared.fault.SchemaFault.{SchemaFault}
 use Rattle.schema_reader.specs.declared.fault.SchemaFault.TheVariants as schema
-use Rattle.nq_parser.specs.declared.fault.SyntaxFault.{SyntaxFault}
-use Rattle.nq_parser.specs.declared.fault.SyntaxFault.TheVariants as query
+use Rattle.query_syntax.specs.declared.fault.SyntaxFault.{SyntaxFault}
+use Rattle.query_syntax.specs.declared.fault.SyntaxFault.TheVariants as query
 use Rattle.nq_top.specs.Reading.{type_read}
 use Rattle.nq_top.specs.Judging.{Judgement, Verdict, refused, written, accepted}
 use Rattle.nq_top.specs.declared.gathered.Gathered.{Gathered}

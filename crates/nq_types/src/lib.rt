@@ -14,6 +14,3 @@ mod walk;
 pub use fault::CheckFault;
 pub use program::check;
 pub use text::write_type;
-
-#[cfg(test)]
-mod tests;

@@ -37,6 +37,3 @@ pub fn read_schema(alloc: Global, text: &[u8]) -> Result<Schema, SchemaFault>
 {
     read(alloc, text)
 }
-
-#[cfg(test)]
-mod tests;

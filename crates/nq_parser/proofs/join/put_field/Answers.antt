@@ -1,7 +1,7 @@
 use Rattle.std.proofs.Common.{◌≡◌, ◌∷◌, ◌++◌, [], max, ap}
 use Rattle.nq_model.specs.QueryGrammar.{depth, deepest, fields_depth, fields_deepest}
-use Rattle.nq_parser.specs.Trees.{fields as record_fields, named, syntax_view}
-use Rattle.nq_parser.specs.declared.syntax.FieldName.{FieldName}
+use Rattle.query_syntax.specs.Trees.{fields as record_fields, named, syntax_view}
+use Rattle.query_syntax.specs.declared.syntax.FieldName.{FieldName}
 use Rattle.nq_parser.proofs.Joining.{fields_put, longer}
 use Rattle.nq_parser.proofs.join.put_field.Goals as goal
 

@@ -1,7 +1,7 @@
 use Rattle.std.proofs.Common.{◌≡◌, ◌∷◌, ◌++◌, [], max, ap}
 use Rattle.nq_model.specs.QueryGrammar.{type_depth, type_fields_depth}
-use Rattle.nq_parser.specs.Trees.{type_fields, typed, type_view}
-use Rattle.nq_parser.specs.declared.syntax.FieldName.{FieldName}
+use Rattle.query_syntax.specs.Trees.{type_fields, typed, type_view}
+use Rattle.query_syntax.specs.declared.syntax.FieldName.{FieldName}
 use Rattle.nq_parser.proofs.Joining.{types_put, longer}
 use Rattle.nq_parser.proofs.join.put_type.Goals as goal
 

@@ -3,7 +3,7 @@ use Rattle.nq_model.specs.QueryTokens.{tokens_of}
 use Rattle.nq_parser.specs.Parsing.{Parsed}
 use Rattle.nq_parser.specs.Reading.{Ends}
 use Rattle.nq_parser.specs.Runs.{Reads}
-use Rattle.nq_parser.specs.Symbols.{token_view}
+use Rattle.query_syntax.specs.Symbols.{token_view}
 use Rattle.nq_parser.proofs.Lexed.{text_ends}
 use Rattle.nq_parser.proofs.Parsing.{ended, resolved}
 use Rattle.nq_parser.proofs.query.parse_str.Goals as goal

@@ -4,7 +4,7 @@ use Rattle.nq_model.specs.QueryGrammar.{First}
 use Rattle.nq_model.specs.Machines.{Reached}
 use Rattle.nq_parser.specs.Machine.{run, start_state}
 use Rattle.nq_parser.specs.States.{state_view}
-use Rattle.nq_parser.specs.Symbols.{token_view}
+use Rattle.query_syntax.specs.Symbols.{token_view}
 use Rattle.nq_parser.proofs.Parsing.{ended_ready}
 use Rattle.nq_parser.proofs.read.read.Goals as goal
 

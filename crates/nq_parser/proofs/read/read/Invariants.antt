@@ -2,7 +2,7 @@ use Rattle.std.proofs.Common.{◌≡◌, drop, map}
 use Rattle.nq_model.specs.QueryGrammar.{First}
 use Rattle.nq_parser.specs.Machine.{run, start_state}
 use Rattle.nq_parser.specs.States.{state_view}
-use Rattle.nq_parser.specs.Symbols.{token_view}
+use Rattle.query_syntax.specs.Symbols.{token_view}
 use Rattle.nq_parser.proofs.read.read.Given as goal
 
 abbrev pub invariant-loop-token : goal.invariant-loop-token

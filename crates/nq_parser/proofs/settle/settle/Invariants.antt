@@ -3,7 +3,7 @@ use Rattle.nq_model.specs.QueryGrammar.{First}
 use Rattle.nq_parser.specs.Forms.{part_view}
 use Rattle.nq_parser.specs.Machine.{after}
 use Rattle.nq_parser.specs.Stacks.{frames}
-use Rattle.nq_parser.specs.Symbols.{token_view}
+use Rattle.query_syntax.specs.Symbols.{token_view}
 use Rattle.nq_parser.proofs.settle.settle.Given as goal
 
 abbrev pub invariant-loop-form : goal.invariant-loop-form

@@ -1,7 +1,7 @@
 use Rattle.nq_parser.specs.Forms.{around_view}
 use Rattle.nq_parser.specs.Stacks.{frames}
-use Rattle.nq_parser.specs.Symbols.{token_view}
-use Rattle.nq_parser.specs.Trees.{type_view}
+use Rattle.query_syntax.specs.Symbols.{token_view}
+use Rattle.query_syntax.specs.Trees.{type_view}
 use Rattle.nq_parser.specs.TypeStacks.{type_frames}
 use Rattle.nq_parser.proofs.TypeStepping.{foreign, type_foreign}
 use Rattle.nq_parser.proofs.type_behind.after_type.Goals as goal

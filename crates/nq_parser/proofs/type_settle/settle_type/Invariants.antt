@@ -1,5 +1,5 @@
 use Rattle.std.proofs.Common.{length}
-use Rattle.nq_parser.specs.Trees.{type_view}
+use Rattle.query_syntax.specs.Trees.{type_view}
 use Rattle.nq_parser.specs.TypeSettling.{SameBehind}
 use Rattle.nq_parser.specs.TypeStacks.{type_frames}
 use Rattle.nq_parser.proofs.type_settle.settle_type.Given as goal

@@ -1,9 +1,0 @@
-use Rattle.std.proofs.Common.{◌≡◌, ◌<◌, reverse, take, IfSome}
-use Rattle.nq_parser.specs.Lowering.{index_of}
-use Rattle.nq_parser.proofs.lower_labels.index_of.Given as goal
-
-abbrev pub invariant-loop-binder : goal.invariant-loop-binder
-invariant-loop-binder l = record {
-  so_far : l.found ≡ index_of l.name (reverse (take l.binder-index l.scope));
-  small : IfSome l.found (λ k. k < l.binder-index);
-}

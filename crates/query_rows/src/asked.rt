@@ -1,0 +1,76 @@
+// A query text, read, typed over the tables of an organisation, and unfolded.
+use nq_model::{Memory, Node, Schema, Term, boxed};
+use nq_parser::parse;
+use nq_types::check;
+use schema_reader::read_schema;
+use std::alloc::Global;
+use unfold::unfold;
+
+// The tables of an organisation.
+const ORG: &[u8] = b"table departments (name: text);
+table employees (dept: text, name: text, salary: int);
+table tasks (employee: text, task: text);
+table contacts (dept: text, name: text, client: bool);";
+
+/// What comes of a query.
+#[derive(Drop)]
+pub enum Outcome {
+    IllTyped,
+    WantOfMemory,
+    Reached(Term),
+}
+
+/// The schema of the organisation.
+pub fn org(alloc: Global) -> Result<Schema, Memory> {
+    read_schema(alloc, ORG).map_err(|_| Memory)
+}
+
+/// The term that a query text spells.
+pub fn read(alloc: Global, text: &str) -> Result<Term, Memory> {
+    parse(alloc, text.as_bytes(), 200).map_err(|_| Memory)
+}
+
+/// The term, where each function that is applied on the spot under a `for` is a `let` in its place, which no text
+/// spells there.
+#[cycle(with_lets)]
+pub fn with_lets(alloc: Global, term: Term) -> Result<Term, Memory> {
+    let Term { place, node } = term;
+    match node {
+        Node::For { source, body } => {
+            let body = with_lets(alloc, Box::into_inner(body))?;
+            let body = boxed(alloc, body)?;
+            Ok(Term {
+                place,
+                node: Node::For { source, body },
+            })
+        }
+        Node::Apply { func, arg } => let_of(alloc, place, Box::into_inner(func), arg),
+        node => Ok(Term { place, node }),
+    }
+}
+
+#[cycle(with_lets)]
+fn let_of(alloc: Global, place: u64, func: Term, value: Box<Term>) -> Result<Term, Memory> {
+    match func.node {
+        Node::Fun { taken: _, body } => {
+            let body = with_lets(alloc, Box::into_inner(body))?;
+            let body = boxed(alloc, body)?;
+            Ok(Term {
+                place,
+                node: Node::Bind { value, body },
+            })
+        }
+        _ => Err(Memory),
+    }
+}
+
+/// What comes of the query that a term is.
+pub fn outcome(alloc: Global, schema: &Schema, term: Term) -> Outcome {
+    match check(alloc, schema, &term) {
+        Ok(_type) => match unfold(alloc, schema, term) {
+            Ok(reached) => Outcome::Reached(reached),
+            Err(Memory) => Outcome::WantOfMemory,
+        },
+        Err(_) => Outcome::IllTyped,
+    }
+}

@@ -1,0 +1,4 @@
+pub mod Fronts
+pub mod Lowering
+pub mod Symbols
+pub mod Trees

@@ -1,0 +1,91 @@
+// Types as they are written become types.
+ghost use Rattle.std.specs.Prelude.{◌≡◌, IfOk};
+ghost use Rattle.nq_model.specs.Orders.{by_label};
+ghost use Rattle.nq_model.specs.QueryScope.{base_tree};
+ghost use Rattle.nq_model.specs.Types.{type_tree, fields_view};
+ghost use Rattle.query_syntax.specs.Lowering.{Gives, type_lowered, type_fields_lowered};
+ghost use Rattle.query_syntax.specs.Trees.{type_view, type_fields, typed};
+
+use crate::fault::SyntaxFault;
+use crate::lower_labels;
+use crate::syntax::{FieldName, TypeSyntax};
+use nq_model::{ColumnType, Label, List, Memory, Ty, boxed};
+use std::alloc::Global;
+use std::collections::BTreeSet;
+
+/// The type that is written, in which the fields of a record stand in the byte order of their labels.
+/// `TwiceLabel` at the first label that stands earlier in the same record type.
+#[cycle(lower_type)]
+#[tactic(auto, using(nq_model::proofs::Terms::type_of_record))]
+pub fn lower_type(alloc: Global, syntax: TypeSyntax) -> Result<Ty, SyntaxFault>
+    ensures { Gives type_tree result (type_lowered (type_view syntax)) }
+{
+    match syntax {
+        TypeSyntax::Base { base, .. } => Ok(base_type(base)),
+        TypeSyntax::Bag { element, .. } => {
+            let element = lower_type_box(alloc, element)?;
+            Ok(Ty::Bag(element))
+        }
+        TypeSyntax::Paren { inner, .. } => lower_type(alloc, Box::into_inner(inner)),
+        TypeSyntax::NoFields { .. } => Ok(Ty::Rec(List::new(alloc))),
+        TypeSyntax::Rec { fields, .. } => {
+            let fields = lower_type_fields(alloc, fields)?;
+            let fields = in_label_order(fields)?;
+            Ok(Ty::Rec(fields))
+        }
+        TypeSyntax::Fun { taken, given, .. } => {
+            let taken = lower_type_box(alloc, taken)?;
+            let given = lower_type_box(alloc, given)?;
+            Ok(Ty::Fun(taken, given))
+        }
+    }
+}
+
+#[cycle(lower_type)]
+fn lower_type_box(alloc: Global, syntax: Box<TypeSyntax>) -> Result<Box<Ty>, SyntaxFault>
+    ensures { Gives (λ ty. type_tree ty.value) result (type_lowered (type_view syntax.value)) }
+{
+    let ty = lower_type(alloc, Box::into_inner(syntax))?;
+    let boxed = boxed(alloc, ty)?;
+    Ok(boxed)
+}
+
+// The fields of a record type in the order of the text. A record type that was read has a field.
+#[cycle(lower_type)]
+fn lower_type_fields(
+    alloc: Global,
+    fields: List<(FieldName, TypeSyntax)>,
+) -> Result<List<(Label, Ty)>, SyntaxFault>
+    ensures { Gives fields_view result (type_fields_lowered (type_fields (typed fields))) }
+{
+    if fields.is_empty() {
+        return Err(SyntaxFault::Memory);
+    }
+    let mut labels = BTreeSet::new(alloc);
+    let mut lowered = List::new(alloc);
+    for (name, syntax) in fields.into_vec() {
+        lower_labels::put(alloc, &mut labels, &name)?;
+        let ty = lower_type(alloc, syntax)?;
+        lowered.push((name.label, ty))?;
+    }
+    Ok(lowered)
+}
+
+fn base_type(base: ColumnType) -> Ty
+    ensures { type_tree result ≡ base_tree base }
+{
+    match base {
+        ColumnType::Int => Ty::Int,
+        ColumnType::Bool => Ty::Bool,
+        ColumnType::Text => Ty::Text,
+    }
+}
+
+// The fields in the byte order of their labels; of equal labels the earlier field first.
+fn in_label_order(fields: List<(Label, Ty)>) -> Result<List<(Label, Ty)>, Memory>
+    ensures { IfOk result (λ sorted. fields_view sorted ≡ by_label (fields_view fields)) }
+{
+    let mut sorted = fields.into_vec();
+    sorted.sort_by(|left, right| left.0.as_str().cmp(right.0.as_str()))?;
+    Ok(List::from_vec(sorted))
+}
