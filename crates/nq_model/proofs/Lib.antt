@@ -17,3 +17,5 @@ pub mod ProperTypes
 pub mod TypingRows
 pub mod Substitution
 pub mod Unfolding
+pub mod StableSorts
+pub mod FieldSorts

@@ -3,6 +3,7 @@
 
 mod begin;
 mod behind;
+mod behind_word;
 mod between;
 mod fits;
 mod form;
@@ -24,7 +25,6 @@ mod type_between;
 mod type_settle;
 mod type_stack;
 mod wants;
-mod word;
 mod words;
 
 pub use laws::query_laws;

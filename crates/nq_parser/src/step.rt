@@ -8,6 +8,7 @@ ghost use Rattle.query_syntax.specs.Symbols.{token_view};
 
 use crate::begin::start;
 use crate::behind::after;
+use crate::behind_word::at_word;
 use crate::between::{
     at_comma, at_dot, at_empty, at_for, at_for_name, at_for_open, at_fun, at_fun_close,
     at_fun_name, at_fun_open, at_label, at_let, at_let_name, at_table, at_where,
@@ -17,7 +18,6 @@ use crate::state::{Position, State};
 use crate::type_begin::start_type;
 use crate::type_behind::after_type;
 use crate::type_between::{at_type_comma, at_type_label, at_type_word};
-use crate::word::at_word;
 use nq_model::Memory;
 use query_syntax::Token;
 use std::alloc::Global;

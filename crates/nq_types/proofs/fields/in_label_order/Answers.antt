@@ -2,7 +2,7 @@ use Rattle.std.proofs.Common.{rules, List, ℕ}
 use Rattle.std.proofs.lemmas.List.Sorted.{ranks_by, answers_always}
 use Rattle.nq_model.proofs.Canonical.{label_order}
 use Rattle.nq_model.specs.declared.ty.Ty.{Ty}
-use Rattle.nq_types.proofs.FieldFacts.{labels_sorted}
+use Rattle.nq_model.proofs.FieldSorts.{labels_sorted}
 use Rattle.nq_types.proofs.fields.in_label_order.Goals as goal
 
 pub returns : goal.returns

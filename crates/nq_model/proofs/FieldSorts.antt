@@ -9,7 +9,7 @@ use Rattle.nq_model.specs.Types.{type_tree, fields_view}
 use Rattle.nq_model.proofs.Canonical.{label_order}
 use Rattle.nq_model.proofs.Orders.{sorted_mapped}
 use Rattle.nq_model.specs.declared.ty.Ty.{Ty}
-use Rattle.nq_types.proofs.StableSorts.{stable_sort}
+use Rattle.nq_model.proofs.StableSorts.{stable_sort}
 
 -- fields are compared by their labels
 abbrev pub field_cmp : (List ℕ × Ty) → (List ℕ × Ty) → Ordering
