@@ -4,7 +4,7 @@ pub mod Sameness
 pub mod Counting
 pub mod Orders
 pub mod Canonical
-pub mod Rows
+pub mod ValueRows
 pub mod Types
 pub mod Terms
 pub mod Numberings
@@ -19,3 +19,4 @@ pub mod Substitution
 pub mod Unfolding
 pub mod StableSorts
 pub mod FieldSorts
+pub mod PackedRows

@@ -3,6 +3,8 @@ pub mod Bags
 pub mod Orders
 pub mod Types
 pub mod Cells
+pub mod CellRefs
+pub mod Packed
 pub mod Values
 pub mod Canonical
 pub mod Tables

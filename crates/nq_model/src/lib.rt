@@ -1,10 +1,13 @@
 //! Types, terms, values, schemas and tables, with the definitions that every other crate cites.
 #![tactic(auto)]
 
+mod cell_ref;
+mod cells;
 mod laws;
 mod list;
 mod memory;
 mod order;
+mod rows;
 mod shift;
 mod step_laws;
 mod subst;
@@ -12,14 +15,17 @@ mod table;
 mod term;
 mod term_copy;
 mod text;
+mod texts;
 mod ty;
 mod type_laws;
 mod value;
 
+pub use cell_ref::CellRef;
 pub use laws::{canonical_laws, sameness_laws};
 pub use list::List;
 pub use memory::{Memory, boxed};
 pub use order::label_order;
+pub use rows::Rows;
 pub use step_laws::{substitution_laws, unfolding_laws};
 pub use table::{Cell, ColumnType, Schema, Table, TableShape};
 pub use term::{Binary, Node, Term, Unary};

@@ -4,6 +4,7 @@ ghost use Rattle.nq_model.specs.Cells.{column_type_of};
 
 use crate::list::List;
 use crate::memory::Memory;
+use crate::rows::Rows;
 use crate::text::{Label, Text};
 use std::alloc::Global;
 
@@ -65,5 +66,5 @@ impl Cell {
 /// The rows of a table, each with its cells in the order of the columns.
 #[derive(Drop)]
 pub struct Table {
-    pub rows: List<List<Cell>>,
+    pub rows: Rows,
 }

@@ -1,0 +1,53 @@
+use Rattle.std.proofs.Common.{◌≡◌, ◌<◌, ◌≤◌, ◌∙◌, ℕ, List, [], All, sym, ap, subst, arith, length, get_or, slice_range}
+use Rattle.std.specs.Str.{IsUtf8}
+use Rattle.nq_model.specs.Packed.{start_of}
+use Rattle.nq_model.proofs.PackedRows.{piece_there, read_order, read_within, read_piece}
+use Rattle.nq_model.proofs.texts.Texts.get.Goals as goal
+
+pub start_of-start-requires : goal.start_of-start-requires
+start_of-start-requires c =
+    let there = piece_there c.self.inside.ends.items c.self.inside.bytes.items c.args.self.now c.args.at c.self.view_is c.requires in
+    omega arith
+
+pub index-requires : goal.index-requires
+index-requires c =
+    let there = piece_there c.self.inside.ends.items c.self.inside.bytes.items c.args.self.now c.args.at c.self.view_is c.requires in
+    omega arith
+
+there : (c : goal.After-as_slice-2) → c.args.at < length c.self.inside.ends.items
+there c = piece_there c.self.inside.ends.items c.self.inside.bytes.items c.args.self.now c.args.at c.self.view_is c.requires
+
+begins : (c : goal.After-as_slice-2) → c.start_of-start.result ≡ start_of c.self.inside.ends.items c.args.at
+begins c = rw c.as_slice.ensures.value at c.start_of-start.ensures
+
+order : (c : goal.After-as_slice-2) → c.start_of-start.result ≤ c.index.result.now
+order c =
+    read_order c.self.inside.ends.items c.self.inside.bytes.items c.args.self.now c.args.at c.start_of-start.result c.index.result.now
+    c.self.view_is c.self.invariant.0 (there c) (begins c) c.index.ensures
+
+within : (c : goal.After-as_slice-2) → c.index.result.now ≤ length c.as_slice-2.result.now
+within c =
+    let end = read_within c.self.inside.ends.items c.self.inside.bytes.items c.args.self.now c.args.at c.start_of-start.result c.index.result.now
+    c.self.view_is c.self.invariant.0 (there c) (begins c) c.index.ensures in
+    subst (λ (l : List ℕ). c.index.result.now ≤ length l) (sym c.as_slice-2.ensures.value) end
+
+is_piece : (c : goal.After-part) → c.part.result.now ≡ get_or c.args.self.now c.args.at []
+is_piece c =
+    c.part.ensures ∙ ap (λ (l : List ℕ). slice_range l c.start_of-start.result c.index.result.now) c.as_slice-2.ensures.value
+    ∙ read_piece c.self.inside.ends.items c.self.inside.bytes.items c.args.self.now c.args.at c.start_of-start.result c.index.result.now
+    c.self.view_is c.self.invariant.0 (there c.before) (begins c.before) c.index.ensures
+
+pub part-requires-clause-order : goal.part-requires-clause-order
+part-requires-clause-order c = order c
+
+pub part-requires-clause-within : goal.part-requires-clause-within
+part-requires-clause-within c = within c
+
+pub text_of-requires : goal.text_of-requires
+text_of-requires c =
+    let all : All IsUtf8 c.args.self.now = subst (All IsUtf8) c.self.view_is c.self.invariant.1 in
+    let here : IsUtf8 (get_or c.args.self.now c.args.at []) = all c.args.at [] c.requires in
+    subst IsUtf8 (sym (is_piece c)) here
+
+pub returns : goal.returns
+returns c = c.text_of.ensures ∙ is_piece c.before
