@@ -69,8 +69,14 @@ const QUERIES: [(&str, &str); 16] = [
         "for (x1 <- [1]) [(10 + x1)]",
     ),
     // Names that use the one before.
-    ("let x1 = 1; let x2 = x1 + 1; let x3 = x2 + 1; [x3]", "[((1 + 1) + 1)]"),
-    ("let x = 1; let x = x + x; let x = x + x; [x]", "[((1 + 1) + (1 + 1))]"),
+    (
+        "let x1 = 1; let x2 = x1 + 1; let x3 = x2 + 1; [x3]",
+        "[((1 + 1) + 1)]",
+    ),
+    (
+        "let x = 1; let x = x + x; let x = x + x; [x]",
+        "[((1 + 1) + (1 + 1))]",
+    ),
     (
         "let f = fun (x: int) -> x + 1; let g = fun (x: int) -> f(f(x)); [g(g(1))]",
         "[((((1 + 1) + 1) + 1) + 1)]",
@@ -89,7 +95,10 @@ const WITH_LETS: [(&str, &str); 8] = [
         "for (x1 <- [1]) for (x2 <- [2]) [(x2 + x1)]",
     ),
     // Names that nothing uses.
-    ("for (x <- [1]) (fun (y: int) -> [x])(2)", "for (x1 <- [1]) [x1]"),
+    (
+        "for (x <- [1]) (fun (y: int) -> [x])(2)",
+        "for (x1 <- [1]) [x1]",
+    ),
     (
         "for (x <- [1]) (fun (y: int) -> (fun (z: int) -> [x])(y))(2)",
         "for (x1 <- [1]) [x1]",

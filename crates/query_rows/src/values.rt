@@ -82,24 +82,14 @@ fn tables_of(alloc: Global, schema: &Schema, texts: &[&str]) -> Result<List<Tabl
 }
 
 // The canonical text of what a query means, with its newline.
-fn meant(
-    alloc: Global,
-    schema: &Schema,
-    tables: &[Table],
-    text: &str,
-) -> Result<List<u8>, Memory> {
+fn meant(alloc: Global, schema: &Schema, tables: &[Table], text: &str) -> Result<List<u8>, Memory> {
     let term = read(alloc, text)?;
     let plain = unfold_by_steps(alloc, term)?;
     let value = evaluate(alloc, schema, tables, &Scope::Top, &plain)?;
     write(alloc, &sort_deep(alloc, value)?)
 }
 
-fn said(
-    alloc: Global,
-    schema: &Schema,
-    tables: &[Table],
-    text: &str,
-) -> Result<String, Memory> {
+fn said(alloc: Global, schema: &Schema, tables: &[Table], text: &str) -> Result<String, Memory> {
     let written = meant(alloc, schema, tables, text)?;
     let line = str::from_utf8(written.as_slice()).unwrap_or("no text");
     Ok(String::from_str(alloc, line.trim_end())?)
@@ -111,10 +101,16 @@ fn means(rt: HostRuntime) -> Result<(), Memory> {
     let schema = org(alloc)?;
     let tables = tables_of(alloc, &schema, &TABLES)?;
     for (text, want) in &QUERIES {
-        assert_eq!(&rt; said(alloc, &schema, tables.as_slice(), text)?.as_str(), *want);
+        assert_eq!(&rt;
+            said(alloc, &schema, tables.as_slice(), text)?.as_str(),
+            *want
+        );
     }
     let twice = tables_of(alloc, &schema, &TWICE)?;
     let (text, want) = EACH_STAFF;
-    assert_eq!(&rt; said(alloc, &schema, twice.as_slice(), text)?.as_str(), want);
+    assert_eq!(&rt;
+        said(alloc, &schema, twice.as_slice(), text)?.as_str(),
+        want
+    );
     Ok(())
 }

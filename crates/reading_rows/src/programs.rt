@@ -18,18 +18,30 @@ const PROGRAMS: [(&str, &str); 28] = [
     // Records are the same in any order of their fields.
     ("[(b = 1, a = 2)] ++ [(a = 3, b = 4)]", "[(a: int, b: int)]"),
     // A function may take a function.
-    ("[(fun (f: int -> int) -> f(1))(fun (x: int) -> x)]", "[int]"),
+    (
+        "[(fun (f: int -> int) -> f(1))(fun (x: int) -> x)]",
+        "[int]",
+    ),
     ("table nobody", "Ill { rule: 5, place: 0 }"),
     ("-true", "Ill { rule: 6, place: 0 }"),
     ("!1", "Ill { rule: 7, place: 0 }"),
     ("1 + true", "Ill { rule: 8, place: 2 }"),
-    ("(a = 1, b = 1) == (a = 1, b = 1)", "Ill { rule: 9, place: 15 }"),
+    (
+        "(a = 1, b = 1) == (a = 1, b = 1)",
+        "Ill { rule: 9, place: 15 }",
+    ),
     ("true && 1", "Ill { rule: 10, place: 5 }"),
     ("if true then [1] else [true]", "Ill { rule: 11, place: 0 }"),
-    ("fun (x: [int -> int]) -> 1 + true", "Ill { rule: 12, place: 0 }"),
+    (
+        "fun (x: [int -> int]) -> 1 + true",
+        "Ill { rule: 12, place: 0 }",
+    ),
     ("(fun (x: int) -> x)(true)", "Ill { rule: 13, place: 19 }"),
     ("1(1)", "Ill { rule: 13, place: 1 }"),
-    ("for (p <- table parts) [p.a]", "Ill { rule: 15, place: 25 }"),
+    (
+        "for (p <- table parts) [p.a]",
+        "Ill { rule: 15, place: 25 }",
+    ),
     ("empty((a = 1, b = 1))", "Ill { rule: 16, place: 0 }"),
     ("[fun (x: int) -> x]", "Ill { rule: 17, place: 0 }"),
     ("[: int -> int]", "Ill { rule: 18, place: 0 }"),
