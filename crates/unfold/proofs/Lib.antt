@@ -5,3 +5,4 @@ pub mod Substitutes
 pub mod Proper
 pub mod Whole
 pub mod Facts
+pub mod Shifts
