@@ -6,3 +6,4 @@ pub mod Proper
 pub mod Whole
 pub mod Facts
 pub mod Shifts
+pub mod Developments
