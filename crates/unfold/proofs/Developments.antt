@@ -2,13 +2,13 @@
 --
 -- Such a superdevelopment is after Aczel, "A General Church-Rosser Theorem", 1978, and van Raamsdonk, "Confluence and
 -- superdevelopments", RTA 1993.
-use Rattle.std.proofs.Common.{◌≡◌, ℕ, ℤ, nat_lt, nat_eq, bytes_eq, cond, Bool, true, false, ◌+◌, ◌-◌, List, Option, Some, None, refl, sym, ap, ◌∙◌, subst as along, arith}
+use Rattle.std.proofs.Common.{◌≡◌, ℕ, ℤ, nat_lt, nat_eq, bytes_eq, cond, Bool, true, false, ◌+◌, ◌-◌, List, Option, Some, refl, sym, ap, ◌∙◌, subst as along, arith}
 use Rattle.std.specs.Prelude.{option_map}
 use Rattle.nq_model.specs.Types.{TypeTree}
 use Rattle.nq_model.specs.declared.term.Unary.{Unary}
 use Rattle.nq_model.specs.declared.term.Binary.{Binary}
 use Rattle.nq_model.specs.Terms.{PlacedTerm, PlacedNode, PlacedFields, at}
-use Rattle.nq_model.specs.Substitution.{shift, shift_fields, put, subst, subst_fields}
+use Rattle.nq_model.specs.Substitution.{shift, shift_fields, subst, subst_fields}
 use Rattle.nq_model.specs.Unfolding.{picked, contract_apply, contract_field}
 use Rattle.unfold.proofs.Shifts.{shift_subst, subst_subst}
 

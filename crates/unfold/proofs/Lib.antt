@@ -7,3 +7,4 @@ pub mod Whole
 pub mod Facts
 pub mod Shifts
 pub mod Developments
+pub mod Confluence

@@ -5,10 +5,10 @@ use Rattle.std.proofs.Common.{◌≡◌, ℕ, nat_lt, nat_eq, cond, Bool, true, 
 use Rattle.nq_model.specs.Terms.{PlacedTerm, PlacedNode, PlacedFields, at}
 use Rattle.nq_model.specs.Substitution.{shift_index, shift, shift_fields, put, subst, subst_fields}
 
-both : {A B C : Type 0} (f : A → B → C) {a x : A} {b y : B} → a ≡ x → b ≡ y → f a b ≡ f x y
+pub both : {A B C : Type 0} (f : A → B → C) {a x : A} {b y : B} → a ≡ x → b ≡ y → f a b ≡ f x y
 both f {x = x} {b = b} e g = ap (λ z. f z b) e ∙ ap (f x) g
 
-all : {A B C D : Type 0} (f : A → B → C → D) {a x : A} {b y : B} {c z : C} → a ≡ x → b ≡ y → c ≡ z → f a b c ≡ f x y z
+pub all : {A B C D : Type 0} (f : A → B → C → D) {a x : A} {b y : B} {c z : C} → a ≡ x → b ≡ y → c ≡ z → f a b c ≡ f x y z
 all f {x = x} {b = b} {c = c} e g h = ap (λ w. f w b c) e ∙ both (f x) g h
 
 -- how two indexes stand to one another
