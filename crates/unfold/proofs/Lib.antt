@@ -8,3 +8,4 @@ pub mod Facts
 pub mod Shifts
 pub mod Developments
 pub mod Confluence
+pub mod Contractions
