@@ -3,17 +3,18 @@
 -- The greatest development of a term, to which each of its developments develops, is after Takahashi, "Parallel
 -- reductions in lambda-calculus", Information and Computation 1995.
 use Rattle.std.proofs.Common.{◌≡◌, ℕ, List, Option, Some, None, refl, sym, ap, ◌∙◌, subst as along}
-use Rattle.std.specs.Prelude.{option_map}
 use Rattle.nq_model.specs.Types.{TypeTree}
 use Rattle.nq_model.specs.declared.term.Unary.{Unary}
 use Rattle.nq_model.specs.declared.term.Binary.{Binary}
 use Rattle.nq_model.specs.Terms.{PlacedTerm, PlacedNode, PlacedFields, at, bare, bare_fields}
 use Rattle.nq_model.specs.Substitution.{shift, subst}
-use Rattle.nq_model.specs.Unfolding.{part, picked, contract_apply, contract_field, contract_tree_apply, contract_tree_field, step, step_fields, here, after, Steps}
-use Rattle.nq_model.proofs.Unfolding.{bare_contract_apply, bare_contract_field}
+use Rattle.nq_model.specs.Unfolding.{picked, contract_apply, contract_field, step, Chain, Steps, Unfolds}
+use Rattle.unfold.specs.Contractions.{Closure, Contracts, Contractions}
 use Rattle.unfold.proofs.Still.{Still, AreStill}
 use Rattle.unfold.proofs.Shifts.{both, all}
 use Rattle.unfold.proofs.Developments.{Develops, FieldsDevelop, develops_same, fields_same, develops_shift, develops_subst, apply_develops, field_develops}
+use Rattle.unfold.proofs.Closures.{join, around, around_two, around_three}
+use Rattle.unfold.proofs.Contractions.{step_contracts, no_apply, no_field, ended_still, contracts_develops, develops_contractions}
 
 abbrev or_else : Option PlacedTerm → PlacedTerm → PlacedTerm
 or_else None t = t
@@ -89,58 +90,35 @@ mutual
   fields_develop_on (FieldsDevelop.with_field h k) = FieldsDevelop.with_field (develops_on h) (fields_develop_on k)
 
 -- one development after another
-pub data Closure {A : Type 0} (next : A → A → Type 0) : A → A → Type 0 where
-  reached : {t : A} → Closure next t t
-  going : {t u v : A} → next t u → Closure next u v → Closure next t v
-
 abbrev pub Reduces : PlacedTerm → PlacedTerm → Type 0
 Reduces t u = Closure Develops t u
 
 abbrev pub ReduceFields : PlacedFields → PlacedFields → Type 0
 ReduceFields fs gs = Closure FieldsDevelop fs gs
 
-join : {A : Type 0} {next : A → A → Type 0} {t u v : A} → Closure next t u → Closure next u v → Closure next t v
-join reached s = s
-join (going h r) s = going h (join r s)
-
--- what is done around what develops
-around : {A B : Type 0} (next : A → A → Type 0) (then : B → B → Type 0) (f : A → B) → ((t u : A) → next t u → then (f t) (f u)) → {t u : A} → Closure next t u → Closure then (f t) (f u)
-around next then f h reached = reached
-around next then f h (going {t = t} {u = u} e r) = going (h t u e) (around next then f h r)
-
 pub reduces_here : (t : PlacedTerm) → Reduces t t
-reduces_here t = reached
+reduces_here t = Closure.here
 
 pub reduces_by : {t u : PlacedTerm} → Develops t u → Reduces t u
-reduces_by h = going h reached
+reduces_by h = Closure.after h Closure.here
 
 pub reduces_join : {t u v : PlacedTerm} → Reduces t u → Reduces u v → Reduces t v
 reduces_join r s = join r s
 
 strip : {t u v : PlacedTerm} → Develops t u → Reduces t v → (w : PlacedTerm) × Reduces u w × Develops v w
-strip {u = u} h reached = (u, reached, h)
-strip {u = u} h (going g r) =
+strip {u = u} h Closure.here = (u, Closure.here, h)
+strip {u = u} h (Closure.after g r) =
     let s = strip (develops_on g) r in
-    (s.0, going (develops_on h) s.1, s.2)
+    (s.0, Closure.after (develops_on h) s.1, s.2)
 
 pub confluent : {t u v : PlacedTerm} → Reduces t u → Reduces t v → (w : PlacedTerm) × Reduces u w × Reduces v w
-confluent {v = v} reached s = (v, s, reached)
-confluent (going h r) s =
+confluent {v = v} Closure.here s = (v, s, Closure.here)
+confluent (Closure.after h r) s =
     let a = strip h s in
     let b = confluent r a.1 in
-    (b.0, b.1, going a.2 b.2)
+    (b.0, b.1, Closure.after a.2 b.2)
 
 -- a term that stands still has no development but itself
-no_apply : (p : ℕ) (t u x y r : PlacedTerm) → x ≡ t → y ≡ u → contract_tree_apply (bare t) (bare u) ≡ None → contract_apply p x y ≡ Some r → ⊥
-no_apply p t u x y r h k n e =
-    let i : Some (bare r) ≡ None = sym (ap (option_map bare) e) ∙ both (λ a b. option_map bare (contract_apply p a b)) h k ∙ bare_contract_apply p t u ∙ n in
-    cc
-
-no_field : (p : ℕ) (l : List ℕ) (t x r : PlacedTerm) → x ≡ t → contract_tree_field (bare t) l ≡ None → contract_field p x l ≡ Some r → ⊥
-no_field p l t x r h n e =
-    let i : Some (bare r) ≡ None = sym (ap (option_map bare) e) ∙ ap (λ a. option_map bare (contract_field p a l)) h ∙ bare_contract_field p t l ∙ n in
-    cc
-
 mutual
   still_same : {t u : PlacedTerm} → Develops t u → Still (bare t) → u ≡ t
   still_same Develops.var s = refl
@@ -171,8 +149,8 @@ mutual
   stills_same (FieldsDevelop.with_field {l = l} h k) s = both (PlacedFields.with_field l) (still_same h s.0) (stills_same k s.1)
 
 pub still_stays : {u w : PlacedTerm} → Still (bare u) → Reduces u w → w ≡ u
-still_stays s reached = refl
-still_stays {w = w} s (going {t = t} {u = u} h r) =
+still_stays s Closure.here = refl
+still_stays {w = w} s (Closure.after {t = t} {u = u} h r) =
     let e = still_same h s in
     still_stays (along (λ z. Still (bare z)) (sym e) s) r ∙ e
 
@@ -182,103 +160,80 @@ ends_once r s a b =
     let w = confluent r s in
     sym (still_stays a w.1) ∙ still_stays b w.2
 
--- each step contracts a node
-part_case : {A B : Type 0} (o : Option A) (f : A → B) (rest : Option B) (r : B) (P : B → Type 0) → ((x : A) → o ≡ Some x → P (f x)) → (rest ≡ Some r → P r) → part o f rest ≡ Some r → P r
-part_case None f rest r P h k e = k e
-part_case (Some x) f rest r P h k e =
-    let w : f x ≡ r = cc in
-    along P w (h x refl)
+-- contracting nodes reduces
+pub of_contractions : {t u : PlacedTerm} → Contractions t u → Reduces t u
+of_contractions r = around Contracts Develops (λ s. s) (λ s o h. contracts_develops h) r
 
-pub bind_develops : (p : ℕ) (t u r : PlacedTerm) → Some (subst 0 t u) ≡ Some r → Develops (at p (PlacedNode.bind t u)) r
-bind_develops p t u r e =
-    let w : subst 0 t u ≡ r = cc in
-    along (Develops (at p (PlacedNode.bind t u))) w (Develops.bind_contracts (develops_same t) (develops_same u))
+to_contractions : {t u : PlacedTerm} → Reduces t u → Contractions t u
+to_contractions Closure.here = Closure.here
+to_contractions (Closure.after h r) = join (develops_contractions h) (to_contractions r)
 
-mutual
-  step_develops : (t r : PlacedTerm) → step t ≡ Some r → Develops t r
-  step_develops (at p (PlacedNode.var k)) r e = cc
-  step_develops (at p (PlacedNode.int i)) r e = cc
-  step_develops (at p (PlacedNode.bool b)) r e = cc
-  step_develops (at p (PlacedNode.text x)) r e = cc
-  step_develops (at p (PlacedNode.table l)) r e = cc
-  step_develops (at p (PlacedNode.unary op t)) r e = part_case (step t) _ _ r (Develops (at p (PlacedNode.unary op t))) (λ x e. Develops.unary (step_develops t x e)) (λ i. cc) e
-  step_develops (at p (PlacedNode.binary op t u)) r e = part_case (step t) _ _ r (Develops (at p (PlacedNode.binary op t u))) (λ x e. Develops.binary (step_develops t x e) (develops_same u)) (λ i. part_case (step u) _ _ r (Develops (at p (PlacedNode.binary op t u))) (λ x e. Develops.binary (develops_same t) (step_develops u x e)) (λ i. cc) i) e
-  step_develops (at p (PlacedNode.choose t u v)) r e = part_case (step t) _ _ r (Develops (at p (PlacedNode.choose t u v))) (λ x e. Develops.choose (step_develops t x e) (develops_same u) (develops_same v)) (λ i. part_case (step u) _ _ r (Develops (at p (PlacedNode.choose t u v))) (λ x e. Develops.choose (develops_same t) (step_develops u x e) (develops_same v)) (λ i. part_case (step v) _ _ r (Develops (at p (PlacedNode.choose t u v))) (λ x e. Develops.choose (develops_same t) (develops_same u) (step_develops v x e)) (λ i. cc) i) i) e
-  step_develops (at p (PlacedNode.fun a t)) r e = part_case (step t) _ _ r (Develops (at p (PlacedNode.fun a t))) (λ x e. Develops.fun (step_develops t x e)) (λ i. cc) e
-  step_develops (at p (PlacedNode.apply t u)) r e = part_case (step t) _ _ r (Develops (at p (PlacedNode.apply t u))) (λ x e. Develops.apply (step_develops t x e) (develops_same u)) (λ i. part_case (step u) _ _ r (Develops (at p (PlacedNode.apply t u))) (λ x e. Develops.apply (develops_same t) (step_develops u x e)) (λ i. Develops.apply_contracts (develops_same t) (develops_same u) i) i) e
-  step_develops (at p (PlacedNode.rec fs)) r e = part_case (step_fields fs) _ _ r (Develops (at p (PlacedNode.rec fs))) (λ x e. Develops.rec (step_fields_develop fs x e)) (λ i. cc) e
-  step_develops (at p (PlacedNode.field t l)) r e = part_case (step t) _ _ r (Develops (at p (PlacedNode.field t l))) (λ x e. Develops.field (step_develops t x e)) (λ i. Develops.field_contracts (develops_same t) i) e
-  step_develops (at p (PlacedNode.empty t)) r e = part_case (step t) _ _ r (Develops (at p (PlacedNode.empty t))) (λ x e. Develops.empty (step_develops t x e)) (λ i. cc) e
-  step_develops (at p (PlacedNode.single t)) r e = part_case (step t) _ _ r (Develops (at p (PlacedNode.single t))) (λ x e. Develops.single (step_develops t x e)) (λ i. cc) e
-  step_develops (at p (PlacedNode.nil a)) r e = cc
-  step_develops (at p (PlacedNode.union t u)) r e = part_case (step t) _ _ r (Develops (at p (PlacedNode.union t u))) (λ x e. Develops.union (step_develops t x e) (develops_same u)) (λ i. part_case (step u) _ _ r (Develops (at p (PlacedNode.union t u))) (λ x e. Develops.union (develops_same t) (step_develops u x e)) (λ i. cc) i) e
-  step_develops (at p (PlacedNode.for t u)) r e = part_case (step t) _ _ r (Develops (at p (PlacedNode.for t u))) (λ x e. Develops.for (step_develops t x e) (develops_same u)) (λ i. part_case (step u) _ _ r (Develops (at p (PlacedNode.for t u))) (λ x e. Develops.for (develops_same t) (step_develops u x e)) (λ i. cc) i) e
-  step_develops (at p (PlacedNode.guard t u)) r e = part_case (step t) _ _ r (Develops (at p (PlacedNode.guard t u))) (λ x e. Develops.guard (step_develops t x e) (develops_same u)) (λ i. part_case (step u) _ _ r (Develops (at p (PlacedNode.guard t u))) (λ x e. Develops.guard (develops_same t) (step_develops u x e)) (λ i. cc) i) e
-  step_develops (at p (PlacedNode.bind t u)) r e = part_case (step t) _ _ r (Develops (at p (PlacedNode.bind t u))) (λ x e. Develops.bind (step_develops t x e) (develops_same u)) (λ i. part_case (step u) _ _ r (Develops (at p (PlacedNode.bind t u))) (λ x e. Develops.bind (develops_same t) (step_develops u x e)) (λ i. bind_develops p t u r i) i) e
-
-  step_fields_develop : (fs gs : PlacedFields) → step_fields fs ≡ Some gs → FieldsDevelop fs gs
-  step_fields_develop PlacedFields.none gs e = cc
-  step_fields_develop (PlacedFields.with_field l t fs) gs e = part_case (step t) _ _ gs (FieldsDevelop (PlacedFields.with_field l t fs)) (λ x e. FieldsDevelop.with_field (step_develops t x e) (fields_same fs)) (λ i. part_case (step_fields fs) _ _ gs (FieldsDevelop (PlacedFields.with_field l t fs)) (λ x e. FieldsDevelop.with_field (develops_same t) (step_fields_develop fs x e)) (λ i. cc) i) e
+steps_contractions : {t u : PlacedTerm} → Steps t u → Contractions t u
+steps_contractions Chain.here = Closure.here
+steps_contractions (Chain.after {t = t} {u = u} e r) = Closure.after (step_contracts t u e) (steps_contractions r)
 
 pub of_steps : {t u : PlacedTerm} → Steps t u → Reduces t u
-of_steps here = reached
-of_steps (after {t = t} {u = u} e r) = going (step_develops t u e) (of_steps r)
+of_steps r = of_contractions (steps_contractions r)
+
+pub contractions_meet : (t u v : PlacedTerm) → Contractions t u → Contractions t v → (w : PlacedTerm) × Contractions u w × Contractions v w
+contractions_meet t u v r s =
+    let w = confluent (of_contractions r) (of_contractions s) in
+    (w.0, to_contractions w.1, to_contractions w.2)
+
+pub contractions_unfold : (t u v : PlacedTerm) → Unfolds t u → Contractions t v → step v ≡ None → v ≡ u
+contractions_unfold t u v r s e = ends_once (of_contractions s) (of_steps r.steps) (ended_still v e) (ended_still u r.ended)
 
 -- reducing the parts of a node
 pub reduces_unary : {p : ℕ} {op : Unary} {t x : PlacedTerm} → Reduces t x → Reduces (at p (PlacedNode.unary op t)) (at p (PlacedNode.unary op x))
-reduces_unary {p = p} {op = op} r = around Develops Develops (λ s. at p (PlacedNode.unary op s)) (λ s o h. Develops.unary h) r
+reduces_unary {p = p} {op = op} r = around Develops Develops (λ i. at p (PlacedNode.unary op i)) (λ s o h. Develops.unary h) r
 
 pub reduces_binary : {p : ℕ} {op : Binary} {t u x y : PlacedTerm} → Reduces t x → Reduces u y → Reduces (at p (PlacedNode.binary op t u)) (at p (PlacedNode.binary op x y))
-reduces_binary {p = p} {op = op} {u = u} {x = x} r q = join (around Develops Develops (λ s. at p (PlacedNode.binary op s u)) (λ s o h. Develops.binary h (develops_same u)) r) (around Develops Develops (λ s. at p (PlacedNode.binary op x s)) (λ s o h. Develops.binary (develops_same x) h) q)
+reduces_binary {p = p} {op = op} r q = around_two Develops Develops Develops (λ i j. at p (PlacedNode.binary op i j)) (λ s o i h. Develops.binary h (develops_same i)) (λ i s o h. Develops.binary (develops_same i) h) r q
 
 pub reduces_choose : {p : ℕ} {t u v x y z : PlacedTerm} → Reduces t x → Reduces u y → Reduces v z → Reduces (at p (PlacedNode.choose t u v)) (at p (PlacedNode.choose x y z))
-reduces_choose {p = p} {u = u} {v = v} {x = x} {y = y} r q w = join (around Develops Develops (λ s. at p (PlacedNode.choose s u v)) (λ s o h. Develops.choose h (develops_same u) (develops_same v)) r) (join (around Develops Develops (λ s. at p (PlacedNode.choose x s v)) (λ s o h. Develops.choose (develops_same x) h (develops_same v)) q) (around Develops Develops (λ s. at p (PlacedNode.choose x y s)) (λ s o h. Develops.choose (develops_same x) (develops_same y) h) w))
+reduces_choose {p = p} r q w = around_three Develops Develops (λ i j k. at p (PlacedNode.choose i j k)) (λ s o i j h. Develops.choose h (develops_same i) (develops_same j)) (λ i s o j h. Develops.choose (develops_same i) h (develops_same j)) (λ i j s o h. Develops.choose (develops_same i) (develops_same j) h) r q w
 
 pub reduces_fun : {p : ℕ} {a : TypeTree} {t x : PlacedTerm} → Reduces t x → Reduces (at p (PlacedNode.fun a t)) (at p (PlacedNode.fun a x))
-reduces_fun {p = p} {a = a} r = around Develops Develops (λ s. at p (PlacedNode.fun a s)) (λ s o h. Develops.fun h) r
+reduces_fun {p = p} {a = a} r = around Develops Develops (λ i. at p (PlacedNode.fun a i)) (λ s o h. Develops.fun h) r
 
 pub reduces_apply : {p : ℕ} {t u x y : PlacedTerm} → Reduces t x → Reduces u y → Reduces (at p (PlacedNode.apply t u)) (at p (PlacedNode.apply x y))
-reduces_apply {p = p} {u = u} {x = x} r q = join (around Develops Develops (λ s. at p (PlacedNode.apply s u)) (λ s o h. Develops.apply h (develops_same u)) r) (around Develops Develops (λ s. at p (PlacedNode.apply x s)) (λ s o h. Develops.apply (develops_same x) h) q)
+reduces_apply {p = p} r q = around_two Develops Develops Develops (λ i j. at p (PlacedNode.apply i j)) (λ s o i h. Develops.apply h (develops_same i)) (λ i s o h. Develops.apply (develops_same i) h) r q
 
 pub reduces_rec : {p : ℕ} {fs gs : PlacedFields} → ReduceFields fs gs → Reduces (at p (PlacedNode.rec fs)) (at p (PlacedNode.rec gs))
 reduces_rec {p = p} r = around FieldsDevelop Develops (λ s. at p (PlacedNode.rec s)) (λ s t h. Develops.rec h) r
 
 pub reduces_field : {p : ℕ} {l : List ℕ} {t x : PlacedTerm} → Reduces t x → Reduces (at p (PlacedNode.field t l)) (at p (PlacedNode.field x l))
-reduces_field {p = p} {l = l} r = around Develops Develops (λ s. at p (PlacedNode.field s l)) (λ s o h. Develops.field h) r
+reduces_field {p = p} {l = l} r = around Develops Develops (λ i. at p (PlacedNode.field i l)) (λ s o h. Develops.field h) r
 
 pub reduces_empty : {p : ℕ} {t x : PlacedTerm} → Reduces t x → Reduces (at p (PlacedNode.empty t)) (at p (PlacedNode.empty x))
-reduces_empty {p = p} r = around Develops Develops (λ s. at p (PlacedNode.empty s)) (λ s o h. Develops.empty h) r
+reduces_empty {p = p} r = around Develops Develops (λ i. at p (PlacedNode.empty i)) (λ s o h. Develops.empty h) r
 
 pub reduces_single : {p : ℕ} {t x : PlacedTerm} → Reduces t x → Reduces (at p (PlacedNode.single t)) (at p (PlacedNode.single x))
-reduces_single {p = p} r = around Develops Develops (λ s. at p (PlacedNode.single s)) (λ s o h. Develops.single h) r
+reduces_single {p = p} r = around Develops Develops (λ i. at p (PlacedNode.single i)) (λ s o h. Develops.single h) r
 
 pub reduces_union : {p : ℕ} {t u x y : PlacedTerm} → Reduces t x → Reduces u y → Reduces (at p (PlacedNode.union t u)) (at p (PlacedNode.union x y))
-reduces_union {p = p} {u = u} {x = x} r q = join (around Develops Develops (λ s. at p (PlacedNode.union s u)) (λ s o h. Develops.union h (develops_same u)) r) (around Develops Develops (λ s. at p (PlacedNode.union x s)) (λ s o h. Develops.union (develops_same x) h) q)
+reduces_union {p = p} r q = around_two Develops Develops Develops (λ i j. at p (PlacedNode.union i j)) (λ s o i h. Develops.union h (develops_same i)) (λ i s o h. Develops.union (develops_same i) h) r q
 
 pub reduces_for : {p : ℕ} {t u x y : PlacedTerm} → Reduces t x → Reduces u y → Reduces (at p (PlacedNode.for t u)) (at p (PlacedNode.for x y))
-reduces_for {p = p} {u = u} {x = x} r q = join (around Develops Develops (λ s. at p (PlacedNode.for s u)) (λ s o h. Develops.for h (develops_same u)) r) (around Develops Develops (λ s. at p (PlacedNode.for x s)) (λ s o h. Develops.for (develops_same x) h) q)
+reduces_for {p = p} r q = around_two Develops Develops Develops (λ i j. at p (PlacedNode.for i j)) (λ s o i h. Develops.for h (develops_same i)) (λ i s o h. Develops.for (develops_same i) h) r q
 
 pub reduces_guard : {p : ℕ} {t u x y : PlacedTerm} → Reduces t x → Reduces u y → Reduces (at p (PlacedNode.guard t u)) (at p (PlacedNode.guard x y))
-reduces_guard {p = p} {u = u} {x = x} r q = join (around Develops Develops (λ s. at p (PlacedNode.guard s u)) (λ s o h. Develops.guard h (develops_same u)) r) (around Develops Develops (λ s. at p (PlacedNode.guard x s)) (λ s o h. Develops.guard (develops_same x) h) q)
+reduces_guard {p = p} r q = around_two Develops Develops Develops (λ i j. at p (PlacedNode.guard i j)) (λ s o i h. Develops.guard h (develops_same i)) (λ i s o h. Develops.guard (develops_same i) h) r q
 
 pub reduces_bind : {p : ℕ} {t u x y : PlacedTerm} → Reduces t x → Reduces u y → Reduces (at p (PlacedNode.bind t u)) (at p (PlacedNode.bind x y))
-reduces_bind {p = p} {u = u} {x = x} r q = join (around Develops Develops (λ s. at p (PlacedNode.bind s u)) (λ s o h. Develops.bind h (develops_same u)) r) (around Develops Develops (λ s. at p (PlacedNode.bind x s)) (λ s o h. Develops.bind (develops_same x) h) q)
+reduces_bind {p = p} r q = around_two Develops Develops Develops (λ i j. at p (PlacedNode.bind i j)) (λ s o i h. Develops.bind h (develops_same i)) (λ i s o h. Develops.bind (develops_same i) h) r q
 
 pub reduce_none : ReduceFields PlacedFields.none PlacedFields.none
-reduce_none = reached
+reduce_none = Closure.here
 
 pub reduce_with_field : {l : List ℕ} {t x : PlacedTerm} {fs gs : PlacedFields} → Reduces t x → ReduceFields fs gs → ReduceFields (PlacedFields.with_field l t fs) (PlacedFields.with_field l x gs)
-reduce_with_field {l = l} {x = x} {fs = fs} r q =
-    join (around Develops FieldsDevelop (λ s. PlacedFields.with_field l s fs) (λ s o h. FieldsDevelop.with_field h (fields_same fs)) r)
-    (around FieldsDevelop FieldsDevelop (PlacedFields.with_field l x) (λ s o h. FieldsDevelop.with_field (develops_same x) h) q)
+reduce_with_field {l = l} r q = around_two Develops FieldsDevelop FieldsDevelop (PlacedFields.with_field l) (λ s o i h. FieldsDevelop.with_field h (fields_same i)) (λ i s o h. FieldsDevelop.with_field (develops_same i) h) r q
 
 pub reduces_shift : (d c : ℕ) {t u : PlacedTerm} → Reduces t u → Reduces (shift d c t) (shift d c u)
 reduces_shift d c r = around Develops Develops (shift d c) (λ s o h. develops_shift d c h) r
 
 pub reduces_subst : (c : ℕ) {s r t u : PlacedTerm} → Reduces s r → Reduces t u → Reduces (subst c s t) (subst c r u)
-reduces_subst c {s = s} {r = r} {t = t} {u = u} q w =
-    join (around Develops Develops (λ z. subst c z t) (λ z o h. develops_subst h c (develops_same t)) q)
-    (around Develops Develops (subst c r) (λ z o h. develops_subst (develops_same r) c h) w)
+reduces_subst c q w = around_two Develops Develops Develops (subst c) (λ s o i h. develops_subst h c (develops_same i)) (λ i s o h. develops_subst (develops_same i) c h) q w
 
 -- contracting a node
 pub contracts_apply : {p : ℕ} {f a u : PlacedTerm} → contract_apply p f a ≡ Some u → Reduces (at p (PlacedNode.apply f a)) u

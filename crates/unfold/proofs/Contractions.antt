@@ -1,14 +1,108 @@
--- Contracting one node after another, and contracting many at once, reach the same terms.
-use Rattle.std.proofs.Common.{◌≡◌, ℕ, List, Some, None, refl, sym, ap, ◌∙◌}
+-- Contracting one node: each step does it, in a term that stands still none does it, and contracting many nodes at
+-- once is contracting one after another.
+use Rattle.std.proofs.Common.{◌≡◌, ℕ, List, Option, Some, None, refl, sym, ap, ◌∙◌, subst as along}
 use Rattle.std.specs.Prelude.{option_map}
 use Rattle.nq_model.specs.declared.term.Binary.{Binary}
-use Rattle.nq_model.specs.Terms.{PlacedTerm, PlacedNode, PlacedFields, at, bare}
-use Rattle.nq_model.specs.Unfolding.{step, Unfolds}
-use Rattle.nq_model.proofs.Unfolding.{bare_step}
-use Rattle.unfold.specs.Contractions.{contracted, Contracts, ContractsField, Contractions}
-use Rattle.unfold.proofs.Still.{Still, still_of}
+use Rattle.nq_model.specs.Terms.{PlacedTerm, PlacedNode, PlacedFields, at, bare, bare_fields}
+use Rattle.nq_model.specs.Substitution.{subst}
+use Rattle.nq_model.specs.Unfolding.{part, contract_apply, contract_field, contract_tree_apply, contract_tree_field, step, step_fields}
+use Rattle.nq_model.proofs.Unfolding.{bare_step, bare_contract_apply, bare_contract_field}
+use Rattle.unfold.specs.Contractions.{contracted, Contracts, ContractsField, Closure, Contractions}
+use Rattle.unfold.proofs.Still.{Still, AreStill, still_of}
+use Rattle.unfold.proofs.Shifts.{both}
 use Rattle.unfold.proofs.Developments.{Develops, FieldsDevelop, develops_same, fields_same}
-use Rattle.unfold.proofs.Confluence.{Closure, Reduces, bind_develops, of_steps, confluent, ends_once}
+use Rattle.unfold.proofs.Closures.{join, around, around_two, around_three}
+
+-- each step contracts a node
+part_case : {A B : Type 0} (o : Option A) (f : A → B) (rest : Option B) (r : B) (P : B → Type 0) → ((x : A) → o ≡ Some x → P (f x)) → (rest ≡ Some r → P r) → part o f rest ≡ Some r → P r
+part_case None f rest r P h k e = k e
+part_case (Some x) f rest r P h k e =
+    let w : f x ≡ r = cc in
+    along P w (h x refl)
+
+mutual
+  pub step_contracts : (t r : PlacedTerm) → step t ≡ Some r → Contracts t r
+  step_contracts (at p (PlacedNode.var k)) r e = cc
+  step_contracts (at p (PlacedNode.int i)) r e = cc
+  step_contracts (at p (PlacedNode.bool b)) r e = cc
+  step_contracts (at p (PlacedNode.text x)) r e = cc
+  step_contracts (at p (PlacedNode.table l)) r e = cc
+  step_contracts (at p (PlacedNode.unary op t)) r e = part_case (step t) _ _ r (Contracts (at p (PlacedNode.unary op t))) (λ x e. Contracts.unary (step_contracts t x e)) (λ i. cc) e
+  step_contracts (at p (PlacedNode.binary op t u)) r e = part_case (step t) _ _ r (Contracts (at p (PlacedNode.binary op t u))) (λ x e. Contracts.binary_left (step_contracts t x e)) (λ i. part_case (step u) _ _ r (Contracts (at p (PlacedNode.binary op t u))) (λ x e. Contracts.binary_right (step_contracts u x e)) (λ i. cc) i) e
+  step_contracts (at p (PlacedNode.choose t u v)) r e = part_case (step t) _ _ r (Contracts (at p (PlacedNode.choose t u v))) (λ x e. Contracts.choose_test (step_contracts t x e)) (λ i. part_case (step u) _ _ r (Contracts (at p (PlacedNode.choose t u v))) (λ x e. Contracts.choose_yes (step_contracts u x e)) (λ i. part_case (step v) _ _ r (Contracts (at p (PlacedNode.choose t u v))) (λ x e. Contracts.choose_no (step_contracts v x e)) (λ i. cc) i) i) e
+  step_contracts (at p (PlacedNode.fun a t)) r e = part_case (step t) _ _ r (Contracts (at p (PlacedNode.fun a t))) (λ x e. Contracts.fun_body (step_contracts t x e)) (λ i. cc) e
+  step_contracts (at p (PlacedNode.apply t u)) r e = part_case (step t) _ _ r (Contracts (at p (PlacedNode.apply t u))) (λ x e. Contracts.apply_func (step_contracts t x e)) (λ i. part_case (step u) _ _ r (Contracts (at p (PlacedNode.apply t u))) (λ x e. Contracts.apply_arg (step_contracts u x e)) (λ i. Contracts.whole i) i) e
+  step_contracts (at p (PlacedNode.rec fs)) r e = part_case (step_fields fs) _ _ r (Contracts (at p (PlacedNode.rec fs))) (λ x e. Contracts.rec_field (step_fields_contract fs x e)) (λ i. cc) e
+  step_contracts (at p (PlacedNode.field t l)) r e = part_case (step t) _ _ r (Contracts (at p (PlacedNode.field t l))) (λ x e. Contracts.field_of (step_contracts t x e)) (λ i. Contracts.whole i) e
+  step_contracts (at p (PlacedNode.empty t)) r e = part_case (step t) _ _ r (Contracts (at p (PlacedNode.empty t))) (λ x e. Contracts.empty_of (step_contracts t x e)) (λ i. cc) e
+  step_contracts (at p (PlacedNode.single t)) r e = part_case (step t) _ _ r (Contracts (at p (PlacedNode.single t))) (λ x e. Contracts.single_of (step_contracts t x e)) (λ i. cc) e
+  step_contracts (at p (PlacedNode.nil a)) r e = cc
+  step_contracts (at p (PlacedNode.union t u)) r e = part_case (step t) _ _ r (Contracts (at p (PlacedNode.union t u))) (λ x e. Contracts.union_left (step_contracts t x e)) (λ i. part_case (step u) _ _ r (Contracts (at p (PlacedNode.union t u))) (λ x e. Contracts.union_right (step_contracts u x e)) (λ i. cc) i) e
+  step_contracts (at p (PlacedNode.for t u)) r e = part_case (step t) _ _ r (Contracts (at p (PlacedNode.for t u))) (λ x e. Contracts.for_source (step_contracts t x e)) (λ i. part_case (step u) _ _ r (Contracts (at p (PlacedNode.for t u))) (λ x e. Contracts.for_body (step_contracts u x e)) (λ i. cc) i) e
+  step_contracts (at p (PlacedNode.guard t u)) r e = part_case (step t) _ _ r (Contracts (at p (PlacedNode.guard t u))) (λ x e. Contracts.guard_test (step_contracts t x e)) (λ i. part_case (step u) _ _ r (Contracts (at p (PlacedNode.guard t u))) (λ x e. Contracts.guard_body (step_contracts u x e)) (λ i. cc) i) e
+  step_contracts (at p (PlacedNode.bind t u)) r e = part_case (step t) _ _ r (Contracts (at p (PlacedNode.bind t u))) (λ x e. Contracts.bind_value (step_contracts t x e)) (λ i. part_case (step u) _ _ r (Contracts (at p (PlacedNode.bind t u))) (λ x e. Contracts.bind_body (step_contracts u x e)) (λ i. Contracts.whole i) i) e
+
+  step_fields_contract : (fs gs : PlacedFields) → step_fields fs ≡ Some gs → ContractsField fs gs
+  step_fields_contract PlacedFields.none gs e = cc
+  step_fields_contract (PlacedFields.with_field l t fs) gs e = part_case (step t) _ _ gs (ContractsField (PlacedFields.with_field l t fs)) (λ x e. ContractsField.first_field (step_contracts t x e)) (λ i. part_case (step_fields fs) _ _ gs (ContractsField (PlacedFields.with_field l t fs)) (λ x e. ContractsField.later_field (step_fields_contract fs x e)) (λ i. cc) i) e
+
+-- no node is contractible in a term that stands still
+pub no_apply : (p : ℕ) (t u x y r : PlacedTerm) → x ≡ t → y ≡ u → contract_tree_apply (bare t) (bare u) ≡ None → contract_apply p x y ≡ Some r → ⊥
+no_apply p t u x y r h k n e =
+    let i : Some (bare r) ≡ None = sym (ap (option_map bare) e) ∙ both (λ a b. option_map bare (contract_apply p a b)) h k ∙ bare_contract_apply p t u ∙ n in
+    cc
+
+pub no_field : (p : ℕ) (l : List ℕ) (t x r : PlacedTerm) → x ≡ t → contract_tree_field (bare t) l ≡ None → contract_field p x l ≡ Some r → ⊥
+no_field p l t x r h n e =
+    let i : Some (bare r) ≡ None = sym (ap (option_map bare) e) ∙ ap (λ a. option_map bare (contract_field p a l)) h ∙ bare_contract_field p t l ∙ n in
+    cc
+
+whole_still : (t u : PlacedTerm) → contracted t ≡ Some u → Still (bare t) → ⊥
+whole_still (at p (PlacedNode.apply f a)) u e s = no_apply p f a f a u refl refl s.2 e
+whole_still (at p (PlacedNode.field t l)) u e s = no_field p l t t u refl s.1 e
+whole_still (at p (PlacedNode.bind t u)) r e s = s
+whole_still _ u e s = cc
+
+mutual
+  contracts_still : {t u : PlacedTerm} → Contracts t u → Still (bare t) → ⊥
+  contracts_still (Contracts.whole {t = t} {u = u} e) s = whole_still t u e s
+  contracts_still (Contracts.unary h) s = contracts_still h s
+  contracts_still (Contracts.binary_left h) s = contracts_still h s.0
+  contracts_still (Contracts.binary_right h) s = contracts_still h s.1
+  contracts_still (Contracts.choose_test h) s = contracts_still h s.0
+  contracts_still (Contracts.choose_yes h) s = contracts_still h s.1
+  contracts_still (Contracts.choose_no h) s = contracts_still h s.2
+  contracts_still (Contracts.fun_body h) s = contracts_still h s
+  contracts_still (Contracts.apply_func h) s = contracts_still h s.0
+  contracts_still (Contracts.apply_arg h) s = contracts_still h s.1
+  contracts_still (Contracts.rec_field h) s = field_contracts_still h s
+  contracts_still (Contracts.field_of h) s = contracts_still h s.0
+  contracts_still (Contracts.empty_of h) s = contracts_still h s
+  contracts_still (Contracts.single_of h) s = contracts_still h s
+  contracts_still (Contracts.union_left h) s = contracts_still h s.0
+  contracts_still (Contracts.union_right h) s = contracts_still h s.1
+  contracts_still (Contracts.for_source h) s = contracts_still h s.0
+  contracts_still (Contracts.for_body h) s = contracts_still h s.1
+  contracts_still (Contracts.guard_test h) s = contracts_still h s.0
+  contracts_still (Contracts.guard_body h) s = contracts_still h s.1
+  contracts_still (Contracts.bind_value h) s = s
+  contracts_still (Contracts.bind_body h) s = s
+
+  field_contracts_still : {fs gs : PlacedFields} → ContractsField fs gs → AreStill (bare_fields fs) → ⊥
+  field_contracts_still (ContractsField.first_field h) s = contracts_still h s.0
+  field_contracts_still (ContractsField.later_field h) s = field_contracts_still h s.1
+
+pub ended_still : (t : PlacedTerm) → step t ≡ None → Still (bare t)
+ended_still t e = still_of (bare t) (sym (bare_step t) ∙ ap (option_map bare) e)
+
+pub ended_contracts : (t u : PlacedTerm) → step t ≡ None → Contracts t u → ⊥
+ended_contracts t u e h = contracts_still h (ended_still t e)
+
+-- contracting one node is a development
+bind_develops : (p : ℕ) (t u r : PlacedTerm) → Some (subst 0 t u) ≡ Some r → Develops (at p (PlacedNode.bind t u)) r
+bind_develops p t u r e =
+    let w : subst 0 t u ≡ r = cc in
+    along (Develops (at p (PlacedNode.bind t u))) w (Develops.bind_contracts (develops_same t) (develops_same u))
 
 whole_develops : (t u : PlacedTerm) → contracted t ≡ Some u → Develops t u
 whole_develops (at p (PlacedNode.apply f a)) u e = Develops.apply_contracts (develops_same f) (develops_same a) e
@@ -17,7 +111,7 @@ whole_develops (at p (PlacedNode.bind t u)) r e = bind_develops p t u r e
 whole_develops _ u e = cc
 
 mutual
-  contracts_develops : {t u : PlacedTerm} → Contracts t u → Develops t u
+  pub contracts_develops : {t u : PlacedTerm} → Contracts t u → Develops t u
   contracts_develops (Contracts.whole {t = t} {u = u} e) = whole_develops t u e
   contracts_develops (Contracts.unary h) = Develops.unary (contracts_develops h)
   contracts_develops (Contracts.binary_left {v = v} h) = Develops.binary (contracts_develops h) (develops_same v)
@@ -45,104 +139,56 @@ mutual
   field_contracts_develops (ContractsField.first_field {fs = fs} h) = FieldsDevelop.with_field (contracts_develops h) (fields_same fs)
   field_contracts_develops (ContractsField.later_field {t = t} h) = FieldsDevelop.with_field (develops_same t) (field_contracts_develops h)
 
-contractions_reduce : {t u : PlacedTerm} → Contractions t u → Reduces t u
-contractions_reduce Contractions.here = Closure.reached
-contractions_reduce (Contractions.after h r) = Closure.going (contracts_develops h) (contractions_reduce r)
+-- a development is contracting one node after another
+pub then : {t u v : PlacedTerm} → Contractions t u → contracted u ≡ Some v → Contractions t v
+then r e = join r (Closure.after (Contracts.whole e) Closure.here)
 
-join : {t u v : PlacedTerm} → Contractions t u → Contractions u v → Contractions t v
-join Contractions.here s = s
-join (Contractions.after h r) s = Contractions.after h (join r s)
+contractions_binary : (p : ℕ) (op : Binary) {t u x y : PlacedTerm} → Contractions t x → Contractions u y → Contractions (at p (PlacedNode.binary op t u)) (at p (PlacedNode.binary op x y))
+contractions_binary p op r q = around_two Contracts Contracts Contracts (λ i j. at p (PlacedNode.binary op i j)) (λ s i j h. Contracts.binary_left h) (λ s i j h. Contracts.binary_right h) r q
 
--- contractions in a part of a node
-within : (f : PlacedTerm → PlacedTerm) → ((t u : PlacedTerm) → Contracts t u → Contracts (f t) (f u)) → {t u : PlacedTerm} → Contractions t u → Contractions (f t) (f u)
-within f h Contractions.here = Contractions.here
-within f h (Contractions.after {t = t} {u = u} e r) = Contractions.after (h t u e) (within f h r)
+contractions_choose : (p : ℕ) {t u v x y z : PlacedTerm} → Contractions t x → Contractions u y → Contractions v z → Contractions (at p (PlacedNode.choose t u v)) (at p (PlacedNode.choose x y z))
+contractions_choose p r q w = around_three Contracts Contracts (λ i j k. at p (PlacedNode.choose i j k)) (λ s i j k h. Contracts.choose_test h) (λ s i j k h. Contracts.choose_yes h) (λ s i j k h. Contracts.choose_no h) r q w
 
--- contractions in the fields of a record
-data FieldContractions : PlacedFields → PlacedFields → Type 0 where
-  same : {fs : PlacedFields} → FieldContractions fs fs
-  more : {fs gs hs : PlacedFields} → ContractsField fs gs → FieldContractions gs hs → FieldContractions fs hs
+contractions_apply : (p : ℕ) {t u x y : PlacedTerm} → Contractions t x → Contractions u y → Contractions (at p (PlacedNode.apply t u)) (at p (PlacedNode.apply x y))
+contractions_apply p r q = around_two Contracts Contracts Contracts (λ i j. at p (PlacedNode.apply i j)) (λ s i j h. Contracts.apply_func h) (λ s i j h. Contracts.apply_arg h) r q
 
-join_fields : {fs gs hs : PlacedFields} → FieldContractions fs gs → FieldContractions gs hs → FieldContractions fs hs
-join_fields FieldContractions.same s = s
-join_fields (FieldContractions.more h r) s = FieldContractions.more h (join_fields r s)
+contractions_union : (p : ℕ) {t u x y : PlacedTerm} → Contractions t x → Contractions u y → Contractions (at p (PlacedNode.union t u)) (at p (PlacedNode.union x y))
+contractions_union p r q = around_two Contracts Contracts Contracts (λ i j. at p (PlacedNode.union i j)) (λ s i j h. Contracts.union_left h) (λ s i j h. Contracts.union_right h) r q
 
-within_first : (l : List ℕ) (fs : PlacedFields) {t u : PlacedTerm} → Contractions t u → FieldContractions (PlacedFields.with_field l t fs) (PlacedFields.with_field l u fs)
-within_first l fs Contractions.here = FieldContractions.same
-within_first l fs (Contractions.after h r) = FieldContractions.more (ContractsField.first_field h) (within_first l fs r)
+contractions_for : (p : ℕ) {t u x y : PlacedTerm} → Contractions t x → Contractions u y → Contractions (at p (PlacedNode.for t u)) (at p (PlacedNode.for x y))
+contractions_for p r q = around_two Contracts Contracts Contracts (λ i j. at p (PlacedNode.for i j)) (λ s i j h. Contracts.for_source h) (λ s i j h. Contracts.for_body h) r q
 
-within_later : (l : List ℕ) (t : PlacedTerm) {fs gs : PlacedFields} → FieldContractions fs gs → FieldContractions (PlacedFields.with_field l t fs) (PlacedFields.with_field l t gs)
-within_later l t FieldContractions.same = FieldContractions.same
-within_later l t (FieldContractions.more h r) = FieldContractions.more (ContractsField.later_field h) (within_later l t r)
+contractions_guard : (p : ℕ) {t u x y : PlacedTerm} → Contractions t x → Contractions u y → Contractions (at p (PlacedNode.guard t u)) (at p (PlacedNode.guard x y))
+contractions_guard p r q = around_two Contracts Contracts Contracts (λ i j. at p (PlacedNode.guard i j)) (λ s i j h. Contracts.guard_test h) (λ s i j h. Contracts.guard_body h) r q
 
-within_rec : (p : ℕ) {fs gs : PlacedFields} → FieldContractions fs gs → Contractions (at p (PlacedNode.rec fs)) (at p (PlacedNode.rec gs))
-within_rec p FieldContractions.same = Contractions.here
-within_rec p (FieldContractions.more h r) = Contractions.after (Contracts.rec_field h) (within_rec p r)
-
-then : {t u v : PlacedTerm} → Contractions t u → contracted u ≡ Some v → Contractions t v
-then r e = join r (Contractions.after (Contracts.whole e) Contractions.here)
-
-within_binary : (p : ℕ) (op : Binary) {t u x y : PlacedTerm} → Contractions t x → Contractions u y → Contractions (at p (PlacedNode.binary op t u)) (at p (PlacedNode.binary op x y))
-within_binary p op {u = u} {x = x} r q = join (within (λ s. at p (PlacedNode.binary op s u)) (λ s o h. Contracts.binary_left h) r) (within (λ s. at p (PlacedNode.binary op x s)) (λ s o h. Contracts.binary_right h) q)
-
-within_choose : (p : ℕ) {t u v x y z : PlacedTerm} → Contractions t x → Contractions u y → Contractions v z → Contractions (at p (PlacedNode.choose t u v)) (at p (PlacedNode.choose x y z))
-within_choose p {u = u} {v = v} {x = x} {y = y} r q w = join (within (λ s. at p (PlacedNode.choose s u v)) (λ s o h. Contracts.choose_test h) r) (join (within (λ s. at p (PlacedNode.choose x s v)) (λ s o h. Contracts.choose_yes h) q) (within (λ s. at p (PlacedNode.choose x y s)) (λ s o h. Contracts.choose_no h) w))
-
-within_apply : (p : ℕ) {t u x y : PlacedTerm} → Contractions t x → Contractions u y → Contractions (at p (PlacedNode.apply t u)) (at p (PlacedNode.apply x y))
-within_apply p {u = u} {x = x} r q = join (within (λ s. at p (PlacedNode.apply s u)) (λ s o h. Contracts.apply_func h) r) (within (λ s. at p (PlacedNode.apply x s)) (λ s o h. Contracts.apply_arg h) q)
-
-within_union : (p : ℕ) {t u x y : PlacedTerm} → Contractions t x → Contractions u y → Contractions (at p (PlacedNode.union t u)) (at p (PlacedNode.union x y))
-within_union p {u = u} {x = x} r q = join (within (λ s. at p (PlacedNode.union s u)) (λ s o h. Contracts.union_left h) r) (within (λ s. at p (PlacedNode.union x s)) (λ s o h. Contracts.union_right h) q)
-
-within_for : (p : ℕ) {t u x y : PlacedTerm} → Contractions t x → Contractions u y → Contractions (at p (PlacedNode.for t u)) (at p (PlacedNode.for x y))
-within_for p {u = u} {x = x} r q = join (within (λ s. at p (PlacedNode.for s u)) (λ s o h. Contracts.for_source h) r) (within (λ s. at p (PlacedNode.for x s)) (λ s o h. Contracts.for_body h) q)
-
-within_guard : (p : ℕ) {t u x y : PlacedTerm} → Contractions t x → Contractions u y → Contractions (at p (PlacedNode.guard t u)) (at p (PlacedNode.guard x y))
-within_guard p {u = u} {x = x} r q = join (within (λ s. at p (PlacedNode.guard s u)) (λ s o h. Contracts.guard_test h) r) (within (λ s. at p (PlacedNode.guard x s)) (λ s o h. Contracts.guard_body h) q)
-
-within_bind : (p : ℕ) {t u x y : PlacedTerm} → Contractions t x → Contractions u y → Contractions (at p (PlacedNode.bind t u)) (at p (PlacedNode.bind x y))
-within_bind p {u = u} {x = x} r q = join (within (λ s. at p (PlacedNode.bind s u)) (λ s o h. Contracts.bind_value h) r) (within (λ s. at p (PlacedNode.bind x s)) (λ s o h. Contracts.bind_body h) q)
+contractions_bind : (p : ℕ) {t u x y : PlacedTerm} → Contractions t x → Contractions u y → Contractions (at p (PlacedNode.bind t u)) (at p (PlacedNode.bind x y))
+contractions_bind p r q = around_two Contracts Contracts Contracts (λ i j. at p (PlacedNode.bind i j)) (λ s i j h. Contracts.bind_value h) (λ s i j h. Contracts.bind_body h) r q
 
 mutual
-  develops_contractions : {t u : PlacedTerm} → Develops t u → Contractions t u
-  develops_contractions Develops.var = Contractions.here
-  develops_contractions Develops.int = Contractions.here
-  develops_contractions Develops.bool = Contractions.here
-  develops_contractions Develops.text = Contractions.here
-  develops_contractions Develops.table = Contractions.here
-  develops_contractions (Develops.unary {p = p} {op = op} h) = within (λ s. at p (PlacedNode.unary op s)) (λ s o k. Contracts.unary k) (develops_contractions h)
-  develops_contractions (Develops.binary {p = p} {op = op} h k) = within_binary p op (develops_contractions h) (develops_contractions k)
-  develops_contractions (Develops.choose {p = p} h k g) = within_choose p (develops_contractions h) (develops_contractions k) (develops_contractions g)
-  develops_contractions (Develops.fun {p = p} {a = a} h) = within (λ s. at p (PlacedNode.fun a s)) (λ s o k. Contracts.fun_body k) (develops_contractions h)
-  develops_contractions (Develops.apply {p = p} h k) = within_apply p (develops_contractions h) (develops_contractions k)
-  develops_contractions (Develops.rec {p = p} h) = within_rec p (fields_contractions h)
-  develops_contractions (Develops.field {p = p} {l = l} h) = within (λ s. at p (PlacedNode.field s l)) (λ s o k. Contracts.field_of k) (develops_contractions h)
-  develops_contractions (Develops.empty {p = p} h) = within (λ s. at p (PlacedNode.empty s)) (λ s o k. Contracts.empty_of k) (develops_contractions h)
-  develops_contractions (Develops.single {p = p} h) = within (λ s. at p (PlacedNode.single s)) (λ s o k. Contracts.single_of k) (develops_contractions h)
-  develops_contractions Develops.nil = Contractions.here
-  develops_contractions (Develops.union {p = p} h k) = within_union p (develops_contractions h) (develops_contractions k)
-  develops_contractions (Develops.for {p = p} h k) = within_for p (develops_contractions h) (develops_contractions k)
-  develops_contractions (Develops.guard {p = p} h k) = within_guard p (develops_contractions h) (develops_contractions k)
-  develops_contractions (Develops.bind {p = p} h k) = within_bind p (develops_contractions h) (develops_contractions k)
-  develops_contractions (Develops.apply_contracts {p = p} h k e) = then (within_apply p (develops_contractions h) (develops_contractions k)) e
-  develops_contractions (Develops.field_contracts {p = p} {l = l} h e) = then (within (λ s. at p (PlacedNode.field s l)) (λ s o k. Contracts.field_of k) (develops_contractions h)) e
-  develops_contractions (Develops.bind_contracts {p = p} h k) = then (within_bind p (develops_contractions h) (develops_contractions k)) refl
+  pub develops_contractions : {t u : PlacedTerm} → Develops t u → Contractions t u
+  develops_contractions Develops.var = Closure.here
+  develops_contractions Develops.int = Closure.here
+  develops_contractions Develops.bool = Closure.here
+  develops_contractions Develops.text = Closure.here
+  develops_contractions Develops.table = Closure.here
+  develops_contractions (Develops.unary {p = p} {op = op} h) = around Contracts Contracts (λ s. at p (PlacedNode.unary op s)) (λ s o k. Contracts.unary k) (develops_contractions h)
+  develops_contractions (Develops.binary {p = p} {op = op} h k) = contractions_binary p op (develops_contractions h) (develops_contractions k)
+  develops_contractions (Develops.choose {p = p} h k g) = contractions_choose p (develops_contractions h) (develops_contractions k) (develops_contractions g)
+  develops_contractions (Develops.fun {p = p} {a = a} h) = around Contracts Contracts (λ s. at p (PlacedNode.fun a s)) (λ s o k. Contracts.fun_body k) (develops_contractions h)
+  develops_contractions (Develops.apply {p = p} h k) = contractions_apply p (develops_contractions h) (develops_contractions k)
+  develops_contractions (Develops.rec {p = p} h) = around ContractsField Contracts (λ s. at p (PlacedNode.rec s)) (λ s o k. Contracts.rec_field k) (fields_contractions h)
+  develops_contractions (Develops.field {p = p} {l = l} h) = around Contracts Contracts (λ s. at p (PlacedNode.field s l)) (λ s o k. Contracts.field_of k) (develops_contractions h)
+  develops_contractions (Develops.empty {p = p} h) = around Contracts Contracts (λ s. at p (PlacedNode.empty s)) (λ s o k. Contracts.empty_of k) (develops_contractions h)
+  develops_contractions (Develops.single {p = p} h) = around Contracts Contracts (λ s. at p (PlacedNode.single s)) (λ s o k. Contracts.single_of k) (develops_contractions h)
+  develops_contractions Develops.nil = Closure.here
+  develops_contractions (Develops.union {p = p} h k) = contractions_union p (develops_contractions h) (develops_contractions k)
+  develops_contractions (Develops.for {p = p} h k) = contractions_for p (develops_contractions h) (develops_contractions k)
+  develops_contractions (Develops.guard {p = p} h k) = contractions_guard p (develops_contractions h) (develops_contractions k)
+  develops_contractions (Develops.bind {p = p} h k) = contractions_bind p (develops_contractions h) (develops_contractions k)
+  develops_contractions (Develops.apply_contracts {p = p} h k e) = then (contractions_apply p (develops_contractions h) (develops_contractions k)) e
+  develops_contractions (Develops.field_contracts {p = p} {l = l} h e) = then (around Contracts Contracts (λ s. at p (PlacedNode.field s l)) (λ s o k. Contracts.field_of k) (develops_contractions h)) e
+  develops_contractions (Develops.bind_contracts {p = p} h k) = then (contractions_bind p (develops_contractions h) (develops_contractions k)) refl
 
-  fields_contractions : {fs gs : PlacedFields} → FieldsDevelop fs gs → FieldContractions fs gs
-  fields_contractions FieldsDevelop.none = FieldContractions.same
-  fields_contractions (FieldsDevelop.with_field {l = l} {x = x} {fs = fs} h k) = join_fields (within_first l fs (develops_contractions h)) (within_later l x (fields_contractions k))
-
-reduces_contractions : {t u : PlacedTerm} → Reduces t u → Contractions t u
-reduces_contractions Closure.reached = Contractions.here
-reduces_contractions (Closure.going h r) = join (develops_contractions h) (reduces_contractions r)
-
-pub contractions_meet : (t u v : PlacedTerm) → Contractions t u → Contractions t v → (w : PlacedTerm) × Contractions u w × Contractions v w
-contractions_meet t u v r s =
-    let w = confluent (contractions_reduce r) (contractions_reduce s) in
-    (w.0, reduces_contractions w.1, reduces_contractions w.2)
-
-ended_still : (t : PlacedTerm) → step t ≡ None → Still (bare t)
-ended_still t e = still_of (bare t) (sym (bare_step t) ∙ ap (option_map bare) e)
-
-pub contractions_unfold : (t u v : PlacedTerm) → Unfolds t u → Contractions t v → step v ≡ None → v ≡ u
-contractions_unfold t u v r s e = ends_once (contractions_reduce s) (of_steps r.steps) (ended_still v e) (ended_still u r.ended)
+  fields_contractions : {fs gs : PlacedFields} → FieldsDevelop fs gs → Closure ContractsField fs gs
+  fields_contractions FieldsDevelop.none = Closure.here
+  fields_contractions (FieldsDevelop.with_field {l = l} h k) = around_two Contracts ContractsField ContractsField (PlacedFields.with_field l) (λ s o i h. ContractsField.first_field h) (λ s i o h. ContractsField.later_field h) (develops_contractions h) (fields_contractions k)

@@ -7,5 +7,6 @@ pub mod Whole
 pub mod Facts
 pub mod Shifts
 pub mod Developments
-pub mod Confluence
+pub mod Closures
 pub mod Contractions
+pub mod Confluence

@@ -44,7 +44,11 @@ mutual
     first_field : {l : List ℕ} {t u : PlacedTerm} {fs : PlacedFields} → Contracts t u → ContractsField (PlacedFields.with_field l t fs) (PlacedFields.with_field l u fs)
     later_field : {l : List ℕ} {t : PlacedTerm} {fs gs : PlacedFields} → ContractsField fs gs → ContractsField (PlacedFields.with_field l t fs) (PlacedFields.with_field l t gs)
 
+-- u comes from t by next, any number of times
+pub data Closure {A : Type 0} (next : A → A → Type 0) : A → A → Type 0 where
+  here : {t : A} → Closure next t t
+  after : {t u v : A} → next t u → Closure next u v → Closure next t v
+
 -- u comes from t by contracting nodes, one after another and in any order
-pub data Contractions : PlacedTerm → PlacedTerm → Type 0 where
-  here : {t : PlacedTerm} → Contractions t t
-  after : {t u v : PlacedTerm} → Contracts t u → Contractions u v → Contractions t v
+abbrev pub Contractions : PlacedTerm → PlacedTerm → Type 0
+Contractions t u = Closure Contracts t u
