@@ -5,3 +5,8 @@ pub mod Substitutes
 pub mod Proper
 pub mod Whole
 pub mod Facts
+pub mod Shifts
+pub mod Developments
+pub mod Closures
+pub mod Contractions
+pub mod Confluence

@@ -1,3 +1,4 @@
+pub mod Contractions
 pub mod Depths
 pub mod Hereditary
 pub mod Slots
