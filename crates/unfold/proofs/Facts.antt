@@ -1,55 +1,62 @@
 -- How the code's parts fit the definitions.
-use Rattle.std.proofs.Common.{◌≡◌, ◌≢◌, ℕ, zero, suc, ◌+◌, ◌-◌, ◌<◌, cond, Bool, true, false, List, [], ◌∷◌, ◌++◌, map, reverse, refl, sym, ap, ◌∙◌, nat_lt, arith, length, drop, Option, Some, None, bytes_eq, slice_index_or, option_map, slice_get}
+use Rattle.std.proofs.Common.{◌≡◌, ◌≢◌, ℕ, zero, suc, ◌-◌, ◌<◌, cond, Bool, true, false, List, [], ◌∷◌, ◌++◌, map, reverse, refl, sym, ap, ◌∙◌, arith, length, drop, Option, Some, None, bytes_eq, slice_index_or, option_map, slice_get}
 use Rattle.std.proofs.lemmas.List.{reverse-append, map-append}
 use Rattle.std.specs.Prelude.{MatchOption}
 use Rattle.nq_model.specs.declared.term.Term.{Term}
 use Rattle.unfold.specs.declared.built.Built.{Built}
 use Rattle.nq_model.specs.declared.term.Node.TheVariants.{Rec}
 use Rattle.nq_model.specs.Terms.{PlacedTerm, PlacedNode, PlacedFields, at, placed, placed_node, placed_fields, placed_fields_of}
-use Rattle.nq_model.specs.Substitution.{shift, shift_fields, fields_with_places}
+use Rattle.nq_model.specs.Substitution.{shift, fields_with_places}
 use Rattle.nq_model.proofs.Terms.{placed_term, node_record}
 use Rattle.nq_model.specs.Unfolding.{picked}
-use Rattle.unfold.specs.Hereditary.{or_else, field_by, substitute, substitute_fields, apply_by, apply_at, walk, walk_fields}
-
--- shifting by nothing
-shift_zero_var : (k : ℕ) (b : Bool) → cond b k (k + 0) ≡ k
-shift_zero_var k true = refl
-shift_zero_var k false = omega arith
-
-mutual
-  pub shift_zero : (c : ℕ) (t : PlacedTerm) → shift 0 c t ≡ t
-  shift_zero c (at p (PlacedNode.var k)) = ap (λ x. at p (PlacedNode.var x)) (shift_zero_var k (nat_lt k c))
-  shift_zero c (at p (PlacedNode.int n)) = refl
-  shift_zero c (at p (PlacedNode.bool b)) = refl
-  shift_zero c (at p (PlacedNode.text t)) = refl
-  shift_zero c (at p (PlacedNode.table l)) = refl
-  shift_zero c (at p (PlacedNode.unary op t)) = rw (shift_zero c t) refl
-  shift_zero c (at p (PlacedNode.binary op t u)) = rw (shift_zero c t, shift_zero c u) refl
-  shift_zero c (at p (PlacedNode.choose t u v)) = rw (shift_zero c t, shift_zero c u, shift_zero c v) refl
-  shift_zero c (at p (PlacedNode.fun k t)) = rw (shift_zero (c + 1) t) refl
-  shift_zero c (at p (PlacedNode.apply t u)) = rw (shift_zero c t, shift_zero c u) refl
-  shift_zero c (at p (PlacedNode.rec fs)) = rw (shift_zeros c fs) refl
-  shift_zero c (at p (PlacedNode.field t l)) = rw (shift_zero c t) refl
-  shift_zero c (at p (PlacedNode.empty t)) = rw (shift_zero c t) refl
-  shift_zero c (at p (PlacedNode.single t)) = rw (shift_zero c t) refl
-  shift_zero c (at p (PlacedNode.nil k)) = refl
-  shift_zero c (at p (PlacedNode.union t u)) = rw (shift_zero c t, shift_zero c u) refl
-  shift_zero c (at p (PlacedNode.for t u)) = rw (shift_zero c t, shift_zero (c + 1) u) refl
-  shift_zero c (at p (PlacedNode.guard t u)) = rw (shift_zero c t, shift_zero c u) refl
-  shift_zero c (at p (PlacedNode.bind t u)) = rw (shift_zero c t, shift_zero (c + 1) u) refl
-
-  shift_zeros : (c : ℕ) (fs : PlacedFields) → shift_fields 0 c fs ≡ fs
-  shift_zeros c PlacedFields.none = refl
-  shift_zeros c (PlacedFields.with_field l t fs) = rw (shift_zero c t, shift_zeros c fs) refl
+use Rattle.unfold.specs.Hereditary.{or_else, field_by, substitute, substitute_fields, apply_by, apply_at}
+use Rattle.unfold.proofs.Shifts.{shift_zero}
+use Rattle.unfold.specs.Environments.{Entry, given, walk_in, walk_each, taken_by}
 
 -- what is done to each field
 pub substitute_fields-of : (app : ℕ → PlacedTerm → PlacedTerm → PlacedTerm) (c : ℕ) (s : PlacedTerm) (fs : List (List ℕ × PlacedTerm)) → substitute_fields app c s (placed_fields_of fs) ≡ placed_fields_of (map (λ f. (f.0, substitute app c s f.1)) fs)
 substitute_fields-of app c s [] = refl
 substitute_fields-of app c s (f ∷ fs) = ap (PlacedFields.with_field f.0 (substitute app c s f.1)) (substitute_fields-of app c s fs)
 
-pub walk_fields-of : (n : ℕ) (fs : List (List ℕ × PlacedTerm)) → walk_fields n (placed_fields_of fs) ≡ placed_fields_of (map (λ f. (f.0, walk n f.1)) fs)
-walk_fields-of n [] = refl
-walk_fields-of n (f ∷ fs) = ap (PlacedFields.with_field f.0 (walk n f.1)) (walk_fields-of n fs)
+pub walk_each-of : (r n : ℕ) (es : List Entry) (fs : List (List ℕ × PlacedTerm)) → walk_each r n es (placed_fields_of fs) ≡ placed_fields_of (map (λ f. (f.0, walk_in r n es f.1)) fs)
+walk_each-of r n es [] = refl
+walk_each-of r n es (f ∷ fs) = ap (PlacedFields.with_field f.0 (walk_in r n es f.1)) (walk_each-of r n es fs)
+
+-- an application of a function that is written out, and any other
+pub taken_is : (r n : ℕ) (es : List Entry) (p : ℕ) (f u : PlacedTerm) → taken_by (λ t. walk_in r n (given n (walk_in r n es u) ∷ es) t) (apply_at r p (walk_in r n es f) (walk_in r n es u)) f ≡ walk_in r n es (at p (PlacedNode.apply f u))
+taken_is r n es p (at q (PlacedNode.var k)) u = refl
+taken_is r n es p (at q (PlacedNode.int i)) u = refl
+taken_is r n es p (at q (PlacedNode.bool b)) u = refl
+taken_is r n es p (at q (PlacedNode.text x)) u = refl
+taken_is r n es p (at q (PlacedNode.table l)) u = refl
+taken_is r n es p (at q (PlacedNode.unary op t)) u = refl
+taken_is r n es p (at q (PlacedNode.binary op t v)) u = refl
+taken_is r n es p (at q (PlacedNode.choose t v w)) u = refl
+taken_is r n es p (at q (PlacedNode.fun k t)) u = refl
+taken_is r n es p (at q (PlacedNode.apply t v)) u = refl
+taken_is r n es p (at q (PlacedNode.rec fs)) u = refl
+taken_is r n es p (at q (PlacedNode.field t l)) u = refl
+taken_is r n es p (at q (PlacedNode.empty t)) u = refl
+taken_is r n es p (at q (PlacedNode.single t)) u = refl
+taken_is r n es p (at q (PlacedNode.nil k)) u = refl
+taken_is r n es p (at q (PlacedNode.union t v)) u = refl
+taken_is r n es p (at q (PlacedNode.for t v)) u = refl
+taken_is r n es p (at q (PlacedNode.guard t v)) u = refl
+taken_is r n es p (at q (PlacedNode.bind t v)) u = refl
+
+-- a field of a walked record is the walked field
+picked_each_by : (f : PlacedTerm → PlacedTerm) (t : PlacedTerm) (o q : Option PlacedTerm) → q ≡ option_map f o → (b : Bool) → cond b (Some (f t)) q ≡ option_map f (cond b (Some t) o)
+picked_each_by f t o q e true = refl
+picked_each_by f t o q e false = e
+
+picked_each : (r n : ℕ) (es : List Entry) (l : List ℕ) (fs : PlacedFields) → picked l (walk_each r n es fs) ≡ option_map (walk_in r n es) (picked l fs)
+picked_each r n es l PlacedFields.none = refl
+picked_each r n es l (PlacedFields.with_field m t fs) =
+    picked_each_by (walk_in r n es) t (picked l fs) (picked l (walk_each r n es fs)) (picked_each r n es l fs) (bytes_eq l m)
+
+pub walked_field : (r n : ℕ) (es : List Entry) (p q : ℕ) (l : List ℕ) (fs : PlacedFields) (t : PlacedTerm) → picked l fs ≡ Some t → walk_in r n es t ≡ field_by p l (at q (PlacedNode.rec (walk_each r n es fs)))
+walked_field r n es p q l fs t e =
+    sym (ap (λ o. or_else o (at p (PlacedNode.field (at q (PlacedNode.rec (walk_each r n es fs))) l))) (picked_each r n es l fs ∙ ap (option_map (walk_in r n es)) e))
 
 -- a choice between equal terms
 pub same_branches : (p : ℕ) (x y n v w : PlacedTerm) → y ≡ v → n ≡ w → at p (PlacedNode.choose x y n) ≡ at p (PlacedNode.choose x v w)

@@ -10,3 +10,6 @@ pub mod Developments
 pub mod Closures
 pub mod Contractions
 pub mod Confluence
+pub mod Scopes
+pub mod Together
+pub mod Walks

@@ -1,10 +1,10 @@
 -- Unfolding keeps terms proper, and typed terms are closed.
-use Rattle.std.proofs.Common.{◌≡◌, ℕ, zero, suc, ◌+◌, ◌-◌, ◌<◌, cond, Bool, true, false, List, [], ◌∷◌, length, Option, Some, None, refl, sym, ap, ◌∙◌, subst as along, nat_lt, nat_eq, bytes_eq, arith}
+use Rattle.std.proofs.Common.{◌≡◌, ℕ, zero, suc, ◌+◌, ◌-◌, ◌<◌, cond, Bool, true, false, List, [], ◌∷◌, length, Option, Some, None, refl, sym, ap, subst as along, nat_lt, nat_eq, bytes_eq, arith}
 use Rattle.std.specs.Prelude.{slice_get}
 use Rattle.nq_model.specs.Orders.{AreDistinct}
 use Rattle.nq_model.specs.Types.{TypeTree, FieldTypes}
 use Rattle.nq_model.specs.Terms.{PlacedTerm, PlacedNode, PlacedFields, at, TermTree, TermFields, bare, bare_fields}
-use Rattle.nq_model.specs.Substitution.{shift, shift_tree, shift_tree_fields, put}
+use Rattle.nq_model.specs.Substitution.{shift, shift_tree, shift_tree_fields}
 use Rattle.nq_model.specs.Unfolding.{picked}
 use Rattle.nq_model.specs.Proper.{IsQueryWord, field_labels, IsProperTerm, AreProperTerms, IsClosedUnder, AreClosedUnder}
 use Rattle.nq_model.specs.Typing.{HasType, HaveTypes}

@@ -73,8 +73,8 @@ pub(crate) fn field(
     }
 }
 
-// Where the first field of that label stands.
-fn find(fields: &[(Label, Term)], label: &Label) -> Option<usize>
+/// Where the first field of that label stands.
+pub(crate) fn find(fields: &[(Label, Term)], label: &Label) -> Option<usize>
     ensures { MatchOption result (picked label.now (placed_fields fields.now) ≡ None) (λ i. (i < length fields.now) × (picked label.now (placed_fields fields.now) ≡ option_map (λ f. placed f.1) (slice_get fields.now i))) }
 {
     for i in 0..fields.len() {

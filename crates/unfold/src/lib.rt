@@ -1,16 +1,19 @@
 //! Unfolding: functions, `let` and fields of records are removed from a term.
 #![tactic(auto)]
 
+mod answer;
 mod built;
+mod counts;
 mod field;
 mod forms;
 mod fuel;
 mod laws;
+mod scope;
 mod slot;
 mod stack;
 mod substitute;
 mod uses;
 mod walk;
 
-pub use laws::unfolding_ends;
-pub use walk::{DEEPEST, unfold};
+pub use answer::{DEEPEST, unfold};
+pub use laws::{unfolding_ends, unfolding_is_confluent};

@@ -16,7 +16,7 @@ pub(crate) struct Slot {
 }
 
 /// The term in the slot under `under` binders, moved where this is the last use and there is no binder.
-fn take(alloc: Global, under: u64, slot: &mut Slot) -> Result<Built<Term>, Memory>
+pub(crate) fn take(alloc: Global, under: u64, slot: &mut Slot) -> Result<Built<Term>, Memory>
     ensures { IfOk result (λ b. Puts slot.old slot.new (λ s. placed b.term ≡ shift under 0 s)) }
 {
     let left = slot.left;

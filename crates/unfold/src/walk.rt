@@ -1,105 +1,109 @@
-// Unfolding a whole term.
-ghost use Rattle.std.specs.Prelude.{◌≡◌, ◌≤◌, map, IfOk};
-ghost use Rattle.nq_model.specs.Types.{TypeTree};
-ghost use Rattle.nq_model.specs.Terms.{placed, term_tree};
+// The walk over a whole query, in one pass.
+//
+// None of its calls goes into a term that was built on the way, but for applications of done functions.
+ghost use Rattle.std.specs.Prelude.{◌≡◌, ◌+◌, [], ◌∷◌, map, IfOk};
+ghost use Rattle.nq_model.specs.Terms.{placed, placed_fields, at, PlacedNode};
 ghost use Rattle.nq_model.specs.Substitution.{fields_with_places};
-ghost use Rattle.nq_model.specs.Typing.{IsAccepted};
-ghost use Rattle.unfold.specs.Depths.{term_depth};
-ghost use Rattle.unfold.specs.Hereditary.{walk, unfolded, substitute, apply_at, field_by};
-ghost use Rattle.unfold.specs.Unfolded.{IsUnfolding};
+ghost use Rattle.unfold.specs.Environments.{stays, given, walk_in, walk_each, taken_by};
+ghost use Rattle.unfold.specs.Hereditary.{apply_at, field_by};
+ghost use Rattle.unfold.specs.Slots.{Holds};
+ghost use Rattle.unfold.specs.Scopes.{Keeps};
 
-use crate::built::{Built, depth, leaf};
-use crate::field::field;
+use crate::built::{Built, leaf, one_more};
+use crate::field::{field, find};
 use crate::forms::{
     Part, binary, choice, comprehension, emptiness, function, guard, single, unary, union,
     with_fields,
 };
-use crate::fuel::fuel;
+use crate::scope::{Binder, Scope};
 use crate::slot::Slot;
 use crate::stack::{ARGUMENT, BIND, ROOM, WALK, further};
-use crate::substitute::{apply, substitute};
-use crate::uses::uses;
-use nq_model::{Label, List, Memory, Node, Schema, Term, boxed};
+use crate::substitute::apply;
+use nq_model::{Label, List, Memory, Node, Term, boxed};
 use std::alloc::Global;
 
-/// The deepest term that is answered, so that what recurses on it later needs no more stack than that.
-pub const DEEPEST: u64 = 2_000;
-
-/// The plain term that the steps of unfolding reach, places included, of the same type.
-///
-/// Want of memory is also the answer where the term is deeper than `DEEPEST`, where one built on the way is deeper
-/// than the limit for those, and where the walks would take more of the stack than their room. Nothing is read
-/// from the schema: it says over which tables the term is typed.
-pub fn unfold(alloc: Global, schema: &Schema, term: Term) -> Result<Term, Memory>
-    requires { (type : TypeTree) × IsAccepted schema.now (term_tree term) type }
-    ensures reached { IfOk result (λ t. IsUnfolding schema.now (placed term) (placed t)) }
-    ensures shallow { IfOk result (λ t. term_depth (term_tree t) ≤ 2000) }
+/// What a closed query becomes. `rank` bounds how deep arrows nest in the types of its parts.
+pub(crate) fn walk_query(
+    alloc: Global,
+    rank: u64,
+    uses: Vec<u64>,
+    term: Term,
+) -> Result<Built<Term>, Memory>
+    ensures { IfOk result (λ b. placed b.term ≡ walk_in rank 0 [] (placed term)) }
 {
-    unfold_by_rank(alloc, term)
+    let mut scope = Scope {
+        binders: Vec::new(alloc),
+        uses,
+    };
+    walk(alloc, rank, ROOM, 0, &mut scope, term)
 }
 
-pub(crate) fn unfold_by_rank(alloc: Global, term: Term) -> Result<Term, Memory>
-    ensures exact { IfOk result (λ t. placed t ≡ unfolded (placed term)) }
-    ensures shallow { IfOk result (λ t. term_depth (term_tree t) ≤ 2000) }
-{
-    let rank = fuel(&term)?;
-    let done = walk(alloc, rank, ROOM, term)?;
-    if depth(&done.term)? > DEEPEST {
-        return Err(Memory);
-    }
-    Ok(done.term)
-}
-
+// What a part becomes under `level` binders that stay. `room` is how many bytes the stack may still grow.
 #[cycle(walk)]
-fn walk(alloc: Global, rank: u64, room: u64, term: Term) -> Result<Built<Term>, Memory>
-    ensures { IfOk result (λ b. placed b.term ≡ walk rank (placed term)) }
+fn walk(
+    alloc: Global,
+    rank: u64,
+    room: u64,
+    level: u64,
+    scope: &mut Scope,
+    term: Term,
+) -> Result<Built<Term>, Memory>
+    ensures { IfOk result (λ b. Keeps scope.old scope.new (λ es. placed b.term ≡ walk_in rank level es (placed term))) }
 {
     let room = further(room, WALK)?;
     let Term { place, node } = term;
     match node {
-        Node::Var(_)
-        | Node::Int(_)
-        | Node::Bool(_)
-        | Node::Text(_)
-        | Node::Table(_)
-        | Node::Nil(_) => Ok(leaf(Term { place, node })),
-        Node::Unary { op, of } => unary(place, op, walk_box(alloc, rank, room, of)?),
+        Node::Var(k) => scope.look_up(alloc, level, place, k),
+        Node::Int(_) | Node::Bool(_) | Node::Text(_) | Node::Table(_) | Node::Nil(_) => {
+            Ok(leaf(Term { place, node }))
+        }
+        Node::Unary { op, of } => {
+            let of = walk_box(alloc, rank, room, level, scope, of)?;
+            unary(place, op, of)
+        }
         Node::Binary { op, left, right } => {
-            let left = walk_box(alloc, rank, room, left)?;
-            let right = walk_box(alloc, rank, room, right)?;
+            let left = walk_box(alloc, rank, room, level, scope, left)?;
+            let right = walk_box(alloc, rank, room, level, scope, right)?;
             binary(place, op, left, right)
         }
         Node::If { test, yes, no } => {
-            let test = walk_box(alloc, rank, room, test)?;
-            let yes = walk_box(alloc, rank, room, yes)?;
-            let no = walk_box(alloc, rank, room, no)?;
+            let test = walk_box(alloc, rank, room, level, scope, test)?;
+            let yes = walk_box(alloc, rank, room, level, scope, yes)?;
+            let no = walk_box(alloc, rank, room, level, scope, no)?;
             choice(place, test, yes, no)
         }
-        Node::Fun { taken, body } => function(place, taken, walk_box(alloc, rank, room, body)?),
-        Node::Apply { func, arg } => walk_apply(alloc, rank, room, place, func, arg),
+        Node::Fun { taken, body } => {
+            let body = walk_under(alloc, rank, room, level, scope, body)?;
+            function(place, taken, body)
+        }
+        Node::Apply { func, arg } => {
+            walk_apply(alloc, rank, room, level, scope, place, func, arg)
+        }
         Node::Rec(fields) => {
-            let fields = walk_fields(alloc, rank, room, fields)?;
+            let fields = walk_fields(alloc, rank, room, level, scope, fields)?;
             with_fields(place, fields)
         }
-        Node::Field { of, label } => walk_field(alloc, rank, room, place, of, label),
-        Node::Empty(of) => emptiness(place, walk_box(alloc, rank, room, of)?),
-        Node::Single(of) => single(place, walk_box(alloc, rank, room, of)?),
+        Node::Field { of, label } => {
+            walk_field(alloc, rank, room, level, scope, place, of, label)
+        }
+        Node::Empty(of) => emptiness(place, walk_box(alloc, rank, room, level, scope, of)?),
+        Node::Single(of) => single(place, walk_box(alloc, rank, room, level, scope, of)?),
         Node::Union { left, right } => {
-            let left = walk_box(alloc, rank, room, left)?;
-            let right = walk_box(alloc, rank, room, right)?;
+            let left = walk_box(alloc, rank, room, level, scope, left)?;
+            let right = walk_box(alloc, rank, room, level, scope, right)?;
             union(place, left, right)
         }
         Node::For { source, body } => {
-            let source = walk_box(alloc, rank, room, source)?;
-            let body = walk_box(alloc, rank, room, body)?;
+            let source = walk_box(alloc, rank, room, level, scope, source)?;
+            let body = walk_under(alloc, rank, room, level, scope, body)?;
             comprehension(place, source, body)
         }
         Node::Guard { test, body } => {
-            let test = walk_box(alloc, rank, room, test)?;
-            let body = walk_box(alloc, rank, room, body)?;
+            let test = walk_box(alloc, rank, room, level, scope, test)?;
+            let body = walk_box(alloc, rank, room, level, scope, body)?;
             guard(place, test, body)
         }
-        Node::Bind { value, body } => walk_bind(alloc, rank, room, value, body),
+        Node::Bind { value, body } => walk_given(alloc, rank, room, level, scope, value, body),
     }
 }
 
@@ -107,14 +111,91 @@ fn walk(alloc: Global, rank: u64, room: u64, term: Term) -> Result<Built<Term>, 
 
 #[cycle(walk)]
 #[inline(never)]
-fn walk_box(alloc: Global, rank: u64, room: u64, term: Box<Term>) -> Result<Part, Memory>
-    ensures { IfOk result (λ b. placed b.term.value ≡ walk rank (placed term.value)) }
+fn walk_box(
+    alloc: Global,
+    rank: u64,
+    room: u64,
+    level: u64,
+    scope: &mut Scope,
+    term: Box<Term>,
+) -> Result<Part, Memory>
+    ensures { IfOk result (λ b. Keeps scope.old scope.new (λ es. placed b.term.value ≡ walk_in rank level es (placed term.value))) }
 {
-    let done = walk(alloc, rank, room, Box::into_inner(term))?;
+    let done = walk(alloc, rank, room, level, scope, Box::into_inner(term))?;
     let term = boxed(alloc, done.term)?;
     Ok(Built {
         term,
         deep: done.deep,
+    })
+}
+
+// The body of a binder that stays.
+#[cycle(walk)]
+#[inline(never)]
+fn walk_under(
+    alloc: Global,
+    rank: u64,
+    room: u64,
+    level: u64,
+    scope: &mut Scope,
+    body: Box<Term>,
+) -> Result<Part, Memory>
+    ensures { IfOk result (λ b. Keeps scope.old scope.new (λ es. placed b.term.value ≡ walk_in rank (level + 1) (stays level ∷ es) (placed body.value))) }
+{
+    scope.enter(Binder::Stays(level))?;
+    let inner = one_more(level)?;
+    let done = walk(alloc, rank, room, inner, scope, Box::into_inner(body))?;
+    scope.leave();
+    let term = boxed(alloc, done.term)?;
+    Ok(Built {
+        term,
+        deep: done.deep,
+    })
+}
+
+// A body, with what a value becomes in place of its innermost variable.
+#[cycle(walk)]
+#[inline(never)]
+fn walk_given(
+    alloc: Global,
+    rank: u64,
+    room: u64,
+    level: u64,
+    scope: &mut Scope,
+    value: Box<Term>,
+    body: Box<Term>,
+) -> Result<Built<Term>, Memory>
+    ensures { IfOk result (λ b. Keeps scope.old scope.new (λ es. placed b.term ≡ walk_in rank level (given level (walk_in rank level es (placed value.value)) ∷ es) (placed body.value))) }
+{
+    let slot = walk_value(alloc, rank, room, level, scope, value)?;
+    scope.enter(Binder::Given(level, slot))?;
+    let done = walk(alloc, rank, room, level, scope, Box::into_inner(body))?;
+    scope.leave();
+    Ok(done)
+}
+
+// A value that is put in for a variable. One that is not used is not walked.
+#[cycle(walk)]
+#[inline(never)]
+fn walk_value(
+    alloc: Global,
+    rank: u64,
+    room: u64,
+    level: u64,
+    scope: &mut Scope,
+    value: Box<Term>,
+) -> Result<Slot, Memory>
+    ensures { IfOk result (λ slot. Keeps scope.old scope.new (λ es. Holds slot (walk_in rank level es (placed value.value)))) }
+{
+    let left = scope.next_uses();
+    if left == 0 {
+        return Ok(Slot { value: None, left });
+    }
+    let room = further(room, BIND)?;
+    let value = walk(alloc, rank, room, level, scope, Box::into_inner(value))?;
+    Ok(Slot {
+        value: Some(value),
+        left,
     })
 }
 
@@ -124,15 +205,47 @@ fn walk_apply(
     alloc: Global,
     rank: u64,
     room: u64,
+    level: u64,
+    scope: &mut Scope,
     place: u64,
     func: Box<Term>,
     arg: Box<Term>,
 ) -> Result<Built<Term>, Memory>
-    ensures { IfOk result (λ b. placed b.term ≡ apply_at rank place (walk rank (placed func.value)) (walk rank (placed arg.value))) }
+    ensures { IfOk result (λ b. Keeps scope.old scope.new (λ es. placed b.term ≡ taken_by (λ t. walk_in rank level (given level (walk_in rank level es (placed arg.value)) ∷ es) t) (apply_at rank place (walk_in rank level es (placed func.value)) (walk_in rank level es (placed arg.value))) (placed func.value))) }
+{
+    let Term { place: own, node } = Box::into_inner(func);
+    match node {
+        Node::Fun {
+            taken: _taken,
+            body,
+        } => walk_given(alloc, rank, room, level, scope, arg, body),
+        other => {
+            let func = Term {
+                place: own,
+                node: other,
+            };
+            walk_parts(alloc, rank, room, level, scope, place, func, arg)
+        }
+    }
+}
+
+#[cycle(walk)]
+#[inline(never)]
+fn walk_parts(
+    alloc: Global,
+    rank: u64,
+    room: u64,
+    level: u64,
+    scope: &mut Scope,
+    place: u64,
+    func: Term,
+    arg: Box<Term>,
+) -> Result<Built<Term>, Memory>
+    ensures { IfOk result (λ b. Keeps scope.old scope.new (λ es. placed b.term ≡ apply_at rank place (walk_in rank level es (placed func)) (walk_in rank level es (placed arg.value)))) }
 {
     let room = further(room, ARGUMENT)?;
-    let func = walk(alloc, rank, room, Box::into_inner(func))?;
-    let arg = walk(alloc, rank, room, Box::into_inner(arg))?;
+    let func = walk(alloc, rank, room, level, scope, func)?;
+    let arg = walk(alloc, rank, room, level, scope, Box::into_inner(arg))?;
     apply(alloc, rank, room, place, func, arg)
 }
 
@@ -142,55 +255,78 @@ fn walk_field(
     alloc: Global,
     rank: u64,
     room: u64,
+    level: u64,
+    scope: &mut Scope,
     place: u64,
     of: Box<Term>,
     label: Label,
 ) -> Result<Built<Term>, Memory>
-    ensures { IfOk result (λ b. placed b.term ≡ field_by place label (walk rank (placed of.value))) }
+    ensures { IfOk result (λ b. Keeps scope.old scope.new (λ es. placed b.term ≡ field_by place label (walk_in rank level es (placed of.value)))) }
 {
-    let of = walk(alloc, rank, room, Box::into_inner(of))?;
-    field(alloc, room, place, label, of)
-}
-
-#[cycle(walk)]
-#[inline(never)]
-fn walk_bind(
-    alloc: Global,
-    rank: u64,
-    room: u64,
-    value: Box<Term>,
-    body: Box<Term>,
-) -> Result<Built<Term>, Memory>
-    ensures { IfOk result (λ b. placed b.term ≡ substitute (apply_at rank) 0 (walk rank (placed value.value)) (walk rank (placed body.value))) }
-{
-    let body = walk(alloc, rank, room, Box::into_inner(body))?;
-    bind(alloc, rank, room, value, body.term)
-}
-
-// A walked body with the walked value in place of its variable. A value that is not used is not walked.
-#[cycle(walk)]
-#[inline(never)]
-fn bind(
-    alloc: Global,
-    rank: u64,
-    room: u64,
-    value: Box<Term>,
-    body: Term,
-) -> Result<Built<Term>, Memory>
-    ensures { IfOk result (λ b. placed b.term ≡ substitute (apply_at rank) 0 (walk rank (placed value.value)) (placed body)) }
-{
-    let room = further(room, BIND)?;
-    let left = uses(&body, 0);
-    if left == 0 {
-        let mut none = Slot { value: None, left };
-        return substitute(alloc, rank, room, 0, &mut none, body);
+    let Term { place: own, node } = Box::into_inner(of);
+    match node {
+        Node::Rec(fields) => {
+            walk_picked(alloc, rank, room, level, scope, place, own, fields, label)
+        }
+        other => {
+            let of = Term {
+                place: own,
+                node: other,
+            };
+            walk_whole(alloc, rank, room, level, scope, place, of, label)
+        }
     }
-    let value = walk(alloc, rank, room, Box::into_inner(value))?;
-    let mut slot = Slot {
-        value: Some(value),
-        left,
-    };
-    substitute(alloc, rank, room, 0, &mut slot, body)
+}
+
+// A field of a record that is written out. The other fields are not walked.
+#[cycle(walk)]
+#[inline(never)]
+fn walk_picked(
+    alloc: Global,
+    rank: u64,
+    room: u64,
+    level: u64,
+    scope: &mut Scope,
+    place: u64,
+    own: u64,
+    fields: List<(Label, Term)>,
+    label: Label,
+) -> Result<Built<Term>, Memory>
+    ensures { IfOk result (λ b. Keeps scope.old scope.new (λ es. placed b.term ≡ field_by place label (at own (PlacedNode.rec (walk_each rank level es (placed_fields fields)))))) }
+{
+    match find(fields.as_slice(), &label) {
+        Some(at) => {
+            let mut fields = fields.into_vec();
+            let taken = fields.remove(at);
+            let (_, found) = taken;
+            walk(alloc, rank, room, level, scope, found)
+        }
+        None => {
+            let of = Term {
+                place: own,
+                node: Node::Rec(fields),
+            };
+            walk_whole(alloc, rank, room, level, scope, place, of, label)
+        }
+    }
+}
+
+#[cycle(walk)]
+#[inline(never)]
+fn walk_whole(
+    alloc: Global,
+    rank: u64,
+    room: u64,
+    level: u64,
+    scope: &mut Scope,
+    place: u64,
+    of: Term,
+    label: Label,
+) -> Result<Built<Term>, Memory>
+    ensures { IfOk result (λ b. Keeps scope.old scope.new (λ es. placed b.term ≡ field_by place label (walk_in rank level es (placed of)))) }
+{
+    let of = walk(alloc, rank, room, level, scope, of)?;
+    field(alloc, room, place, label, of)
 }
 
 #[cycle(walk)]
@@ -199,16 +335,18 @@ fn walk_fields(
     alloc: Global,
     rank: u64,
     room: u64,
+    level: u64,
+    scope: &mut Scope,
     fields: List<(Label, Term)>,
 ) -> Result<Built<List<(Label, Term)>>, Memory>
-    ensures { IfOk result (λ b. fields_with_places b.term ≡ map (λ f. (f.0, walk rank f.1)) (fields_with_places fields)) }
+    ensures { IfOk result (λ b. Keeps scope.old scope.new (λ es. fields_with_places b.term ≡ map (λ f. (f.0, walk_in rank level es f.1)) (fields_with_places fields))) }
 {
     let mut all = List::new(alloc);
     let mut deep: u64 = 0;
     let mut rest = fields;
     while let Some(last) = rest.pop() {
         let (label, term) = last;
-        let done = walk(alloc, rank, room, term)?;
+        let done = walk(alloc, rank, room, level, scope, term)?;
         deep = deep.max(done.deep);
         all.push((label, done.term))?;
     }
