@@ -78,9 +78,16 @@ fn sums_of(alloc: Global, schema: &Schema, text: &str) -> Result<Option<u64>, Me
     match outcome(alloc, schema, term) {
         Outcome::Reached(reached) => Ok(Some(sums(&reached))),
         Outcome::WantOfMemory => Ok(None),
-        Outcome::IllTyped => Ok(Some(0)),
+        Outcome::IllTyped => Ok(Some(u64::MAX)),
     }
 }
+
+// Queries in which a term of tens of thousands of sums stands where nothing uses it.
+const UNUSED: [&str; 3] = [
+    "let deep = f15(1); [7]",
+    "[(a = f15(1), b = 7).b]",
+    "[(fun (x: int) -> 7)(f15(1))]",
+];
 
 // 1,998 sums, a leaf and a bag are 2,000 nodes, one below the other. The stack carries them; one more is want of
 // memory, and so are tens of thousands, and the next query is answered as before.
@@ -95,6 +102,10 @@ fn deep_queries(rt: HostRuntime) -> Result<(), Memory> {
     let far_deeper = tower_of(alloc, 15, 32768)?;
     assert_eq!(&rt; sums_of(alloc, &schema, far_deeper.as_str())?, None);
     assert_eq!(&rt; sums_of(alloc, &schema, deepest.as_str())?, Some(1998));
+    for body in &UNUSED {
+        let text = tower(alloc, 15, body)?;
+        assert_eq!(&rt; sums_of(alloc, &schema, text.as_str())?, Some(0));
+    }
     let chained = chain(alloc, 149)?;
     assert_eq!(&rt; sums_of(alloc, &schema, chained.as_str())?, Some(149));
     let doublings = doubled(alloc, 16)?;
