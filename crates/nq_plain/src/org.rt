@@ -2,7 +2,7 @@
 use crate::build::Built;
 use crate::{Scope, evaluate, unfold_by_steps};
 use canon::{sort_deep, write};
-use nq_model::{Cell, ColumnType, Label, List, Memory, Schema, Table, TableShape, Text};
+use nq_model::{Cell, ColumnType, Label, List, Memory, Rows, Schema, Table, TableShape, Text};
 use std::alloc::Global;
 
 #[derive(Drop)]
@@ -65,37 +65,37 @@ fn row(alloc: Global, texts: &[&str]) -> Result<List<Cell>, Memory> {
 }
 
 fn departments(alloc: Global, names: &[&str]) -> Result<Table, Memory> {
-    let mut rows = List::new(alloc);
+    let mut rows = Rows::new(alloc);
     for name in names {
-        rows.push(row(alloc, &[*name])?)?;
+        rows.push(row(alloc, &[*name])?.as_slice())?;
     }
     Ok(Table { rows })
 }
 
 fn employees(alloc: Global, all: &[(&str, &str, i64)]) -> Result<Table, Memory> {
-    let mut rows = List::new(alloc);
+    let mut rows = Rows::new(alloc);
     for (dept, name, salary) in all {
         let mut cells = row(alloc, &[*dept, *name])?;
         cells.push(Cell::Int(*salary))?;
-        rows.push(cells)?;
+        rows.push(cells.as_slice())?;
     }
     Ok(Table { rows })
 }
 
 fn tasks(alloc: Global) -> Result<Table, Memory> {
-    let mut rows = List::new(alloc);
+    let mut rows = Rows::new(alloc);
     for (employee, task) in TASKS {
-        rows.push(row(alloc, &[*employee, *task])?)?;
+        rows.push(row(alloc, &[*employee, *task])?.as_slice())?;
     }
     Ok(Table { rows })
 }
 
 fn contacts(alloc: Global) -> Result<Table, Memory> {
-    let mut rows = List::new(alloc);
+    let mut rows = Rows::new(alloc);
     for (dept, name, client) in CONTACTS {
         let mut cells = row(alloc, &[*dept, *name])?;
         cells.push(Cell::Bool(*client))?;
-        rows.push(cells)?;
+        rows.push(cells.as_slice())?;
     }
     Ok(Table { rows })
 }
