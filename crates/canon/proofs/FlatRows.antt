@@ -1,6 +1,6 @@
 -- The order, the form and the text of flat records.
-use Rattle.std.proofs.Common.{◌≡◌, ℕ, zero, suc, ◌+◌, ◌-◌, ◌<◌, List, [], ◌∷◌, ◌++◌, map, zip, take, drop, length, min, get_or, refl, sym, ap, ap₂, ◌∙◌, arith, codes, length-drop}
-use Rattle.std.proofs.lemmas.List.{take_more, take_all, map-append, length-map}
+use Rattle.std.proofs.Common.{◌≡◌, ℕ, zero, suc, ◌+◌, ◌-◌, ◌<◌, ◌≤◌, pos, slice_range, add-one, drop-cons, List, [], ◌∷◌, ◌++◌, map, zip, take, drop, length, min, get_or, refl, sym, ap, ap₂, ◌∙◌, arith, codes, length-drop, length-take}
+use Rattle.std.proofs.lemmas.List.{take_more, take_all, map-append, length-map, get_or_default, get_or-drop}
 use Rattle.std.proofs.lemmas.Slice.Zip.{length-zip}
 use Rattle.std.proofs.lemmas.Bool.Decides.{nat_tests}
 use Rattle.std.specs.declared.cmp.Ordering.{Ordering}
@@ -13,8 +13,9 @@ use Rattle.nq_model.specs.Orders.{label_cmp, sorted_by}
 use Rattle.nq_model.specs.Values.{Nested, base, labels, fields_of, elements_of, rec_of, bag_of}
 use Rattle.nq_model.specs.Canonical.{canonical, canonical_text, value_cmp, fields_cmp, written, written_fields, written_elements, cell_text}
 use Rattle.nq_model.specs.declared.table.Cell.{Cell}
+use Rattle.nq_model.specs.declared.table.Cell.TheVariants.{Int}
 use Rattle.nq_model.proofs.Canonical.{label_order}
-use Rattle.canon.specs.Rows.{record_of, row_record, rows_value}
+use Rattle.canon.specs.Rows.{record_of, row_at, row_record, rows_at, rows_value}
 use Rattle.canon.specs.Texts.{separator}
 use Rattle.canon.proofs.Canonical.{canonical_record, canonical_bag}
 use Rattle.canon.proofs.Writing.{field_text, elements_push, fields_push}
@@ -57,31 +58,75 @@ fields_compare (n ∷ ns) (l ∷ ls) [] = refl
 fields_compare (n ∷ ns) (l ∷ ls) (r ∷ rs) = ap (ordering_then (cell_cmp l r)) (fields_compare ns ls rs)
 
 -- records of the same labels compare by how many cells they have, and then cell by cell
-pub records_compare : (names : List (List ℕ)) (ls rs : List Cell) →
+records_compare : (names : List (List ℕ)) (ls rs : List Cell) →
     value_cmp (record_of names ls) (record_of names rs)
     ≡ ordering_then (nat_cmp (length (take (length names) ls)) (length (take (length names) rs))) (slice_cmp cell_cmp (take (length names) ls) (take (length names) rs))
 records_compare names ls rs = ap₂ ordering_then (labels_compare names ls rs) (fields_compare names ls rs)
 
--- at the shorter one's length, one of the two rests is empty
-rests_cmp : (m n i : ℕ) → i ≡ min m n → nat_cmp (m - i) (n - i) ≡ nat_cmp m n
-rests_cmp m n i e = grind (arith, nat_tests)
+pub then_equal : (o r : Ordering) → o ≡ Equal → ordering_then o r ≡ r
+then_equal o r e = ap (λ (x : Ordering). ordering_then x r) e
 
-cells_ended : (xs ys : List Cell) → min (length xs) (length ys) ≡ 0 → slice_cmp cell_cmp xs ys ≡ nat_cmp (length xs) (length ys)
-cells_ended [] [] e = refl
-cells_ended [] (y ∷ ys) e = less (length ys)
-cells_ended (x ∷ xs) [] e = greater (length xs)
-cells_ended (x ∷ xs) (y ∷ ys) e = absurd (omega arith)
+pub then_other : (o r : Ordering) → (o ≡ Equal → ⊥) → ordering_then o r ≡ o
+then_other Less r other = refl
+then_other Equal r other = absurd (other refl)
+then_other Greater r other = refl
+
+pub same_place : (m n : ℕ) → nat_cmp m n ≡ Equal → m ≡ n
+same_place m n e = grind (arith, nat_tests)
+
+later : (first m n : ℕ) → nat_cmp m n ≡ nat_cmp (first + m) (first + n)
+later first m n = grind (arith, nat_tests)
+
+-- the records of two rows, whose cells from a place on end at these places
+pub rows_compare : (names : List (List ℕ)) (first : ℕ) (ls rs : List Cell) (l r : ℕ)
+    → l ≡ first + length (take (length names) (drop first ls)) → r ≡ first + length (take (length names) (drop first rs))
+    → ordering_then (nat_cmp l r) (slice_cmp cell_cmp (take (length names) (drop first ls)) (take (length names) (drop first rs)))
+    ≡ value_cmp (row_record names first ls) (row_record names first rs)
+rows_compare names first ls rs l r l_is r_is =
+    let left : List Cell = take (length names) (drop first ls) in
+    let right : List Cell = take (length names) (drop first rs) in
+    sym (records_compare names (drop first ls) (drop first rs)
+    ∙ ap (λ (o : Ordering). ordering_then o (slice_cmp cell_cmp left right)) (later first (length left) (length right) ∙ ap₂ nat_cmp (sym l_is) (sym r_is)))
+
+-- so many elements, as far as there are
+taken_again : {A : Type 0} (n : ℕ) (xs : List A) → take (length (take n xs)) xs ≡ take n xs
+taken_again zero xs = refl
+taken_again (suc n) [] = refl
+taken_again (suc n) (x ∷ xs) = ap (λ l. x ∷ l) (taken_again n xs)
+
+-- the cells from a place on are those up to where they end
+pub range_taken : (count first : ℕ) (row : List Cell) (end : ℕ) → end ≡ first + length (take count (drop first row))
+    → slice_range row first end ≡ take count (drop first row)
+range_taken count first row end is =
+    let many : end - first ≡ length (take count (drop first row)) = omega arith in
+    ap (λ (n : ℕ). take n (drop first row)) many ∙ taken_again count (drop first row)
+
+-- a range of cells is its first, and then the rest
+range_step : (row : List Cell) (column end : ℕ) (cell : Cell) → column < end → column < length row → cell ≡ get_or row column (Int (pos 0))
+    → slice_range row column end ≡ cell ∷ slice_range row (column + 1) end
+range_step row column end cell below within is =
+    let more : end - column ≡ suc (end - (column + 1)) = omega arith in
+    let first : drop column row ≡ cell ∷ drop (column + 1) row = rw (add-one, is) (drop-cons row column (Int (pos 0)) within) in
+    ap₂ (λ (n : ℕ) (l : List Cell). take n l) more first
+
+-- two ranges of cells compare by their first cells, and then by the rest
+pub cells_step : (ls rs : List Cell) (column end : ℕ) (l r : Cell) → column < end → column < length ls → column < length rs
+    → l ≡ get_or ls column (Int (pos 0)) → r ≡ get_or rs column (Int (pos 0))
+    → slice_cmp cell_cmp (slice_range ls column end) (slice_range rs column end)
+    ≡ ordering_then (cell_cmp l r) (slice_cmp cell_cmp (slice_range ls (column + 1) end) (slice_range rs (column + 1) end))
+cells_step ls rs column end l r below left right l_is r_is =
+    ap₂ (slice_cmp cell_cmp) (range_step ls column end l below left l_is) (range_step rs column end r below right r_is)
+
+-- two ranges of cells that end where they begin
+pub cells_none : (ls rs : List Cell) (column end : ℕ) → end ≤ column → slice_cmp cell_cmp (slice_range ls column end) (slice_range rs column end) ≡ Equal
+cells_none ls rs column end past =
+    let none : end - column ≡ 0 = omega arith in
+    ap (λ (n : ℕ). slice_cmp cell_cmp (take n (drop column ls)) (take n (drop column rs))) none
 
 settled : (names : List (List ℕ)) (cells : List Cell) → map (λ f. (f.0, canonical f.1)) (zip names (map base cells)) ≡ zip names (map base cells)
 settled [] cells = refl
 settled (n ∷ ns) [] = refl
 settled (n ∷ ns) (c ∷ cs) = ap (λ (l : List (List ℕ × Nested)). (n, base c) ∷ l) (settled ns cs)
-
--- how two rows of cells compare where the shorter one ends
-pub cells_end : (a b : List Cell) (i : ℕ) → i ≡ min (length a) (length b) → slice_cmp cell_cmp (drop i a) (drop i b) ≡ nat_cmp (length a) (length b)
-cells_end a b i e =
-    cells_ended (drop i a) (drop i b) (rw (length-drop, length-drop) (omega arith))
-    ∙ rw (length-drop, length-drop) (rests_cmp (length a) (length b) i e)
 
 -- a record of cells is in canonical form as it stands
 record_canonical : (names : List (List ℕ)) (cells : List Cell) → canonical (record_of names cells) ≡ record_of names cells
@@ -122,11 +167,42 @@ field_there (n ∷ ns) (c ∷ cs) (suc i) name cell h k e f =
     let r = field_there ns cs i name cell (omega (arith, h)) (omega (arith, k)) e f in (omega (arith, r.0), r.1)
 
 -- the text of a record's first fields, and that of one more
-pub cells_more : (names : List (List ℕ)) (cells : List Cell) (i : ℕ) (name : List ℕ) (cell : Cell)
+cells_more : (names : List (List ℕ)) (cells : List Cell) (i : ℕ) (name : List ℕ) (cell : Cell)
     → i < length names → i < length cells → name ≡ get_or names i name → cell ≡ get_or cells i cell
     → written_fields (fields_of (take (i + 1) (zip names (map base cells)))) ≡ written_fields (fields_of (take i (zip names (map base cells)))) ++ (separator i ++ (name ++ (codes " = " ++ cell_text cell)))
 cells_more names cells i name cell h k e f =
     let there = field_there names cells i name cell h k e f in fields_taken (zip names (map base cells)) i (name, base cell) there.0 there.1
+
+-- a place before the end of a row's cells
+pub place_within : (count first : ℕ) (row : List Cell) (end column : ℕ) → end ≡ first + length (take count (drop first row)) → first ≤ column → column < end
+    → (column - first < count) × (column < length row) × (column - first < length (drop first row))
+place_within count first row end column is from below =
+    let many : length (take count (drop first row)) ≡ min count (length row - first) = rw (length-take, length-drop) refl in
+    (omega arith, omega arith, rw length-drop (omega arith))
+
+pub place_last : (count first : ℕ) (row : List Cell) (end column : ℕ) → end ≡ first + length (take count (drop first row)) → column ≡ end
+    → column - first ≡ min count (length (drop first row))
+place_last count first row end column is last =
+    let many : length (take count (drop first row)) ≡ min count (length (drop first row)) = rw length-take refl in
+    omega arith
+
+pub cell_behind : (first : ℕ) (row : List Cell) (column : ℕ) (cell : Cell) → first ≤ column → column < length row → cell ≡ get_or row column (Int (pos 0))
+    → cell ≡ get_or (drop first row) (column - first) cell
+cell_behind first row column cell from within is =
+    let place : first + (column - first) ≡ column = omega arith in
+    is ∙ get_or_default row column (Int (pos 0)) cell within
+    ∙ sym (get_or-drop first row (column - first) cell ∙ ap (λ (n : ℕ). get_or row n cell) place)
+
+-- one more field, by the places of cells
+pub column_more : (names : List (List ℕ)) (first : ℕ) (row : List Cell) (column : ℕ) (name : List ℕ) (cell : Cell)
+    → first ≤ column → column - first < length names → column < length row → column - first < length (drop first row)
+    → name ≡ get_or names (column - first) name → cell ≡ get_or row column (Int (pos 0))
+    → written_fields (fields_of (take (column + 1 - first) (zip names (map base (drop first row)))))
+    ≡ written_fields (fields_of (take (column - first) (zip names (map base (drop first row))))) ++ (separator (column - first) ++ (name ++ (codes " = " ++ cell_text cell)))
+column_more names first row column name cell from h k j e f =
+    let more : column + 1 - first ≡ column - first + 1 = omega arith in
+    ap (λ (n : ℕ). written_fields (fields_of (take n (zip names (map base (drop first row)))))) more
+    ∙ cells_more names (drop first row) (column - first) name cell h j e (cell_behind first row column cell from k f)
 
 -- the text of all fields, at the end of the shorter list
 pub cells_all : (names : List (List ℕ)) (cells : List Cell) (i : ℕ) → i ≡ min (length names) (length cells)
@@ -134,12 +210,14 @@ pub cells_all : (names : List (List ℕ)) (cells : List Cell) (i : ℕ) → i �
 cells_all names cells i e = take_all i (zip names (map base cells)) (rw (length-zip, length-map) (omega arith))
 
 -- the text of the first rows, and that of one more
-pub rows_more : (view : List Cell → Nested) (xs : List (List Cell)) (i : ℕ) (x : List Cell) → i < length xs → x ≡ get_or xs i x
-    → written_elements (elements_of (map view (take (i + 1) xs))) ≡ written_elements (elements_of (map view (take i xs))) ++ (separator i ++ written (view x))
-rows_more view [] i x h e = absurd (omega (arith, h))
-rows_more view (y ∷ ys) zero x h e =
-    ap (λ (l : List (List Cell)). written_elements (elements_of (map view l))) (take_more (y ∷ ys) zero x h ∙ ap (λ z. z ∷ []) (sym e))
-rows_more view (y ∷ ys) (suc i) x h e =
-    ap (λ (l : List (List Cell)). written_elements (elements_of (map view l))) (take_more (y ∷ ys) (suc i) x h ∙ ap (λ z. y ∷ (take i ys ++ z ∷ [])) (sym e))
-    ∙ ap (λ (l : List Nested). written_elements (elements_of (view y ∷ l))) (map-append view (take i ys) (x ∷ []))
-    ∙ elements_push (map view (take i ys)) (view y) (view x)
+pub rows_more : (view : List Cell → Nested) (rows : List (List Cell)) (places : List ℕ) (i place : ℕ) → i < length places → place ≡ get_or places i place
+    → written_elements (elements_of (map view (rows_at rows (take (i + 1) places))))
+    ≡ written_elements (elements_of (map view (rows_at rows (take i places)))) ++ (separator i ++ written (view (row_at rows place)))
+rows_more view rows [] i place h e = absurd (omega (arith, h))
+rows_more view rows (p ∷ ps) zero place h e =
+    ap (λ (l : List ℕ). written_elements (elements_of (map view (rows_at rows l)))) (take_more (p ∷ ps) zero place h ∙ ap (λ z. z ∷ []) (sym e))
+rows_more view rows (p ∷ ps) (suc i) place h e =
+    ap (λ (l : List ℕ). written_elements (elements_of (map view (rows_at rows l)))) (take_more (p ∷ ps) (suc i) place h ∙ ap (λ z. p ∷ (take i ps ++ z ∷ [])) (sym e))
+    ∙ ap (λ (l : List Nested). written_elements (elements_of (view (row_at rows p) ∷ l)))
+    (ap (map view) (map-append (row_at rows) (take i ps) (place ∷ [])) ∙ map-append view (rows_at rows (take i ps)) (row_at rows place ∷ []))
+    ∙ elements_push (map view (rows_at rows (take i ps))) (view (row_at rows p)) (view (row_at rows place))

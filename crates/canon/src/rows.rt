@@ -1,136 +1,124 @@
 // The canonical text of a bag of flat records, from rows of cells.
-ghost use Rattle.std.specs.Prelude.{◌≡◌, ◌++◌, IfOk, OnOk, map, take, drop, length, string_bytes};
+ghost use Rattle.std.specs.Prelude.{◌≡◌, ◌≤◌, ◌+◌, ◌++◌, IfOk, OnOk, map, max, take, drop, length, string_bytes, slice_range};
 ghost use Rattle.std.specs.Cmp.Lexicographic.{slice_cmp};
+ghost use Rattle.nq_model.specs.CellRefs.{cell_seen};
 ghost use Rattle.nq_model.specs.Cells.{cell_cmp};
 ghost use Rattle.nq_model.specs.Orders.{sorted_by};
-ghost use Rattle.nq_model.specs.Values.{bag_of};
 ghost use Rattle.nq_model.specs.Canonical.{canonical_text, cell_text, written, value_cmp};
-ghost use Rattle.canon.specs.Rows.{record_of, row_record, rows_value};
+ghost use Rattle.canon.specs.Rows.{row_at, row_record, rows_at, rows_value};
 
 use crate::text::{write_quoted, write_separator};
 use itoa::Buffer;
-use nq_model::{Cell, Label, List, Memory};
+use nq_model::{CellRef, Label, List, Memory, Rows};
 use std::alloc::Global;
 use std::cmp::Ordering;
 
 // The most bytes that an integer of 64 bits is written with.
 const INT_SIZE: usize = 20;
 
-// The cells of a row from a place on, at most so many.
-fn cells_of(row: &[Cell], first: usize, count: usize) -> &[Cell]
-    ensures { result.now ≡ take count (drop first row.now) }
+// Where the cells of a row from a place on end, at most so many.
+fn end_from(rows: &Rows, first: usize, count: usize, row: usize) -> usize
+    ensures value { result ≡ first + length (take count (drop first (row_at rows.now row))) }
+    ensures within { result ≤ max first (length (row_at rows.now row)) }
 {
-    let (_, cells) = row.split_at(first.min(row.len()));
-    let (kept, _) = cells.split_at(count.min(cells.len()));
-    kept
+    let end = rows.width(row).min(first.saturating_add(count));
+    end.max(first)
 }
 
-fn compare_cell(left: &Cell, right: &Cell) -> Ordering
-    ensures { result ≡ cell_cmp left.now right.now }
+// Compares the cells of two rows between two places.
+fn compare_cells(rows: &Rows, first: usize, end: usize, left: usize, right: usize) -> Ordering
+    requires left { end ≤ max first (length (row_at rows.now left)) }
+    requires right { end ≤ max first (length (row_at rows.now right)) }
+    ensures { result ≡ slice_cmp cell_cmp (slice_range (row_at rows.now left) first end) (slice_range (row_at rows.now right) first end) }
 {
-    match (left, right) {
-        (Cell::Bool(left), Cell::Bool(right)) => left.cmp(right),
-        (Cell::Int(left), Cell::Int(right)) => left.cmp(right),
-        (Cell::Text(left), Cell::Text(right)) => left.as_str().cmp(right.as_str()),
-        (Cell::Bool(_), _) => Ordering::Less,
-        (_, Cell::Bool(_)) => Ordering::Greater,
-        (Cell::Int(_), Cell::Text(_)) => Ordering::Less,
-        (Cell::Text(_), Cell::Int(_)) => Ordering::Greater,
-    }
-}
-
-fn compare_cells(left: &[Cell], right: &[Cell]) -> Ordering
-    ensures { result ≡ slice_cmp cell_cmp left.now right.now }
-{
-    for i in 0..left.len().min(right.len()) {
-        let first = compare_cell(&left[i], &right[i]);
-        if first != Ordering::Equal {
-            return first;
+    for column in first..end {
+        let order = rows.cell(left, column).compare(&rows.cell(right, column));
+        if order != Ordering::Equal {
+            return order;
         }
     }
-    left.len().cmp(&right.len())
+    Ordering::Equal
 }
 
 // The canonical order of the records of two rows. The labels are the same in both, so of them only their
 // number counts.
-#[tactic(auto, using(crate::proofs::FlatRows::records_compare))]
-fn compare_rows(labels: &[Label], first: usize, left: &[Cell], right: &[Cell]) -> Ordering
-    ensures { result ≡ value_cmp (row_record labels.now first left.now) (row_record labels.now first right.now) }
+fn compare_rows(labels: &[Label], first: usize, rows: &Rows, left: usize, right: usize) -> Ordering
+    ensures { result ≡ value_cmp (row_record labels.now first (row_at rows.now left)) (row_record labels.now first (row_at rows.now right)) }
 {
-    let left = cells_of(left, first, labels.len());
-    let right = cells_of(right, first, labels.len());
-    match left.len().cmp(&right.len()) {
-        Ordering::Equal => compare_cells(left, right),
+    let left_end = end_from(rows, first, labels.len(), left);
+    let right_end = end_from(rows, first, labels.len(), right);
+    match left_end.cmp(&right_end) {
+        Ordering::Equal => compare_cells(rows, first, left_end, left, right),
         other => other,
     }
 }
 
 // Records that tie are one, so the sort need not be stable.
-fn put_rows_in_order(labels: &[Label], first: usize, rows: &mut Vec<List<Cell>>)
-    ensures { map (row_record labels.now first) rows.new.items
-        ≡ sorted_by value_cmp (map (row_record labels.now first) rows.old.items) }
+fn put_rows_in_order(labels: &[Label], first: usize, rows: &Rows, places: &mut Vec<u32>)
+    ensures { map (row_record labels.now first) (rows_at rows.now places.new.items)
+        ≡ sorted_by value_cmp (map (row_record labels.now first) (rows_at rows.now places.old.items)) }
 {
-    rows.sort_unstable_by(|left, right| {
-        compare_rows(labels, first, left.as_slice(), right.as_slice())
+    places.sort_unstable_by(|left, right| {
+        compare_rows(labels, first, rows, *left as usize, *right as usize)
     });
 }
 
-fn write_cell(text: &mut String, cell: &Cell) -> Result<(), Memory>
-    ensures { OnOk result (string_bytes text.new ≡ string_bytes text.old ++ cell_text cell.now) }
+fn write_cell(text: &mut String, cell: &CellRef<'_>) -> Result<(), Memory>
+    ensures { OnOk result (string_bytes text.new ≡ string_bytes text.old ++ cell_text (cell_seen cell.now)) }
 {
     match cell {
-        Cell::Int(number) => Ok(text.push_str(Buffer::new().format(*number))?),
-        Cell::Bool(truth) => Ok(write!(text, "{truth}")?),
-        Cell::Text(quoted) => write_quoted(text, quoted.as_str()),
+        CellRef::Int(number) => Ok(text.push_str(Buffer::new().format(*number))?),
+        CellRef::Bool(truth) => Ok(write!(text, "{truth}")?),
+        CellRef::Text(quoted) => write_quoted(text, quoted),
     }
 }
 
-// The record of cells beside their labels.
-fn write_cells(text: &mut String, labels: &[Label], cells: &[Cell]) -> Result<(), Memory>
-    ensures { OnOk result (string_bytes text.new ≡ string_bytes text.old ++ written (record_of labels.now cells.now)) }
+// The record of a row's cells from a place on, beside their labels.
+fn write_row(
+    text: &mut String,
+    labels: &[Label],
+    first: usize,
+    rows: &Rows,
+    row: usize,
+) -> Result<(), Memory>
+    ensures { OnOk result (string_bytes text.new ≡ string_bytes text.old ++ written (row_record labels.now first (row_at rows.now row))) }
 {
     text.push_str("(")?;
-    for i in 0..labels.len().min(cells.len()) {
-        write_separator(text, i)?;
-        text.push_str(labels[i].as_str())?;
+    for column in first..end_from(rows, first, labels.len(), row) {
+        write_separator(text, column - first)?;
+        text.push_str(labels[column - first].as_str())?;
         text.push_str(" = ")?;
-        write_cell(text, &cells[i])?;
+        write_cell(text, &rows.cell(row, column))?;
     }
     text.push_str(")")?;
     Ok(())
 }
 
-fn write_row(text: &mut String, labels: &[Label], first: usize, row: &[Cell]) -> Result<(), Memory>
-    ensures { OnOk result (string_bytes text.new ≡ string_bytes text.old ++ written (row_record labels.now first row.now)) }
-{
-    let (_, cells) = row.split_at(first.min(row.len()));
-    write_cells(text, labels, cells)
-}
-
-// The bag of the rows' records, in the order of the rows.
+// The bag of the records of the rows at these places, in their order.
 fn write_bag_of_rows(
     text: &mut String,
     labels: &[Label],
     first: usize,
-    rows: &[List<Cell>],
+    rows: &Rows,
+    places: &[u32],
 ) -> Result<(), Memory>
-    ensures { OnOk result (string_bytes text.new ≡ string_bytes text.old ++ written (rows_value labels.now first rows.now)) }
+    ensures { OnOk result (string_bytes text.new ≡ string_bytes text.old ++ written (rows_value labels.now first (rows_at rows.now places.now))) }
 {
     text.push_str("{")?;
-    for (i, row) in rows.iter().enumerate() {
+    for (i, place) in places.iter().enumerate() {
         write_separator(text, i)?;
-        write_row(text, labels, first, row.as_slice())?;
+        write_row(text, labels, first, rows, *place as usize)?;
     }
     text.push_str("}")?;
     Ok(())
 }
 
 // How many bytes a cell is written with, at most.
-fn cell_size(cell: &Cell) -> usize {
+fn cell_size(cell: &CellRef<'_>) -> usize {
     match cell {
-        Cell::Int(_) | Cell::Bool(_) => INT_SIZE,
-        Cell::Text(text) => {
-            let bytes = text.as_str().as_bytes();
+        CellRef::Int(_) | CellRef::Bool(_) => INT_SIZE,
+        CellRef::Text(text) => {
+            let bytes = text.as_bytes();
             let quotes = bytes.iter().filter(|byte| **byte == b'\'').count();
             bytes.len().saturating_add(quotes).saturating_add(2)
         }
@@ -146,37 +134,46 @@ fn labels_size(labels: &[Label]) -> usize {
     size
 }
 
-// How many bytes the bag of the rows' records is written with, at most. The text is made at this size, so
-// that it never moves while it grows. Were it too small, the text would grow all the same.
-fn rows_size(labels: &[Label], first: usize, rows: &[List<Cell>]) -> usize {
-    let round = labels_size(labels);
-    let mut size = 3usize;
-    for row in rows {
-        size = size.saturating_add(round);
-        for cell in cells_of(row.as_slice(), first, labels.len()) {
-            size = size.saturating_add(cell_size(cell));
-        }
+// How many bytes the cells of a row are written with, at most, from a place on.
+fn row_size(labels: &[Label], first: usize, rows: &Rows, row: usize) -> usize {
+    let mut size = 0usize;
+    for column in first..end_from(rows, first, labels.len(), row) {
+        size = size.saturating_add(cell_size(&rows.cell(row, column)));
     }
     size
 }
 
-/// The canonical text of the bag of flat records that rows stand for: of each row the cells from the
-/// place `first` on, beside the labels. The rows are put in order where they stand, and written from there,
-/// so that no value of the bag is built. The only error is that memory wants.
+// How many bytes the bag of the rows' records is written with, at most. The text is made at this size, so
+// that it never moves while it grows. Were it too small, the text would grow all the same.
+fn rows_size(labels: &[Label], first: usize, rows: &Rows, places: &[u32]) -> usize {
+    let round = labels_size(labels);
+    let mut size = 3usize;
+    for place in places {
+        size = size
+            .saturating_add(round)
+            .saturating_add(row_size(labels, first, rows, *place as usize));
+    }
+    size
+}
+
+/// The canonical text of the bag of flat records that the rows at these places stand for: of each row the
+/// cells from the place `first` on, beside the labels. The places are put in order, and the rows are written
+/// from where they stand, so that no value of the bag is built. The only error is that memory wants.
 #[tactic(auto, using(crate::proofs::FlatRows::rows_canonical))]
 pub fn write_rows(
     alloc: Global,
     labels: &[Label],
     first: usize,
-    rows: Vec<List<Cell>>,
+    rows: &Rows,
+    places: Vec<u32>,
 ) -> Result<List<u8>, Memory>
-    ensures { IfOk result (λ text. text ≡ canonical_text (rows_value labels.now first rows.items)) }
+    ensures { IfOk result (λ text. text ≡ canonical_text (rows_value labels.now first (rows_at rows.now places.items))) }
 {
-    let mut sorted = rows;
-    put_rows_in_order(labels, first, &mut sorted);
-    let size = rows_size(labels, first, sorted.as_slice());
+    let mut sorted = places;
+    put_rows_in_order(labels, first, rows, &mut sorted);
+    let size = rows_size(labels, first, rows, sorted.as_slice());
     let mut text = String::with_capacity(alloc, size)?;
-    write_bag_of_rows(&mut text, labels, first, sorted.as_slice())?;
+    write_bag_of_rows(&mut text, labels, first, rows, sorted.as_slice())?;
     text.push_str("\n")?;
     Ok(List::from_vec(text.into_bytes()))
 }

@@ -6,7 +6,7 @@ ghost use Rattle.nq_model.specs.Values.{nested, fields_view, rec_of};
 
 use crate::cells::value_of;
 use crate::records::put_field;
-use nq_model::{Cell, ColumnType, Label, List, Memory, Schema, Table, Value};
+use nq_model::{Cell, ColumnType, Label, List, Memory, Rows, Schema, Table, Value};
 use std::alloc::Global;
 
 // A row as a record.
@@ -25,16 +25,13 @@ fn row_record(alloc: Global, columns: &[(Label, ColumnType)], row: &[Cell]) -> R
 }
 
 // The rows as records, in their order.
-fn table_value(
-    alloc: Global,
-    columns: &[(Label, ColumnType)],
-    rows: &[List<Cell>],
-) -> Result<Value, Memory>
+fn table_value(alloc: Global, columns: &[(Label, ColumnType)], rows: &Rows) -> Result<Value, Memory>
     ensures { IfOk result (λ bag. nested bag ≡ table_value columns.now rows.now) }
 {
     let mut records = List::with_capacity(alloc, rows.len())?;
-    for row in rows {
-        records.push(row_record(alloc, columns, row.as_slice())?)?;
+    for row in 0..rows.len() {
+        let cells = rows.row(alloc, row)?;
+        records.push(row_record(alloc, columns, cells.as_slice())?)?;
     }
     Ok(Value::Bag(records))
 }
@@ -51,11 +48,7 @@ pub fn table_meaning(
     let shapes = schema.tables.as_slice();
     for place in 0..shapes.len().min(tables.len()) {
         if shapes[place].name.as_str() == name {
-            return table_value(
-                alloc,
-                shapes[place].columns.as_slice(),
-                tables[place].rows.as_slice(),
-            );
+            return table_value(alloc, shapes[place].columns.as_slice(), &tables[place].rows);
         }
     }
     Ok(Value::Bag(List::new(alloc)))

@@ -9,3 +9,4 @@ pub mod Runs
 pub mod Statuses
 pub mod Completeness
 pub mod NamedTables
+pub mod Tops

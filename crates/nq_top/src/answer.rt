@@ -1,42 +1,50 @@
 // The text of what a server answered.
-ghost use Rattle.std.specs.Prelude.{◌≡◌, IfOk};
+ghost use Rattle.std.specs.Prelude.{◌≡◌, [], IfOk, slice_index_or};
 ghost use Rattle.std.specs.List.{filter};
 ghost use Rattle.nq_model.specs.Canonical.{canonical_text};
+ghost use Rattle.canon.specs.Rows.{rows_at};
 ghost use Rattle.nq_top.specs.Meanings.{is_top, answer_value};
 
 use canon::write_rows;
-use nq_model::{Cell, Label, List, Memory};
+use nq_model::{CellRef, Label, List, Memory, Rows};
 use std::alloc::Global;
 
 // Whether the outer index of a row is that of the top.
-fn is_top(row: &[Cell]) -> bool
-    ensures { result ≡ is_top row.now }
+fn is_top(rows: &Rows, row: usize) -> bool
+    ensures { result ≡ is_top (slice_index_or rows.now row []) }
 {
-    match row {
-        [Cell::Int(tag), Cell::Int(number), ..] => *tag == 0 && *number == 1,
+    if rows.width(row) < 2 {
+        return false;
+    }
+    match (rows.cell(row, 0), rows.cell(row, 1)) {
+        (CellRef::Int(tag), CellRef::Int(number)) => tag == 0 && number == 1,
         _ => false,
     }
 }
 
-// Leaves the rows of the top.
-fn keep_top(rows: &mut Vec<List<Cell>>)
-    ensures { rows.new.items ≡ filter is_top rows.old.items }
+// The places of the rows of the top, in their order.
+fn top_places(alloc: Global, rows: &Rows) -> Result<Vec<u32>, Memory>
+    ensures { IfOk result (λ places. rows_at rows.now places.items ≡ filter is_top rows.now) }
 {
-    rows.retain(|row| is_top(row.as_slice()));
+    let mut places = Vec::with_capacity(alloc, rows.len())?;
+    for row in 0..rows.len() {
+        let Ok(place) = u32::try_from(row) else {
+            return Err(Memory);
+        };
+        if is_top(rows, row) {
+            places.push(place)?;
+        }
+    }
+    Ok(places)
 }
 
 /// The canonical text of the bag that the rows of an answer stand for, whose labels are these: each row's
 /// cells after its outer index, beside the labels. Rows of another outer index than that of the top are
 /// not used.
 #[tactic(auto, unfolding(crate::specs::Meanings::answer_value))]
-pub fn answer_text(
-    alloc: Global,
-    labels: &[Label],
-    rows: List<List<Cell>>,
-) -> Result<List<u8>, Memory>
+pub fn answer_text(alloc: Global, labels: &[Label], rows: Rows) -> Result<List<u8>, Memory>
     ensures { IfOk result (λ text. text ≡ canonical_text (answer_value labels.now rows)) }
 {
-    let mut kept = rows.into_vec();
-    keep_top(&mut kept);
-    write_rows(alloc, labels, 2, kept)
+    let places = top_places(alloc, &rows)?;
+    write_rows(alloc, labels, 2, &rows, places)
 }

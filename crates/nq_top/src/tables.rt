@@ -11,7 +11,7 @@ use crate::fetch::fetch_input;
 use crate::gathered::Gathered;
 use crate::refusal::{InputRefusal, Refused};
 use nq_edge::Inputs;
-use nq_model::{Cell, ColumnType, Label, List, Memory, TableShape, Text};
+use nq_model::{ColumnType, Label, List, Memory, Rows, TableShape, Text};
 use sql_profile::Loaded;
 use std::alloc::Global;
 use table_reader::{TableFault, read_table};
@@ -39,7 +39,7 @@ fn copy_columns(
 }
 
 // The table of a shape with these rows.
-fn loaded_as(alloc: Global, shape: &TableShape, rows: List<List<Cell>>) -> Result<Loaded, Memory>
+fn loaded_as(alloc: Global, shape: &TableShape, rows: Rows) -> Result<Loaded, Memory>
     ensures { IfOk result (λ table. table ≡ loaded_as shape.now rows) }
 {
     Ok(Loaded {
@@ -51,11 +51,7 @@ fn loaded_as(alloc: Global, shape: &TableShape, rows: List<List<Cell>>) -> Resul
 
 // The rows that a table text gives, or its fault. The text is given up once it was read.
 #[tactic(auto, unfolding(crate::specs::Reading::rows_read))]
-fn read_rows(
-    alloc: Global,
-    shape: &TableShape,
-    text: List<u8>,
-) -> Result<List<List<Cell>>, InputRefusal>
+fn read_rows(alloc: Global, shape: &TableShape, text: List<u8>) -> Result<Rows, InputRefusal>
     ensures says { ReadSays (λ rows. rows) (rows_read shape.now text) result }
     ensures fit { IfOk result (All (RowFits (types_of shape.now.columns))) }
     ensures refused { IfErr result IsOfText }
@@ -78,7 +74,7 @@ fn with_table(
     shape: &TableShape,
     later: &[TableShape],
     asked: usize,
-    rows: List<List<Cell>>,
+    rows: Rows,
 ) -> Result<List<Loaded>, Memory>
     requires can { CanGather done (shape.now ∷ later.now) asked }
     requires fit { All (RowFits (types_of shape.now.columns)) rows }

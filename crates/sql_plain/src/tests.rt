@@ -1,5 +1,5 @@
 use super::{Ties, evaluate_text};
-use nq_model::{Binary, Cell, ColumnType, Label, List, Memory, Text, boxed};
+use nq_model::{Binary, Cell, ColumnType, Label, List, Memory, Rows, Text, boxed};
 use sql_profile::{Expr, ExprNode, Item, ItemValue, Loaded, Query, Select, Source, SqlText, With};
 use std::alloc::Global;
 use std::test::Fail;
@@ -32,7 +32,7 @@ fn loaded(
     let mut table = Loaded {
         name: label(alloc, name)?,
         columns: List::new(alloc),
-        rows: List::new(alloc),
+        rows: Rows::new(alloc),
     };
     for column in columns {
         table.columns.push((label(alloc, column.0)?, column.1))?;
@@ -42,7 +42,7 @@ fn loaded(
         for datum in *row {
             cells.push(cell(alloc, datum)?)?;
         }
-        table.rows.push(cells)?;
+        table.rows.push(cells.as_slice())?;
     }
     Ok(table)
 }

@@ -22,4 +22,3 @@ pub mod Lexed
 pub mod ScanSpelled
 pub mod ScanScoped
 pub mod ScanAsked
-pub mod PackedRows

@@ -2,6 +2,7 @@
 use Rattle.std.proofs.Common.{◌≡◌, ◌⊎◌, ℕ, zero, suc, ◌+◌, ◌-◌, ◌<◌, List, [], ◌∷◌, Some, map, take, length, slice_get, get_or, All, refl, sym, ap, ap₂, ◌∙◌, subst, arith, add-one, inl, inr}
 use Rattle.std.proofs.lemmas.Option.{slice_get_read, slice_get_within, get_or_from_slice_get}
 use Rattle.std.proofs.lemmas.Bool.{cases_order}
+use Rattle.std.proofs.lemmas.List.{get_or_default}
 use Rattle.nq_model.specs.Cells.{column_type_of, RowFits}
 use Rattle.nq_model.specs.declared.table.Cell.{Cell}
 use Rattle.nq_model.specs.declared.table.ColumnType.{ColumnType}
@@ -33,18 +34,19 @@ slice_get-take (x ∷ xs) (suc n) zero below = refl
 slice_get-take (x ∷ xs) (suc n) (suc i) below = slice_get-take xs n i (omega arith)
 
 -- a row that differs from the types at a place, and every row before it fits
-pub first_misfit : (rows : List (List Cell)) (types : List ColumnType) (row : List Cell) (index place : ℕ)
-    → index < length rows → row ≡ get_or rows index row → All (RowFits types) (take index rows) → DiffersFirstAt types row place
+pub first_misfit : (rows : List (List Cell)) (types : List ColumnType) (index place : ℕ)
+    → index < length rows → All (RowFits types) (take index rows) → DiffersFirstAt types (get_or rows index []) place
     → IsFirstMisfit rows types (record { row = index + 1; column = place + 1 })
-first_misfit rows types row index place within is fit differs =
+first_misfit rows types index place within fit differs =
     let at_row : index + 1 - 1 ≡ index = omega arith in
     let at_column : place + 1 - 1 ≡ place = omega arith in
+    let row : List Cell = get_or rows index [] in
     record {
       row_counted = omega arith;
       column_counted = omega arith;
       fit_before = rw at_row fit;
       cells = row;
-      is_row = rw at_row (slice_get_read rows (length rows) index row refl within is);
+      is_row = rw at_row (slice_get_read rows (length rows) index row refl within (get_or_default rows index [] row within));
       differs = rw at_column differs;
     }
 

@@ -11,4 +11,3 @@ pub mod Machine
 pub mod Texts
 pub mod NumberedKeys
 pub mod WritableNames
-pub mod Packed

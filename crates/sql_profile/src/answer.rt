@@ -1,17 +1,17 @@
 // Answers, and where they do not fit the types of their columns.
-ghost use Rattle.std.specs.Prelude.{◌≡◌, ◌↔◌, List, All, IsTrue, OnOk, IfErr, MatchOption, map, slice_get};
+ghost use Rattle.std.specs.Prelude.{◌≡◌, ◌↔◌, List, All, IsTrue, OnOk, IfErr, MatchOption, [], map, slice_get, slice_index_or};
 ghost use Rattle.nq_model.specs.Cells.{RowFits, column_type_of};
 ghost use Rattle.nq_model.specs.declared.table.Cell.{Cell};
 ghost use Rattle.nq_model.specs.declared.table.ColumnType.{ColumnType};
 ghost use Rattle.sql_profile.specs.declared.answer.Misfit.{Misfit};
 ghost use Rattle.sql_profile.specs.Fits.{DiffersFirstAt, IsFirstMisfit};
 
-use nq_model::{Cell, ColumnType, List};
+use nq_model::{ColumnType, Rows};
 
 /// The rows with which a server answers a text.
 #[derive(Drop)]
 pub struct Answer {
-    pub rows: List<List<Cell>>,
+    pub rows: Rows,
 }
 
 /// The first place where an answer does not fit its columns, counted from 1.
@@ -22,26 +22,29 @@ pub struct Misfit {
 }
 
 // The type of the cell at a place of a row, if there is one.
-fn type_at(row: &[Cell], place: usize) -> Option<ColumnType>
-    ensures { result ≡ slice_get (map column_type_of row.now) place }
+fn type_at(rows: &Rows, row: usize, place: usize) -> Option<ColumnType>
+    ensures { result ≡ slice_get (map column_type_of (slice_index_or rows.now row [])) place }
 {
-    row.get(place).map(|cell| cell.column_type())
+    if place >= rows.width(row) {
+        return None;
+    }
+    Some(rows.cell(row, place).column_type())
 }
 
 // Whether the cell at a place is of the type of the column there, or neither is there.
-fn agrees_at(row: &[Cell], columns: &[ColumnType], place: usize) -> bool
-    ensures { IsTrue result ↔ (slice_get (map column_type_of row.now) place ≡ slice_get columns.now place) }
+fn agrees_at(rows: &Rows, row: usize, columns: &[ColumnType], place: usize) -> bool
+    ensures { IsTrue result ↔ (slice_get (map column_type_of (slice_index_or rows.now row [])) place ≡ slice_get columns.now place) }
 {
-    type_at(row, place) == columns.get(place).copied()
+    type_at(rows, row, place) == columns.get(place).copied()
 }
 
 // The first place, counted from 0, where a cell is missing, of another type, or beyond the last column.
 #[tactic(auto, using(crate::proofs::Misfits::take_more_got))]
-fn first_difference(row: &[Cell], columns: &[ColumnType]) -> Option<usize>
-    ensures { MatchOption result (RowFits columns.now row.now) (DiffersFirstAt columns.now row.now) }
+fn first_difference(rows: &Rows, row: usize, columns: &[ColumnType]) -> Option<usize>
+    ensures { MatchOption result (RowFits columns.now (slice_index_or rows.now row [])) (DiffersFirstAt columns.now (slice_index_or rows.now row [])) }
 {
-    for place in 0..row.len().max(columns.len()) {
-        if !agrees_at(row, columns, place) {
+    for place in 0..rows.width(row).max(columns.len()) {
+        if !agrees_at(rows, row, columns, place) {
             return Some(place);
         }
     }
@@ -64,8 +67,8 @@ pub fn fits(answer: &Answer, columns: &[ColumnType]) -> Result<(), Misfit>
     ensures ok { OnOk result (All (RowFits columns.now) answer.now.rows) }
     ensures err { IfErr result (IsFirstMisfit answer.now.rows columns.now) }
 {
-    for (index, row) in answer.rows.as_slice().iter().enumerate() {
-        if let Some(place) = first_difference(row.as_slice(), columns) {
+    for index in 0..answer.rows.len() {
+        if let Some(place) = first_difference(&answer.rows, index, columns) {
             return Err(Misfit {
                 row: index as u64 + 1,
                 column: place as u64 + 1,
@@ -78,7 +81,7 @@ pub fn fits(answer: &Answer, columns: &[ColumnType]) -> Result<(), Misfit>
 #[cfg(test)]
 mod tests {
     use super::*;
-    use nq_model::{Memory, Text};
+    use nq_model::{Cell, List, Memory, Text};
     use std::alloc::Global;
     use std::test::Fail;
 
@@ -134,7 +137,7 @@ mod tests {
 
     fn answer_of(alloc: Global, rows: &[&str]) -> Result<Answer, Memory> {
         let mut answer = Answer {
-            rows: List::new(alloc),
+            rows: Rows::new(alloc),
         };
         for kinds in rows {
             let mut row = List::new(alloc);
@@ -145,7 +148,7 @@ mod tests {
                     _ => Cell::Text(Text::from_str(alloc, "x")?),
                 })?;
             }
-            answer.rows.push(row)?;
+            answer.rows.push(row.as_slice())?;
         }
         Ok(answer)
     }

@@ -4,7 +4,6 @@
 
 mod answer;
 mod laws;
-mod packed;
 mod scan;
 mod scan_server;
 mod server;

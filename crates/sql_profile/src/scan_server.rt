@@ -1,22 +1,22 @@
 // A server that answers the scan texts of its tables.
 ghost use Rattle.std.specs.Prelude.{◌≡◌, ◌↔◌, ◌<◌, [], ◌∷◌, true, None, IsTrue, IfOk, All, length, map, pos, slice_index_or};
 ghost use Rattle.std.proofs.Common.{lit≤};
+ghost use Rattle.nq_model.specs.CellRefs.{cell_seen};
 ghost use Rattle.nq_model.specs.declared.table.Cell.TheVariants.{Int};
 ghost use Rattle.nq_model.specs.Tables.{names_of};
 ghost use Rattle.sql_profile.specs.Scans.{IsScan, Allows, HasFullRows, scan_row, scan_text};
 
 use crate::answer::Answer;
-use crate::packed::PackedTable;
 use crate::scan::scan_text;
 use crate::server::{Loaded, ServerFault, SqlServer};
-use nq_model::{Cell, List, Memory, label_order};
+use nq_model::{CellRef, List, Memory, Rows, label_order};
 use std::alloc::Global;
 
 /// A server that answers the scan text of each table that it holds. It is honest, never fails, and does
-/// not tell its asks. It holds its tables packed, in a fraction of the memory that their rows take.
+/// not tell its asks.
 #[derive(Drop)]
 pub struct ScanServer {
-    tables: List<PackedTable>,
+    tables: List<Loaded>,
     ghost full: { All HasFullRows tables },
 }
 
@@ -35,55 +35,61 @@ impl ScanServer {
     }
 }
 
-// The row of the answer for the row of the table at a place, whose cells it copies in this order.
-fn scan_row(
+// The row of the answer for the row of the table at a place, whose cells it lends in this order.
+fn scan_row<'a>(
     alloc: Global,
     order: &[usize],
-    table: &PackedTable,
+    table: &'a Loaded,
     row: usize,
-) -> Result<List<Cell>, Memory>
+) -> Result<Vec<CellRef<'a>>, Memory>
+    requires full { HasFullRows table.now }
     requires order { All (λ place. place < length table.now.columns) order.now }
     requires row { row < length table.now.rows }
-    ensures { IfOk result (λ made. made
+    ensures { IfOk result (λ made. map cell_seen made.items
         ≡ Int (pos 0) ∷ Int (pos 1) ∷ map (λ place. slice_index_or (slice_index_or table.now.rows row []) place (Int (pos 0))) order.now) }
 {
-    let mut made = List::with_capacity(alloc, order.len() + 2)?;
-    made.push(Cell::Int(0))?;
-    made.push(Cell::Int(1))?;
+    let mut made = Vec::with_capacity(alloc, order.len() + 2)?;
+    made.push(CellRef::Int(0))?;
+    made.push(CellRef::Int(1))?;
     for place in order {
-        made.push(table.cell(alloc, row, *place)?)?;
+        made.push(table.rows.cell(row, *place))?;
     }
     Ok(made)
 }
 
+// How many cells the answer to the table's scan text has.
+fn scan_size(table: &Loaded) -> usize {
+    table
+        .rows
+        .len()
+        .saturating_mul(table.columns.len().saturating_add(2))
+}
+
 // The rows of the answer to the table's scan text.
-fn scan_rows(alloc: Global, table: &PackedTable) -> Result<List<List<Cell>>, Memory>
+fn scan_rows(alloc: Global, table: &Loaded) -> Result<Rows, Memory>
     requires { HasFullRows table.now }
     ensures { IfOk result (λ rows. rows ≡ map (scan_row (names_of table.now.columns)) table.now.rows) }
 {
-    let order = label_order(alloc, table.columns())?;
-    let mut rows = List::with_capacity(alloc, table.len())?;
-    for row in 0..table.len() {
-        rows.push(scan_row(alloc, order.as_slice(), table, row)?)?;
+    let order = label_order(alloc, table.columns.as_slice())?;
+    let mut rows = Rows::with_capacity(alloc, table.rows.len(), scan_size(table))?;
+    for row in 0..table.rows.len() {
+        let cells = scan_row(alloc, order.as_slice(), table, row)?;
+        rows.push_lent(cells.as_slice())?;
     }
     Ok(rows)
 }
 
 // Whether this is the scan text of the table.
-fn is_scan_of(alloc: Global, table: &PackedTable, text: &[u8]) -> Result<bool, Memory>
+fn is_scan_of(alloc: Global, table: &Loaded, text: &[u8]) -> Result<bool, Memory>
     ensures { IfOk result (λ yes. IsTrue yes ↔ (text.now ≡ scan_text table.now.name table.now.columns)) }
 {
-    let scan = scan_text(alloc, table.name(), table.columns())?;
+    let scan = scan_text(alloc, table.name.as_str(), table.columns.as_slice())?;
     Ok(scan.as_slice() == text)
 }
 
 // The rows of the answer to the scan text of one of the tables.
 #[tactic(auto, using(crate::proofs::ScanRows::scan_allowed))]
-fn answer_rows(
-    alloc: Global,
-    tables: &[PackedTable],
-    text: &[u8],
-) -> Result<List<List<Cell>>, Memory>
+fn answer_rows(alloc: Global, tables: &[Loaded], text: &[u8]) -> Result<Rows, Memory>
     requires full { All HasFullRows tables.now }
     requires scan { IsScan tables.now text.now }
     ensures { IfOk result (λ rows. Allows tables.now text.now rows) }
@@ -111,8 +117,7 @@ impl SqlServer for ScanServer {
 
     #[tactic(auto, using(crate::proofs::ScanRows::full_rows))]
     fn load(&mut self, alloc: Global, table: Loaded) -> Result<(), ServerFault> {
-        let packed = PackedTable::new(alloc, table)?;
-        self.tables.push(packed)?;
+        self.tables.push(table)?;
         Ok(())
     }
 

@@ -8,7 +8,7 @@ ghost use Rattle.sql_profile.specs.Servers.{CountsFault, Asks, with_ask, table_n
 ghost use Rattle.sql_profile.specs.declared.server.Loaded.{Loaded};
 
 use crate::answer::Answer;
-use nq_model::{Cell, ColumnType, Label, List, Memory};
+use nq_model::{ColumnType, Label, List, Memory, Rows};
 use std::alloc::Global;
 
 /// A table with its rows, as a server is loaded with it.
@@ -16,7 +16,7 @@ use std::alloc::Global;
 pub struct Loaded {
     pub name: Label,
     pub columns: List<(Label, ColumnType)>,
-    pub rows: List<List<Cell>>,
+    pub rows: Rows,
 }
 
 /// Why a server did not do what it was called for: it found too little memory, or it failed, which it

@@ -13,7 +13,7 @@ use crate::cells::read_row;
 use crate::keys::KeyIndex;
 use crate::records::{field_at, read_next, reader_of};
 use csv::{ByteRecord, Reader};
-use nq_model::{Cell, List, Memory, Table, TableShape};
+use nq_model::{Cell, List, Memory, Rows, Table, TableShape};
 use std::alloc::Global;
 
 // Whether a record is the names of the columns.
@@ -89,12 +89,13 @@ pub fn read_table(alloc: Global, shape: &TableShape, text: &[u8]) -> Result<Tabl
         return Err(TableFault::Header);
     }
     let mut index = KeyIndex::new(alloc, shape)?;
-    let mut rows = List::new(alloc);
+    let mut rows = Rows::new(alloc);
     for row in 1..u64::MAX {
         if !read_next(&mut reader, &mut fields)? {
             return Ok(Table { rows });
         }
-        rows.push(next_row(alloc, shape, &mut index, &fields, row)?)?;
+        let cells = next_row(alloc, shape, &mut index, &fields, row)?;
+        rows.push(cells.as_slice())?;
     }
     // No memory holds so many rows.
     Err(TableFault::Memory)

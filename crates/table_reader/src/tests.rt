@@ -1,6 +1,6 @@
 // What texts give, and how they are refused.
 use crate::read_table;
-use nq_model::{Cell, ColumnType, Label, List, Table, TableShape};
+use nq_model::{CellRef, ColumnType, Label, List, Table, TableShape};
 use std::alloc::{AllocError, Global};
 use std::test::Fail;
 
@@ -190,19 +190,20 @@ fn shape_of(alloc: Global, column_list: &str, key_list: &str) -> Result<TableSha
     Ok(TableShape { name, columns, key })
 }
 
-fn cell_text(alloc: Global, cell: &Cell) -> Result<String, AllocError> {
+fn cell_text(alloc: Global, cell: &CellRef<'_>) -> Result<String, AllocError> {
     match cell {
-        Cell::Int(number) => format!(in alloc; "[{number}]"),
-        Cell::Bool(truth) => format!(in alloc; "[{truth}]"),
-        Cell::Text(text) => format!(in alloc; "[{}]", text.as_str()),
+        CellRef::Int(number) => format!(in alloc; "[{number}]"),
+        CellRef::Bool(truth) => format!(in alloc; "[{truth}]"),
+        CellRef::Text(text) => format!(in alloc; "[{text}]"),
     }
 }
 
 fn table_text(alloc: Global, table: &Table) -> Result<String, AllocError> {
     let mut all = String::new(alloc);
-    for row in table.rows.as_slice() {
-        for cell in row.as_slice() {
-            all.push_str(cell_text(alloc, cell)?.as_str())?;
+    for row in 0..table.rows.len() {
+        for column in 0..table.rows.width(row) {
+            let cell = table.rows.cell(row, column);
+            all.push_str(cell_text(alloc, &cell)?.as_str())?;
         }
         all.push_str("\n")?;
     }

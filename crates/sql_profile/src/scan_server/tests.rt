@@ -9,7 +9,7 @@ ghost use Rattle.sql_profile.specs.Scans.{scan_row, scan_text};
 
 use super::*;
 use crate::server::{ask_text, load_table};
-use nq_model::{ColumnType, Label, Text};
+use nq_model::{Cell, ColumnType, Label, Text};
 use std::test::Fail;
 
 const SCAN: &str =
@@ -37,12 +37,12 @@ fn row(alloc: Global) -> Result<List<Cell>, Memory>
 }
 
 // The row `7, 'x'`, twice.
-fn rows(alloc: Global) -> Result<List<List<Cell>>, Memory>
+fn rows(alloc: Global) -> Result<Rows, Memory>
     ensures { IfOk result (All (RowFits (column.Int ∷ column.Text ∷ []))) }
 {
-    let mut rows = List::new(alloc);
-    rows.push(row(alloc)?)?;
-    rows.push(row(alloc)?)?;
+    let mut rows = Rows::new(alloc);
+    rows.push(row(alloc)?.as_slice())?;
+    rows.push(row(alloc)?.as_slice())?;
     Ok(rows)
 }
 
@@ -83,8 +83,8 @@ fn answers_a_scan_with_every_duplicate(rt: HostRuntime) -> Result<(), Fail> {
     let server: Box<dyn SqlServer> = Box::new(alloc, ScanServer::new(alloc))?;
     let answer = scan(alloc, server, table, text.as_slice())?;
     assert_eq!(rt; answer.rows.len(), 2);
-    for row in answer.rows.as_slice() {
-        match row.as_slice() {
+    for row in 0..answer.rows.len() {
+        match answer.rows.row(alloc, row)?.as_slice() {
             [Cell::Int(0), Cell::Int(1), Cell::Text(a), Cell::Int(7)] => {
                 assert_eq!(rt; a.as_str(), "x");
             }

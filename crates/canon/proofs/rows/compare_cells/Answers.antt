@@ -1,7 +1,33 @@
-use Rattle.std.proofs.Common.{◌∙◌, sym, arith}
-use Rattle.canon.proofs.FlatRows.{cells_end}
+use Rattle.std.proofs.Common.{◌≡◌, ◌<◌, ◌+◌, ◌∙◌, sym, ap, arith, rules, length, slice_range}
+use Rattle.std.specs.declared.cmp.Ordering.{Ordering}
+use Rattle.std.specs.declared.cmp.Ordering.TheVariants.{Equal}
+use Rattle.std.specs.Cmp.Lexicographic.{slice_cmp}
+use Rattle.std.specs.Ordering.{ordering_then}
+use Rattle.nq_model.specs.CellRefs.{cell_seen}
+use Rattle.nq_model.specs.Cells.{cell_cmp}
+use Rattle.canon.specs.Rows.{row_at}
+use Rattle.canon.proofs.FlatRows.{cells_step, then_equal, then_other}
 use Rattle.canon.proofs.rows.compare_cells.Goals as goal
+use Rattle.canon.proofs.rows.compare_cells.Goals.{After-ne}
 
-pub returns : goal.returns
-returns c =
-    c.cmp.ensures ∙ sym (cells_end c.args.left.now c.args.right.now c.loop-i.i (omega (arith, c.min-i-end.ensures))) ∙ c.loop-i.invariant
+abbrev rest : After-ne → Ordering
+rest c =
+    slice_cmp cell_cmp (slice_range (row_at c.args.rows.now c.args.left) (c.loop-column.column + 1) c.args.end) (slice_range (row_at c.args.rows.now c.args.right) (c.loop-column.column + 1) c.args.end)
+
+step : (c : After-ne)
+    → slice_cmp cell_cmp (slice_range (row_at c.args.rows.now c.args.left) c.loop-column.column c.args.end) (slice_range (row_at c.args.rows.now c.args.right) c.loop-column.column c.args.end)
+    ≡ ordering_then c.compare-order.result (rest c)
+step c =
+    cells_step (row_at c.args.rows.now c.args.left) (row_at c.args.rows.now c.args.right) c.loop-column.column c.args.end (cell_seen c.cell.result) (cell_seen c.cell-in-loop-column.result)
+    (omega arith) (omega (arith, c.requires.left)) (omega (arith, c.requires.right)) c.cell.ensures c.cell-in-loop-column.ensures
+    ∙ ap (λ (o : Ordering). ordering_then o (rest c)) (sym c.compare-order.ensures)
+
+pub returns-then-ne : goal.returns-then-ne
+returns-then-ne c =
+    let other : c.compare-order.result ≡ Equal → ⊥ = search rules in
+    sym (then_other c.compare-order.result (rest c.before) other) ∙ sym (step c.before) ∙ c.loop-column.invariant
+
+pub loop-column-preserved : goal.loop-column-preserved
+loop-column-preserved c =
+    let same : c.compare-order.result ≡ Equal = search rules in
+    sym (then_equal c.compare-order.result (rest c.before) same) ∙ sym (step c.before) ∙ c.loop-column.invariant
