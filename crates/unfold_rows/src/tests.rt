@@ -1,5 +1,6 @@
 // Each query is checked, unfolded, and compared with the term worked out by hand and with what single steps
 // reach. The text of a query stands above the function that builds it; `x1`, `x2`, .. name binders from outside.
+// The rows stand in tables, since each test function is proved too.
 use crate::build::{Build, Made, schema};
 use crate::shown::shown;
 use nq_model::{Binary, Memory, Node, Term};
@@ -88,21 +89,6 @@ fn second_field(q: Build) -> Made {
     q.single(q.field(q.record("f", same(q), "b", q.int(7)), "b"))
 }
 
-#[test]
-fn small_queries(rt: HostRuntime) -> Result<(), Memory> {
-    let nodes = Cell::new(0);
-    let q = Build {
-        alloc: rt.alloc(),
-        nodes: &nodes,
-    };
-    assert!(rt; reaches(q, applied(q), "[1]")?);
-    assert!(rt; reaches(q, twice(q), "[((5 + 1) + 1)]")?);
-    assert!(rt; reaches(q, chosen(q), "[(if true then 3 else (3 + 3))]")?);
-    assert!(rt; reaches(q, shadowed(q), "for (x1 <- ([10] ++ [20])) [(x1 + 1)]")?);
-    assert!(rt; reaches(q, second_field(q), "[7]")?);
-    Ok(())
-}
-
 // `fun (e: (dept: text, name: text, salary: int)) -> e.salary OP bound`
 fn paid(q: Build, op: Binary, bound: i64) -> Made {
     q.fun(
@@ -140,22 +126,6 @@ fn chosen_tests(q: Build) -> Made {
     q.bind(low, q.bind(high, all))
 }
 
-#[test]
-fn queries_over_tables(rt: HostRuntime) -> Result<(), Memory> {
-    let nodes = Cell::new(0);
-    let q = Build {
-        alloc: rt.alloc(),
-        nodes: &nodes,
-    };
-    let text =
-        "(for (x1 <- table employees) where ((x1.salary < 1000)) [x1.name] ++ for (x1 <- table employees) where ((x1.salary > 50000)) [x1.name])";
-    assert!(rt; reaches(q, filtered_twice(q), text)?);
-    let text =
-        "for (x1 <- table contacts) for (x2 <- table employees) where (((x2.dept == x1.dept) && (if x1.client then (x2.salary > 50000) else (x2.salary < 1000)))) [x2.name]";
-    assert!(rt; reaches(q, chosen_tests(q), text)?);
-    Ok(())
-}
-
 // `fun (f: int -> int) -> fun (g: int -> int) -> fun (x: int) -> f(g(x))`
 fn composition(q: Build) -> Made {
     let body = q.apply(q.var(2), q.apply(q.var(1), q.var(0)));
@@ -188,27 +158,6 @@ fn record_of_functions(q: Build) -> Made {
     let record = q.record("f", plus(q, 1), "g", times(q, 2));
     let inner = q.apply(q.column(0, "f"), q.int(3));
     q.bind(record, q.single(q.apply(q.column(0, "g"), inner)))
-}
-
-#[test]
-fn functions_and_records(rt: HostRuntime) -> Result<(), Memory> {
-    let nodes = Cell::new(0);
-    let q = Build {
-        alloc: rt.alloc(),
-        nodes: &nodes,
-    };
-    assert!(rt; reaches(q, composed(q), "[((5 + 1) * 2)]")?);
-    assert!(rt;
-        reaches(
-            q,
-            chosen_records(q),
-            "[(if true then (4 + 1) else (4 * 2))]"
-        )?
-    );
-    let text = "[(if true then (if false then (4 + 1) else 4) else (4 * 2))]";
-    assert!(rt; reaches(q, chosen_again(q), text)?);
-    assert!(rt; reaches(q, record_of_functions(q), "[((3 + 1) * 2)]")?);
-    Ok(())
 }
 
 // `for (x <- [1]) BODY`
@@ -244,29 +193,18 @@ fn unused_argument(q: Build) -> Made {
     for_one(q, q.single(q.apply(q.map(q.var(1)), q.int(2))))
 }
 
-#[test]
-fn no_name_is_captured(rt: HostRuntime) -> Result<(), Memory> {
-    let nodes = Cell::new(0);
-    let q = Build {
-        alloc: rt.alloc(),
-        nodes: &nodes,
-    };
-    assert!(rt;
-        reaches(
-            q,
-            under_for(q),
-            "for (x1 <- [1]) for (x2 <- [2]) [(x2 + x1)]"
-        )?
-    );
-    assert!(rt; reaches(q, under_fun(q), "for (x1 <- [1]) [(10 + x1)]")?);
-    assert!(rt; reaches(q, under_let(q), "for (x1 <- [1]) [(5 + x1)]")?);
-    assert!(rt; reaches(q, unused_name(q), "for (x1 <- [1]) [x1]")?);
-    assert!(rt; reaches(q, unused_argument(q), "for (x1 <- [1]) [x1]")?);
-    Ok(())
+// `let f0 = FIRST; let f1 = fun (x: int) -> f0(f0(x)); let f2 = fun (x: int) -> f1(f1(x)); .. BODY`, where `last` is the
+// number of the last function
+fn towered(q: Build, first: Made, last: u64, body: Made) -> Made {
+    let mut all = body;
+    for _ in 0..last {
+        let again = q.apply(q.var(1), q.apply(q.var(1), q.var(0)));
+        all = q.bind(q.map(again), all);
+    }
+    q.bind(first, all)
 }
 
-// let f0 = fun (x: int) -> x + 1; let f1 = fun (x: int) -> f0(f0(x)); let f2 = fun (x: int) -> f1(f1(x)); ..
-// [fK(..(1))], where `last` is the number of the last function, and the functions in use add `sum` in all
+// The same over `fun (x: int) -> x + 1`, with the body `[fK(..(1))]`, where the functions in use add `sum` in all
 fn tower(q: Build, last: u64, sum: u64) -> Made {
     let mut all = q.int(1);
     let mut left = sum;
@@ -276,12 +214,55 @@ fn tower(q: Build, last: u64, sum: u64) -> Made {
         }
         left /= 2;
     }
-    all = q.single(all);
-    for _ in 0..last {
-        let again = q.apply(q.var(1), q.apply(q.var(1), q.var(0)));
-        all = q.bind(q.map(again), all);
-    }
-    q.bind(plus(q, 1), all)
+    towered(q, plus(q, 1), last, q.single(all))
+}
+
+// `f12(1)` under a tower of additions: 4,096 sums in one another, more than are built.
+fn too_deep(q: Build) -> Made {
+    q.apply(q.var(0), q.int(1))
+}
+
+// `[(fun (y: int) -> 1)(f12(1))]`
+fn deep_argument_unused(q: Build) -> Made {
+    let used = q.single(q.apply(q.map(q.int(1)), too_deep(q)));
+    towered(q, plus(q, 1), 12, used)
+}
+
+// `[(a = f12(1), b = 7).b]`
+fn deep_field_not_picked(q: Build) -> Made {
+    let picked = q.field(q.record("a", too_deep(q), "b", q.int(7)), "b");
+    towered(q, plus(q, 1), 12, q.single(picked))
+}
+
+// `let d = f12(1); [1]`
+fn deep_value_unused(q: Build) -> Made {
+    towered(q, plus(q, 1), 12, q.bind(too_deep(q), q.single(q.int(1))))
+}
+
+// A tower over `fun (x: int) -> x`: the last function applies the first one 2^20 times, and gives back its argument.
+fn tower_that_falls(q: Build) -> Made {
+    towered(q, same(q), 20, q.single(q.apply(q.var(0), q.int(1))))
+}
+
+// `let x = 1 + 2; for (y <- [x]) [x + y]`
+fn last_used_under_for(q: Build) -> Made {
+    let sum = q.single(q.add(q.var(1), q.var(0)));
+    q.bind(q.add(q.int(1), q.int(2)), q.each(q.single(q.var(0)), sum))
+}
+
+// `for (x <- [1]) let y = x + 1; for (z <- [2]) [y + z]`
+fn moved_under_for(q: Build) -> Made {
+    let sum = q.single(q.add(q.var(1), q.var(0)));
+    let inner = q.each(q.single(q.int(2)), sum);
+    for_one(q, q.bind(q.add(q.var(0), q.int(1)), inner))
+}
+
+// `for (x <- [1]) let f = fun (y: int) -> x + y; for (z <- [2]) let w = f(z); [f(w) + x]`
+fn function_under_for(q: Build) -> Made {
+    let f = q.map(q.add(q.var(1), q.var(0)));
+    let sum = q.single(q.add(q.apply(q.var(2), q.var(0)), q.var(3)));
+    let inner = q.bind(q.apply(q.var(1), q.var(0)), sum);
+    for_one(q, q.bind(f, q.each(q.single(q.int(2)), inner)))
 }
 
 // How many sums stand in one another on the way to the leftmost leaf.
@@ -297,28 +278,13 @@ fn sums(term: &Term) -> u64 {
     }
 }
 
-fn is_sum_of(answer: &Answer, expected: u64) -> bool {
+// Whether the answer has so many sums, or is want of memory.
+fn is_as(answer: &Answer, expected: Option<u64>) -> bool {
     match answer {
-        Answer::Reached(term) => sums(term) == expected,
-        Answer::IllTyped | Answer::WantOfMemory => false,
+        Answer::Reached(term) => expected == Some(sums(term)),
+        Answer::WantOfMemory => expected.is_none(),
+        Answer::IllTyped => false,
     }
-}
-
-// 1,998 sums, a leaf and a bag are 2,000 nodes, one below the other. The stack carries them; one more is want of
-// memory, and so are tens of thousands, and the next query is answered as before.
-#[test]
-fn deep_queries(rt: HostRuntime) -> Result<(), Memory> {
-    let nodes = Cell::new(0);
-    let q = Build {
-        alloc: rt.alloc(),
-        nodes: &nodes,
-    };
-    assert!(rt; reaches(q, tower(q, 2, 5), "[(((((1 + 1) + 1) + 1) + 1) + 1)]")?);
-    assert!(rt; is_sum_of(&outcome(q, tower(q, 10, 1998)?)?, 1998));
-    assert!(rt; matches!(&outcome(q, tower(q, 10, 1999)?)?, Answer::WantOfMemory));
-    assert!(rt; matches!(&outcome(q, tower(q, 15, 32768)?)?, Answer::WantOfMemory));
-    assert!(rt; is_sum_of(&outcome(q, tower(q, 10, 1998)?)?, 1998));
-    Ok(())
 }
 
 // `let x1 = 1; let x2 = x1 + 1; .. [xN]`
@@ -339,16 +305,127 @@ fn doubled(q: Build, times: u64) -> Made {
     q.bind(q.int(1), all)
 }
 
+// The rows, with what each reaches.
+fn row(q: Build, number: u64) -> Made {
+    match number {
+        0 => applied(q),
+        1 => twice(q),
+        2 => chosen(q),
+        3 => shadowed(q),
+        4 => second_field(q),
+        5 => filtered_twice(q),
+        6 => chosen_tests(q),
+        7 => composed(q),
+        8 => chosen_records(q),
+        9 => chosen_again(q),
+        10 => record_of_functions(q),
+        11 => under_for(q),
+        12 => under_fun(q),
+        13 => under_let(q),
+        14 => unused_name(q),
+        15 => unused_argument(q),
+        16 => last_used_under_for(q),
+        17 => moved_under_for(q),
+        18 => function_under_for(q),
+        19 => tower(q, 2, 5),
+        20 => chain(q, 3),
+        _ => doubled(q, 2),
+    }
+}
+
+fn reached_by(number: u64) -> &'static str {
+    match number {
+        0 => "[1]",
+        1 => "[((5 + 1) + 1)]",
+        2 => "[(if true then 3 else (3 + 3))]",
+        3 => "for (x1 <- ([10] ++ [20])) [(x1 + 1)]",
+        4 => "[7]",
+        5 => {
+            "(for (x1 <- table employees) where ((x1.salary < 1000)) [x1.name] ++ for (x1 <- table employees) where ((x1.salary > 50000)) [x1.name])"
+        }
+        6 => {
+            "for (x1 <- table contacts) for (x2 <- table employees) where (((x2.dept == x1.dept) && (if x1.client then (x2.salary > 50000) else (x2.salary < 1000)))) [x2.name]"
+        }
+        7 => "[((5 + 1) * 2)]",
+        8 => "[(if true then (4 + 1) else (4 * 2))]",
+        9 => "[(if true then (if false then (4 + 1) else 4) else (4 * 2))]",
+        10 => "[((3 + 1) * 2)]",
+        11 => "for (x1 <- [1]) for (x2 <- [2]) [(x2 + x1)]",
+        12 => "for (x1 <- [1]) [(10 + x1)]",
+        13 => "for (x1 <- [1]) [(5 + x1)]",
+        14 => "for (x1 <- [1]) [x1]",
+        15 => "for (x1 <- [1]) [x1]",
+        16 => "for (x1 <- [(1 + 2)]) [((1 + 2) + x1)]",
+        17 => "for (x1 <- [1]) for (x2 <- [2]) [((x1 + 1) + x2)]",
+        18 => "for (x1 <- [1]) for (x2 <- [2]) [((x1 + (x1 + x2)) + x1)]",
+        19 => "[(((((1 + 1) + 1) + 1) + 1) + 1)]",
+        20 => "[((1 + 1) + 1)]",
+        _ => "[((1 + 1) + (1 + 1))]",
+    }
+}
+
 #[test]
-fn chains_of_lets(rt: HostRuntime) -> Result<(), Memory> {
+fn small_rows(rt: HostRuntime) -> Result<(), Memory> {
     let nodes = Cell::new(0);
     let q = Build {
         alloc: rt.alloc(),
         nodes: &nodes,
     };
-    assert!(rt; reaches(q, chain(q, 3), "[((1 + 1) + 1)]")?);
-    assert!(rt; is_sum_of(&outcome(q, chain(q, 150)?)?, 149));
-    assert!(rt; reaches(q, doubled(q, 2), "[((1 + 1) + (1 + 1))]")?);
-    assert!(rt; is_sum_of(&outcome(q, doubled(q, 16)?)?, 16));
+    for number in 0..22 {
+        assert!(rt;
+            reaches(q, row(q, number), reached_by(number))?,
+            "row {number}"
+        );
+    }
+    Ok(())
+}
+
+// The rows that single steps take too long for, with how many sums stand in one another in what each reaches.
+//
+// 1,998 sums, a leaf and a bag are 2,000 nodes, one below the other. The stack carries them; one more is want of
+// memory, and so are tens of thousands, and the next query is answered as before.
+fn large_row(q: Build, number: u64) -> Made {
+    match number {
+        0 => tower(q, 10, 1998),
+        1 => tower(q, 10, 1999),
+        2 => tower(q, 15, 32768),
+        3 => tower(q, 10, 1998),
+        4 => chain(q, 150),
+        5 => doubled(q, 16),
+        6 => deep_argument_unused(q),
+        7 => deep_field_not_picked(q),
+        8 => deep_value_unused(q),
+        9 => tower_that_falls(q),
+        _ => towered(q, plus(q, 1), 12, q.single(too_deep(q))),
+    }
+}
+
+fn sums_reached(number: u64) -> Option<u64> {
+    match number {
+        0 => Some(1998),
+        1 => None,
+        2 => None,
+        3 => Some(1998),
+        4 => Some(149),
+        5 => Some(16),
+        6 => Some(0),
+        7 => Some(0),
+        8 => Some(0),
+        9 => Some(0),
+        _ => None,
+    }
+}
+
+#[test]
+fn large_rows(rt: HostRuntime) -> Result<(), Memory> {
+    let nodes = Cell::new(0);
+    let q = Build {
+        alloc: rt.alloc(),
+        nodes: &nodes,
+    };
+    for number in 0..11 {
+        let answer = outcome(q, large_row(q, number)?)?;
+        assert!(rt; is_as(&answer, sums_reached(number)), "large row {number}");
+    }
     Ok(())
 }
