@@ -4,10 +4,12 @@ use nq_model::{Memory, Node, Schema, Term};
 use std::alloc::Global;
 use std::process::Abort;
 
-// let f0 = fun (x: int) -> x + 1; let f1 = fun (x: int) -> f0(f0(x)); let f2 = fun (x: int) -> f1(f1(x)); ..
-// before `body`, where `last` is the number of the last function
-fn tower(alloc: Global, last: u64, body: &str) -> Result<String, Memory> {
-    let mut text = String::from_str(alloc, "let f0 = fun (x: int) -> x + 1; ")?;
+const PLUS_ONE: &str = "fun (x: int) -> x + 1";
+
+// let f0 = FIRST; let f1 = fun (x: int) -> f0(f0(x)); let f2 = fun (x: int) -> f1(f1(x)); .. BODY, where `last` is the
+// number of the last function
+fn tower(alloc: Global, first: &str, last: u64, body: &str) -> Result<String, Memory> {
+    let mut text = format!(in alloc; "let f0 = {first}; ")?;
     for k in 0..last {
         let next = k.saturating_add(1);
         write!(text, "let f{next} = fun (x: int) -> f{k}(f{k}(x)); ")?;
@@ -35,7 +37,7 @@ fn sum_of(alloc: Global, last: u64, sum: u64) -> Result<String, Memory> {
 fn tower_of(alloc: Global, last: u64, sum: u64) -> Result<String, Memory> {
     let sums = sum_of(alloc, last, sum)?;
     let body = format!(in alloc; "[{sums}]")?;
-    tower(alloc, last, body.as_str())
+    tower(alloc, PLUS_ONE, last, body.as_str())
 }
 
 // `let x0 = 1; let x1 = x0 + 1; .. [xN]`
@@ -103,9 +105,11 @@ fn deep_queries(rt: HostRuntime) -> Result<(), Memory> {
     assert_eq!(&rt; sums_of(alloc, &schema, far_deeper.as_str())?, None);
     assert_eq!(&rt; sums_of(alloc, &schema, deepest.as_str())?, Some(1998));
     for body in &UNUSED {
-        let text = tower(alloc, 15, body)?;
+        let text = tower(alloc, PLUS_ONE, 15, body)?;
         assert_eq!(&rt; sums_of(alloc, &schema, text.as_str())?, Some(0));
     }
+    let falling = tower(alloc, "fun (x: int) -> x", 20, "[f20(1)]")?;
+    assert_eq!(&rt; sums_of(alloc, &schema, falling.as_str())?, Some(0));
     let chained = chain(alloc, 149)?;
     assert_eq!(&rt; sums_of(alloc, &schema, chained.as_str())?, Some(149));
     let doublings = doubled(alloc, 16)?;

@@ -8,7 +8,7 @@ use std::alloc::Global;
 use std::process::Abort;
 
 // A query and the term to which it unfolds.
-const QUERIES: [(&str, &str); 16] = [
+const QUERIES: [(&str, &str); 17] = [
     ("let f = fun (x: int) -> [x]; f(1)", "[1]"),
     (
         "let twice = fun (f: int -> int) -> fun (x: int) -> f(f(x)); [twice(fun (n: int) -> n + 1)(5)]",
@@ -68,6 +68,11 @@ const QUERIES: [(&str, &str); 16] = [
         "for (x <- [1]) [(fun (y: int) -> fun (x: int) -> x + y)(x)(10)]",
         "for (x1 <- [1]) [(10 + x1)]",
     ),
+    // A value that is used last under a binder.
+    (
+        "let x = 1 + 2; for (y <- [x]) [x + y]",
+        "for (x1 <- [(1 + 2)]) [((1 + 2) + x1)]",
+    ),
     // Names that use the one before.
     (
         "let x1 = 1; let x2 = x1 + 1; let x3 = x2 + 1; [x3]",
@@ -84,7 +89,7 @@ const QUERIES: [(&str, &str); 16] = [
 ];
 
 // The same with each function that is applied on the spot as a `let`.
-const WITH_LETS: [(&str, &str); 8] = [
+const WITH_LETS: [(&str, &str); 10] = [
     // No name is captured: the `let`s of `let y = x; let x = 5; [x + y]` under a `for`.
     (
         "for (x <- [1]) (fun (y: int) -> (fun (x: int) -> [x + y])(5))(x)",
@@ -108,7 +113,15 @@ const WITH_LETS: [(&str, &str); 8] = [
         "for (x <- [1]) (fun (y: int) -> [y] ++ (for (z <- [y]) [y + z]))(x + 1)",
         "for (x1 <- [1]) ([(x1 + 1)] ++ for (x2 <- [(x1 + 1)]) [((x1 + 1) + x2)])",
     ),
+    (
+        "for (x <- [1]) (fun (y: int) -> for (z <- [2]) [y + z])(x + 1)",
+        "for (x1 <- [1]) for (x2 <- [2]) [((x1 + 1) + x2)]",
+    ),
     // Functions and records of functions that are used under a binder.
+    (
+        "for (x <- [1]) (fun (f: int -> int) -> for (z <- [2]) (fun (w: int) -> [f(w) + x])(f(z)))(fun (y: int) -> x + y)",
+        "for (x1 <- [1]) for (x2 <- [2]) [((x1 + (x1 + x2)) + x1)]",
+    ),
     (
         "for (x <- [1]) (fun (f: int -> int) -> for (z <- [2]) [f(z)])(fun (y: int) -> x + y)",
         "for (x1 <- [1]) for (x2 <- [2]) [(x1 + x2)]",
