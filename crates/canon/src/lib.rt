@@ -5,8 +5,6 @@ mod laws;
 mod order;
 mod rows;
 mod sort;
-#[cfg(test)]
-mod tests;
 mod text;
 
 pub use laws::{form_laws, text_laws};

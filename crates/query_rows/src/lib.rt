@@ -5,6 +5,8 @@
 #[cfg(test)]
 mod asked;
 #[cfg(test)]
+mod canonical;
+#[cfg(test)]
 mod deep;
 #[cfg(test)]
 mod shown;

@@ -10,3 +10,5 @@ mod queries;
 mod schemas;
 #[cfg(test)]
 mod syntax;
+#[cfg(test)]
+mod tables;

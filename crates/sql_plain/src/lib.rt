@@ -11,6 +11,3 @@ mod values;
 
 pub use evaluate::evaluate_text;
 pub use number::Ties;
-
-#[cfg(test)]
-mod tests;

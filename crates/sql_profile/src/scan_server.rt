@@ -126,6 +126,3 @@ impl SqlServer for ScanServer {
         Ok(Answer { rows })
     }
 }
-
-#[cfg(test)]
-mod tests;

@@ -6,8 +6,6 @@ mod keys;
 mod laws;
 mod read;
 mod records;
-#[cfg(test)]
-mod tests;
 
 pub use laws::table_laws;
 use nq_model::Memory;

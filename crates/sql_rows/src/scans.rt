@@ -7,9 +7,11 @@ ghost use Rattle.nq_model.specs.Tables.{names_of, types_of};
 ghost use Rattle.nq_model.specs.declared.table.ColumnType.TheVariants as column;
 ghost use Rattle.sql_profile.specs.Scans.{scan_row, scan_text};
 
-use super::*;
-use crate::server::{ask_text, load_table};
-use nq_model::{Cell, ColumnType, Label, Text};
+use nq_model::{Cell, ColumnType, Label, List, Memory, Rows, Text};
+use sql_profile::{
+    Answer, Loaded, ScanServer, ServerFault, SqlServer, ask_text, load_table, scan_text,
+};
+use std::alloc::Global;
 use std::test::Fail;
 
 const SCAN: &str =
@@ -47,7 +49,7 @@ fn rows(alloc: Global) -> Result<Rows, Memory>
 }
 
 // Loads a server as it is made with its one table, and asks the scan text: what a caller knows then.
-#[tactic(auto, using(crate::proofs::ScanLaws::scan_of_one, crate::proofs::ScanLaws::allowed_of_one))]
+#[tactic(auto, using(sql_profile::proofs::ScanLaws::scan_of_one, sql_profile::proofs::ScanLaws::allowed_of_one))]
 fn scan(
     alloc: Global,
     mut server: Box<dyn SqlServer>,

@@ -1,8 +1,8 @@
 // What texts give, and how they are refused.
-use crate::read_table;
 use nq_model::{CellRef, ColumnType, Label, List, Table, TableShape};
 use std::alloc::{AllocError, Global};
 use std::test::Fail;
+use table_reader::read_table;
 
 // Columns `NAME TYPE,..`, a key `NAME,..`, a text, and what it gives: its rows, each cell between `[` and
 // `]` and each row with a line feed, or its fault.

@@ -1,5 +1,5 @@
 // Values as they are written: worked examples.
-use crate::{sort_deep, write};
+use canon::{sort_deep, write};
 use nq_model::{Label, List, Memory, Text, Value};
 use std::alloc::Global;
 
