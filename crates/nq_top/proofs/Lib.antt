@@ -9,4 +9,3 @@ pub mod Runs
 pub mod Statuses
 pub mod Completeness
 pub mod NamedTables
-pub mod Tops
