@@ -65,7 +65,7 @@ fn let_of(alloc: Global, place: u64, func: Term, value: Box<Term>) -> Result<Ter
 }
 
 /// What comes of the query that a term is.
-pub fn outcome(alloc: Global, schema: &Schema, term: Term) -> Outcome {
+pub fn answered(alloc: Global, schema: &Schema, term: Term) -> Outcome {
     match check(alloc, schema, &term) {
         Ok(_type) => match unfold(alloc, schema, term) {
             Ok(reached) => Outcome::Reached(reached),

@@ -1,5 +1,5 @@
 // Queries whose terms are deep, or get deep on the way.
-use crate::asked::{Outcome, org, outcome, read};
+use crate::asked::{Outcome, answered, org, read};
 use nq_model::{Memory, Node, Schema, Term};
 use std::alloc::Global;
 use std::process::Abort;
@@ -77,7 +77,7 @@ fn sums(term: &Term) -> u64 {
 // The number of sums, where the query is answered, and none for want of memory.
 fn sums_of(alloc: Global, schema: &Schema, text: &str) -> Result<Option<u64>, Memory> {
     let term = read(alloc, text)?;
-    match outcome(alloc, schema, term) {
+    match answered(alloc, schema, term) {
         Outcome::Reached(reached) => Ok(Some(sums(&reached))),
         Outcome::WantOfMemory => Ok(None),
         Outcome::IllTyped => Ok(Some(u64::MAX)),

@@ -1,6 +1,6 @@
 // Each query is unfolded, and compared with the term worked out by hand and with what single steps reach, places
 // included. In a term `x1`, `x2`, .. name the binders from outside.
-use crate::asked::{Outcome, org, outcome, read, with_lets};
+use crate::asked::{Outcome, answered, org, read, with_lets};
 use crate::shown::shown;
 use nq_model::{Memory, Schema, Term};
 use nq_plain::unfold_by_steps;
@@ -137,7 +137,7 @@ const WITH_LETS: [(&str, &str); 10] = [
 ];
 
 fn said(alloc: Global, schema: &Schema, term: Term) -> Result<String, Memory> {
-    match outcome(alloc, schema, term) {
+    match answered(alloc, schema, term) {
         Outcome::Reached(reached) => shown(alloc, &reached, false),
         Outcome::IllTyped => Ok(String::from_str(alloc, "ill typed")?),
         Outcome::WantOfMemory => Ok(String::from_str(alloc, "want of memory")?),
@@ -147,7 +147,7 @@ fn said(alloc: Global, schema: &Schema, term: Term) -> Result<String, Memory> {
 // Whether single steps lead to the same term, places included.
 fn is_by_steps(alloc: Global, schema: &Schema, term: Term) -> Result<bool, Memory> {
     let stepped = unfold_by_steps(alloc, term.copy(alloc)?)?;
-    match outcome(alloc, schema, term) {
+    match answered(alloc, schema, term) {
         Outcome::Reached(reached) => {
             let one = shown(alloc, &reached, true)?;
             let other = shown(alloc, &stepped, true)?;
