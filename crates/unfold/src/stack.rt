@@ -11,7 +11,7 @@ use nq_model::Memory;
 pub(crate) const ROOM: u64 = 5_500_000;
 
 /// `walk` with the largest of the calls that lie between it and the next one.
-pub(crate) const WALK: u64 = 1_400;
+pub(crate) const WALK: u64 = 2_300;
 
 /// `substitute` with the largest of the calls that lie between it and the next one.
 pub(crate) const SUBSTITUTE: u64 = 1_600;
@@ -20,7 +20,7 @@ pub(crate) const APPLY: u64 = 1_000;
 
 pub(crate) const APPLY_BRANCHES: u64 = 1_400;
 
-/// `walk_apply` or `substitute_apply`.
+/// `walk_parts` or `substitute_apply`.
 pub(crate) const ARGUMENT: u64 = 800;
 
 pub(crate) const BIND: u64 = 1_000;
