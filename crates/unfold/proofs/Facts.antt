@@ -1,16 +1,13 @@
 -- How the code's parts fit the definitions.
 use Rattle.std.proofs.Common.{◌≡◌, ◌≢◌, ℕ, zero, suc, ◌-◌, ◌<◌, cond, Bool, true, false, List, [], ◌∷◌, ◌++◌, map, reverse, refl, sym, ap, ◌∙◌, arith, length, drop, Option, Some, None, bytes_eq, slice_index_or, option_map, slice_get}
 use Rattle.std.proofs.lemmas.List.{reverse-append, map-append}
-use Rattle.std.specs.Prelude.{MatchOption}
 use Rattle.nq_model.specs.declared.term.Term.{Term}
-use Rattle.unfold.specs.declared.built.Built.{Built}
 use Rattle.nq_model.specs.declared.term.Node.TheVariants.{Rec}
 use Rattle.nq_model.specs.Terms.{PlacedTerm, PlacedNode, PlacedFields, at, placed, placed_node, placed_fields, placed_fields_of}
-use Rattle.nq_model.specs.Substitution.{shift, fields_with_places}
+use Rattle.nq_model.specs.Substitution.{fields_with_places}
 use Rattle.nq_model.proofs.Terms.{placed_term, node_record}
 use Rattle.nq_model.specs.Unfolding.{picked}
 use Rattle.unfold.specs.Hereditary.{or_else, field_by, substitute, substitute_fields, apply_by, apply_at}
-use Rattle.unfold.proofs.Shifts.{shift_zero}
 use Rattle.unfold.specs.Environments.{Entry, given, walk_in, walk_each, taken_by}
 
 -- what is done to each field
@@ -116,17 +113,6 @@ picked_field p q l fs t u e h =
 pub missing_field : (p q : ℕ) (l : List ℕ) (fs : PlacedFields) (u : PlacedTerm) → u ≡ at q (PlacedNode.rec fs) → picked l fs ≡ None → field_by p l u ≡ at p (PlacedNode.field (at q (PlacedNode.rec fs)) l)
 missing_field p q l fs u e h =
     ap (field_by p l) e ∙ ap (λ o. or_else o (at p (PlacedNode.field (at q (PlacedNode.rec fs)) l))) h
-
--- what a slot gives and keeps
-pub moved : (o : Option (Built Term)) (b : Built Term) (s : PlacedTerm) (u : ℕ) → o ≡ Some b → u ≡ 0 → MatchOption o (Unit {0}) (λ x. placed x.term ≡ s) → placed b.term ≡ shift u 0 s
-moved None b s u e z h = cc
-moved (Some x) b s u e z h =
-    let same : x ≡ b = cc in
-    ap (λ y. placed y.term) (sym same) ∙ h ∙ sym (ap (λ v. shift v 0 s) z ∙ shift_zero 0 s)
-
-pub gone : (o : Option (Built Term)) (s : PlacedTerm) → o ≡ None → MatchOption o (Unit {0}) (λ x. placed x.term ≡ s)
-gone None s e = tt
-gone (Some x) s e = cc
 
 pub got : {X : Type 0} (xs : List X) (i : ℕ) (x d : X) → i < length xs → x ≡ slice_index_or xs i d → slice_get xs i ≡ Some x
 got [] i x d h e = absurd (omega (arith, h))

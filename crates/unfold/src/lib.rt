@@ -8,6 +8,7 @@ mod field;
 mod forms;
 mod fuel;
 mod laws;
+mod raise;
 mod scope;
 mod slot;
 mod stack;

@@ -5,6 +5,7 @@ ghost use Rattle.nq_model.specs.Substitution.{shift, put};
 ghost use Rattle.unfold.specs.Slots.{Puts};
 
 use crate::built::{Built, leaf};
+use crate::raise::raise;
 use nq_model::{Memory, Node, Term};
 use std::alloc::Global;
 
@@ -15,15 +16,29 @@ pub(crate) struct Slot {
     pub left: u64,
 }
 
-/// The term in the slot under `under` binders, moved where this is the last use and there is no binder.
+// A value, moved under `under` binders.
+#[tactic(auto, using(crate::proofs::Shifts::shift_zero))]
+fn moved(alloc: Global, under: u64, value: Built<Term>) -> Result<Built<Term>, Memory>
+    ensures { IfOk result (λ b. placed b.term ≡ shift under 0 (placed value.term)) }
+{
+    if under == 0 {
+        return Ok(value);
+    }
+    Ok(Built {
+        term: raise(alloc, under, 0, value.term)?,
+        deep: value.deep,
+    })
+}
+
+/// The term in the slot under `under` binders, moved where this is the last use.
 pub(crate) fn take(alloc: Global, under: u64, slot: &mut Slot) -> Result<Built<Term>, Memory>
     ensures { IfOk result (λ b. Puts slot.old slot.new (λ s. placed b.term ≡ shift under 0 s)) }
 {
     let left = slot.left;
     slot.left = left.saturating_sub(1);
-    if left <= 1 && under == 0 {
+    if left <= 1 {
         match slot.value.take() {
-            Some(value) => Ok(value),
+            Some(value) => moved(alloc, under, value),
             None => Err(Memory),
         }
     } else {
