@@ -2,16 +2,18 @@
 use Rattle.std.proofs.Common.{◌≡◌, ◌<◌, ◌+◌, ◌&&◌, ℕ, suc, List, [], ◌∷◌, ◌++◌, length, take, map, get_or, zip, find, option_map, Option, Some, None, Bool, true, false, cond, ap, sym, ◌∙◌, refl, arith, add-one, add-zero, Ordering, true≢false, string_bytes, slice_get}
 use Rattle.std.specs.List.{filter_map, cons_option, position_from}
 use Rattle.std.specs.Option.{option_and_then, option_or}
+use Rattle.std.specs.Bool.{beq}
 use Rattle.std.specs.Map.{lookup}
 use Rattle.std.specs.Ordering.{is_eq, ordering_then, bool_cmp, match_ordering}
 use Rattle.std.specs.Str.{bytes_eq}
-use Rattle.std.specs.BTreeMap.{is_at, get, insert_entry}
+use Rattle.std.specs.BTreeMap.{is_at, insert_entry}
 use Rattle.std.specs.Cmp.Lexicographic.{slice_cmp, pointwise, pointwise_decides}
 use Rattle.std.specs.declared.alloc.Global.{Global}
 use Rattle.std.specs.declared.cmp.Ordering.TheVariants.{Less, Equal, Greater}
 use Rattle.std.specs.declared.vec.Vec.{Vec}
 use Rattle.std.proofs.lemmas.List.{take_more, append-nil, map-append}
 use Rattle.std.proofs.lemmas.List.Elements.{filter_map-append}
+use Rattle.std.proofs.lemmas.List.Sums.{fold-append}
 use Rattle.std.proofs.lemmas.Map.Text.{is_eq-slice_cmp}
 use Rattle.std.proofs.lemmas.Iterator.Adapters.{position_from-zero}
 use Rattle.nq_model.specs.Cells.{cell_eq, bool_eq}
@@ -19,12 +21,13 @@ use Rattle.nq_model.specs.Tables.{Columns, names_of}
 use Rattle.nq_model.specs.declared.table.Cell.{Cell}
 use Rattle.nq_model.specs.declared.table.TableShape.{TableShape}
 use Rattle.nq_model.proofs.Sameness.{cell_Decides}
-use Rattle.table_reader.specs.Keys.{cell_under, key_of, first_with}
-use Rattle.table_reader.specs.FirstRows.{cell_of_key, cells_of_key, place_of, key_places, Indexes, Enters}
+use Rattle.table_reader.specs.Codes.{cell_code, key_code}
+use Rattle.table_reader.specs.Keys.{cell_under, key_of}
+use Rattle.table_reader.specs.FirstRows.{cell_of_key, cells_of_key, place_of, key_places}
 use Rattle.table_reader.specs.declared.keys.KeyCell.{KeyCell}
 use Rattle.table_reader.specs.declared.keys.KeyCell.TheVariants as key_cell
-use Rattle.table_reader.specs.declared.keys.KeyIndex.{KeyIndex}
 use Rattle.table_reader.specs.contracts.keys.KeyCellOrd.TheImpl.{ghosts}
+use Rattle.table_reader.specs.contracts.keys.KeyCellPartialEq.TheImpl.{ghosts as equality}
 
 module _ {X Y Z : Type 0} (h : X → Option Y) (view : Z → Y) (xs : List X) (i : ℕ) (d : X) (old new : List Z) where
   -- one more item for which there is something
@@ -39,11 +42,29 @@ module _ {X Y Z : Type 0} (h : X → Option Y) (view : Z → Y) (xs : List X) (i
 
 pub ruleset part_rules = (part_more, part_less)
 
-abbrev Key : Type 0
+pub code_none : 0 ≡ key_code []
+unfolding key_code
+code_none = refl
+
+module _ {X : Type 0} (h : X → Option Cell) (xs : List X) (i : ℕ) (d : X) (old new : ℕ) where
+  -- the code of one more cell
+  pub code_more : (cell : Cell) → i < length xs → h (get_or xs i d) ≡ Some cell → new ≡ cell_code old cell
+      → old ≡ key_code (filter_map h (take i xs)) → new ≡ key_code (filter_map h (take (i + 1) xs))
+  unfolding key_code
+  code_more cell within is more before = rw (take_more xs i d within, filter_map-append h (take i xs) (get_or xs i d ∷ []), is, fold-append cell_code 0 (filter_map h (take i xs)) (cell ∷ []), sym before) more
+
+  -- where there is no cell, the code stays
+  pub code_less : i < length xs → h (get_or xs i d) ≡ None → new ≡ old
+      → old ≡ key_code (filter_map h (take i xs)) → new ≡ key_code (filter_map h (take (i + 1) xs))
+  code_less within is same before = rw (take_more xs i d within, filter_map-append h (take i xs) (get_or xs i d ∷ []), is, append-nil, same) before
+
+pub ruleset code_rules = (code_none, code_more, code_less)
+
+abbrev pub Key : Type 0
 Key = Vec KeyCell Global
 
 -- the order of keys in an index
-abbrev key_cmp : Key → Key → Ordering
+abbrev pub key_cmp : Key → Key → Ordering
 key_cmp k j = slice_cmp ghosts.cmp k.items j.items
 
 -- whether key cells are equal
@@ -84,6 +105,31 @@ lists_tie (x ∷ xs) (y ∷ ys) = rw (both_tie (ghosts.cmp x y) (slice_cmp ghost
 
 keys_tie : (k j : Key) → is_eq (key_cmp k j) ≡ cells_eq (cells_of_key k) (cells_of_key j)
 keys_tie k j = lists_tie k.items j.items
+
+truths_same : (a b : Bool) → beq a b ≡ bool_eq a b
+truths_same true true = refl
+truths_same true false = refl
+truths_same false true = refl
+truths_same false false = refl
+
+-- two cells of keys are equal only where the cells that they copy are
+cells_same : (x y : KeyCell) → equality.eq x y ≡ cell_eq (cell_of_key x) (cell_of_key y)
+cells_same (key_cell.Int a) (key_cell.Int b) = refl
+cells_same (key_cell.Bool a) (key_cell.Bool b) = truths_same a b
+cells_same (key_cell.Text a) (key_cell.Text b) = refl
+cells_same (key_cell.Int a) (key_cell.Bool b) = refl
+cells_same (key_cell.Int a) (key_cell.Text b) = refl
+cells_same (key_cell.Bool a) (key_cell.Int b) = refl
+cells_same (key_cell.Bool a) (key_cell.Text b) = refl
+cells_same (key_cell.Text a) (key_cell.Int b) = refl
+cells_same (key_cell.Text a) (key_cell.Bool b) = refl
+
+-- two keys are equal only where the cells that they copy are
+pub keys_same : (xs ys : List KeyCell) → pointwise equality.eq xs ys ≡ cells_eq (map cell_of_key xs) (map cell_of_key ys)
+keys_same [] [] = refl
+keys_same [] (y ∷ ys) = refl
+keys_same (x ∷ xs) [] = refl
+keys_same (x ∷ xs) (y ∷ ys) = rw (cells_same x y, keys_same xs ys) refl
 
 cond_twice : {A : Type 0} (b : Bool) (x y z : A) → cond b x z ≡ cond b x (cond b y z)
 cond_twice true x y z = refl
@@ -135,7 +181,7 @@ cond_map f false x o = refl
 
 module _ {X : Type 0} (t : X → Bool) where
   -- the places of a list that starts one later
-  position_later : (n : ℕ) (xs : List X) → position_from t (n + 1) xs ≡ option_map suc (position_from t n xs)
+  pub position_later : (n : ℕ) (xs : List X) → position_from t (n + 1) xs ≡ option_map suc (position_from t n xs)
   position_later n [] = refl
   position_later n (x ∷ xs) = rw (position_later (n + 1) xs, add-one n) (cond_map suc (t x) n (position_from t (suc n) xs))
 
@@ -183,54 +229,3 @@ pub places_key : (shape : TableShape) (row : List Cell) → filter_map (slice_ge
 unfolding key_of
 places_key shape row = parts_of_parts (place_of shape.columns) (slice_get row) (cell_under (names_of shape.columns) row)
     (λ name. ap (option_and_then (slice_get row)) (position_from-zero (λ column. bytes_eq column.0 name) shape.columns) ∙ cell_at_place shape.columns row name) shape.key
-
-nothing_more : {A : Type 0} (o : Option A) → o ≡ option_or o None
-nothing_more None = refl
-nothing_more (Some x) = refl
-
--- the first row with key cells, of one row more
-first_more : (shape : TableShape) (key : List Cell) (rows : List (List Cell)) (row : List Cell)
-    → first_with shape key (rows ++ row ∷ []) ≡ option_or (first_with shape key rows) (cond (cells_eq key (key_of shape row)) (Some (length rows + 1)) None)
-first_more shape key rows row =
-    let e : 1 + length rows ≡ length rows + 1 = omega arith in
-    position-append (λ earlier. cells_eq key (key_of shape earlier)) 1 rows (row ∷ []) ∙ rw e refl
-
--- an index that is empty
-pub indexes_none : (shape : TableShape) (index : KeyIndex) → index.columns.items ≡ key_places shape → index.first_rows.entries ≡ [] → Indexes shape [] index
-indexes_none shape index columns empty = record { columns = columns; finds = λ key. rw empty refl }
-
--- an entry of a row in an index
-pub entered : (shape : TableShape) (rows : List (List Cell)) (row : List Cell) (old new : KeyIndex) (key : Key) (number : ℕ) (told : Option ℕ)
-    → Indexes shape rows old → number ≡ length rows + 1
-    → map cell_of_key key.items ≡ filter_map (slice_get row) old.columns.items
-    → told ≡ get key_cmp old.first_rows key
-    → new.columns ≡ old.columns
-    → new.first_rows.entries ≡ insert_entry key_cmp old.first_rows.entries key number
-    → Enters shape rows row new told
-entered shape rows row old new key number told index is_number copied tells same inserted = by told first
-  where
-    cells : cells_of_key key ≡ key_of shape row
-    cells = copied ∙ ap (filter_map (slice_get row)) index.columns ∙ places_key shape row
-
-    first : told ≡ first_with shape (key_of shape row) rows
-    first = tells ∙ found_at key old.first_rows.entries ∙ index.finds (cells_of_key key) ∙ ap (λ k. first_with shape k rows) cells
-
-    finds_new : (q : List Cell) → first_with shape (key_of shape row) rows ≡ None
-        → (b : Bool) → cells_eq q (key_of shape row) ≡ b
-        → cond b (Some number) (first_with shape q rows) ≡ option_or (first_with shape q rows) (cond b (Some (length rows + 1)) None)
-    finds_new q none true e =
-        let nothing : first_with shape q rows ≡ None = ap (λ k. first_with shape k rows) ((cells_Decides q (key_of shape row)).0 e) ∙ none in
-        rw (nothing, is_number) refl
-    finds_new q none false e = nothing_more (first_with shape q rows)
-
-    by : (o : Option ℕ) → o ≡ first_with shape (key_of shape row) rows → Enters shape rows row new o
-    by (Some earlier) e = sym e
-    by None e = (
-      sym e,
-      record {
-        columns = ap (λ v. v.items) same ∙ index.columns;
-        finds = λ q. rw (inserted, found_entered q old.first_rows.entries key number, index.finds q, cells, first_more shape q rows row) (finds_new q (sym e) (cells_eq q (key_of shape row)) refl);
-      },
-    )
-
-pub ruleset index_rules = (indexes_none, entered)

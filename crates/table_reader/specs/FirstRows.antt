@@ -1,7 +1,9 @@
 -- What an index of first rows by their keys holds.
-use Rattle.std.specs.Prelude.{◌≡◌, ◌≢◌, ℕ, ◌∷◌, ◌++◌, [], List, map, Option, Some, None, string_bytes}
-use Rattle.std.specs.List.{filter_map, position}
+use Rattle.std.specs.Prelude.{◌≡◌, ◌≢◌, ◌==◌, ℕ, ◌∷◌, ◌++◌, [], List, map, Option, Some, None, string_bytes, if◌then◌else◌}
+use Rattle.std.specs.List.{filter_map, position, position_from}
 use Rattle.std.specs.Map.{lookup}
+use Rattle.std.specs.BTreeMap.{get}
+use Rattle.std.specs.Ordering.{nat_cmp}
 use Rattle.std.specs.Cmp.Lexicographic.{pointwise}
 use Rattle.std.specs.Str.{bytes_eq}
 use Rattle.nq_model.specs.Cells.{cell_eq}
@@ -14,6 +16,7 @@ use Rattle.nq_model.specs.declared.table.TableShape.{TableShape}
 use Rattle.table_reader.specs.declared.keys.KeyIndex.{KeyIndex}
 use Rattle.table_reader.specs.declared.keys.KeyCell.{KeyCell}
 use Rattle.table_reader.specs.declared.keys.KeyCell.TheVariants as key_cell
+use Rattle.table_reader.specs.Codes.{key_code}
 use Rattle.table_reader.specs.Keys.{key_of, first_with}
 
 -- the cell that a cell of a key is a copy of
@@ -34,10 +37,27 @@ place_of columns name = position (λ column. bytes_eq column.0 name) columns
 abbrev pub key_places : TableShape → List ℕ
 key_places shape = filter_map (place_of shape.columns) shape.key
 
--- an index of these rows: where the columns of the key are, and for all key cells the first row that has them
+-- the place, counted from 0, of the first of these rows that has these key cells
+abbrev pub place_with : TableShape → List Cell → List (List Cell) → Option ℕ
+place_with shape key rows = position_from (λ row. pointwise cell_eq key (key_of shape row)) 0 rows
+
+-- the place of the first of these rows whose key has this code
+abbrev pub place_coded : TableShape → ℕ → List (List Cell) → Option ℕ
+place_coded shape code rows = position_from (λ row. key_code (key_of shape row) == code) 0 rows
+
+-- the place of the first row with a key, unless it is also the first with the key's code
+abbrev pub other_than : Option ℕ → Option ℕ → Option ℕ
+other_than coded None = None
+other_than None (Some place) = Some place
+other_than (Some first) (Some place) = if first == place then None else Some place
+
+-- an index of these rows: where the columns of the key are, for each code the first row whose key has it,
+-- and for all key cells the first row that has them, where that is not the first with their code
 pub record Indexes (shape : TableShape) (rows : List (List Cell)) (index : KeyIndex) : Type 0 where
   pub columns : index.columns.items ≡ key_places shape
-  pub finds : (key : List Cell) → lookup (λ k. pointwise cell_eq key (cells_of_key k)) index.first_rows.entries ≡ first_with shape key rows
+  pub finds : (code : ℕ) → get nat_cmp index.first_rows code ≡ place_coded shape code rows
+  pub others : (key : List Cell) → lookup (λ k. pointwise cell_eq key (cells_of_key k)) index.others.entries
+      ≡ other_than (place_coded shape (key_code key) rows) (place_with shape key rows)
 
 -- a row was entered: either no row before it has its key cells, and it is now among them, or the first that has them is told
 abbrev pub Enters : TableShape → List (List Cell) → List Cell → KeyIndex → Option ℕ → Type 0

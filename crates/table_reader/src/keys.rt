@@ -1,11 +1,12 @@
 // Keys, and the first row of each.
-ghost use Rattle.std.specs.Prelude.{◌≡◌, ◌+◌, List, [], length, map, IfOk, slice_get};
-ghost use Rattle.nq_model.specs.declared.table.Cell.{Cell};
+ghost use Rattle.std.specs.Prelude.{◌≡◌, ◌+◌, [], map, IfOk, slice_get};
 ghost use Rattle.nq_model.specs.declared.table.TableShape.{TableShape};
 ghost use Rattle.std.specs.List.{filter_map};
+ghost use Rattle.table_reader.specs.Codes.{key_code};
 ghost use Rattle.table_reader.specs.FirstRows.{cell_of_key, key_places, place_of, Enters, Indexes};
 
-use nq_model::{Cell, ColumnType, Label, List, Memory, TableShape};
+use crate::codes::cell_code;
+use nq_model::{Cell, ColumnType, Label, List, Memory, Rows, TableShape};
 use std::alloc::Global;
 use std::collections::BTreeMap;
 
@@ -17,11 +18,13 @@ pub(crate) enum KeyCell {
     Text(String),
 }
 
-// The first row of each key.
+// The first row of each key. Rows are counted from 0. By its code a key takes some 20 bytes where a copy
+// of its cells would take 100, and so only a key whose code is an earlier key's too is copied.
 #[derive(Drop)]
 pub(crate) struct KeyIndex {
     columns: Vec<usize>,
-    first_rows: BTreeMap<Vec<KeyCell>, u64>,
+    first_rows: BTreeMap<u64, u32>,
+    others: BTreeMap<Vec<KeyCell>, u32>,
 }
 
 fn column_named(columns: &[(Label, ColumnType)], name: &str) -> Option<usize>
@@ -52,9 +55,16 @@ fn key_places(alloc: Global, shape: &TableShape) -> Result<Vec<usize>, Memory>
     Ok(places)
 }
 
+// The number of a row in messages, where rows are counted from 1.
+fn number_of(place: u32) -> u64
+    ensures { result ≡ place + 1 }
+{
+    u64::from(place) + 1
+}
+
 impl KeyIndex {
     // An index of no row.
-    #[tactic(auto, using(crate::proofs::KeyFacts::index_rules))]
+    #[tactic(auto, using(crate::proofs::IndexFacts::indexes_none))]
     pub(crate) fn new(alloc: Global, shape: &TableShape) -> Result<KeyIndex, Memory>
         ensures { IfOk result (Indexes shape.now []) }
     {
@@ -62,7 +72,23 @@ impl KeyIndex {
         Ok(KeyIndex {
             columns,
             first_rows: BTreeMap::new(alloc),
+            others: BTreeMap::new(alloc),
         })
+    }
+
+    // The code of the key of a row.
+    #[tactic(auto, using(crate::proofs::KeyFacts::code_rules))]
+    fn code_of(&self, row: &List<Cell>) -> u64
+        ensures { result ≡ key_code (filter_map (slice_get row.now) self.now.columns.items) }
+    {
+        let mut code = 0;
+        for at in &self.columns {
+            let Some(cell) = row.get(*at) else {
+                continue;
+            };
+            code = cell_code(code, cell);
+        }
+        code
     }
 
     // The key of a row.
@@ -80,19 +106,29 @@ impl KeyIndex {
         Ok(key)
     }
 
-    // Enters a row after those before it, whose number this is. Tells the first row that has its key
-    // instead, if there is one.
+    // Enters a row after those before it. Tells the number of the first row that has its key instead, if
+    // there is one.
     pub(crate) fn enter(
         &mut self,
         alloc: Global,
+        rows: &Rows,
         row: &List<Cell>,
-        number: u64,
     ) -> Result<Option<u64>, Memory>
-        ensures { IfOk result (λ found. (shape : TableShape) (rows : List (List Cell))
-            → Indexes shape rows self.old → number ≡ length rows + 1 → Enters shape rows row.now self.new found) }
+        ensures { IfOk result (λ found. (shape : TableShape) → Indexes shape rows.now self.old → Enters shape rows.now row.now self.new found) }
     {
+        let place = u32::try_from(rows.len()).map_err(|_| Memory)?;
+        let code = self.code_of(row);
+        let Some(first) = self.first_rows.get(&code).copied() else {
+            self.first_rows.insert(code, place)?;
+            return Ok(None);
+        };
         let key = self.key_of(alloc, row)?;
-        let earlier = self.first_rows.insert(key, number)?;
-        Ok(earlier)
+        let first_row = rows.row(alloc, first as usize)?;
+        let first_key = self.key_of(alloc, &first_row)?;
+        if key == first_key {
+            return Ok(Some(number_of(first)));
+        }
+        let earlier = self.others.insert(key, place)?;
+        Ok(earlier.map(number_of))
     }
 }

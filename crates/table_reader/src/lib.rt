@@ -2,6 +2,7 @@
 #![tactic(auto)]
 
 mod cells;
+mod codes;
 mod keys;
 mod laws;
 mod read;

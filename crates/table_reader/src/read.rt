@@ -1,7 +1,6 @@
 // The rows of a table text.
 ghost use Rattle.std.specs.Prelude.{◌≡◌, ◌≢◌, ◌+◌, ℕ, List, [], ◌∷◌, ◌++◌, length, IfOk, IfErr};
 ghost use Rattle.csv.specs.Records.{fields_of};
-ghost use Rattle.nq_model.specs.declared.table.Cell.{Cell};
 ghost use Rattle.table_reader.specs.FirstRows.{KeepsIndex};
 ghost use Rattle.table_reader.specs.Records.{HasRead};
 ghost use Rattle.table_reader.specs.Progress.{ReadsHeader};
@@ -32,25 +31,26 @@ fn is_header(shape: &TableShape, fields: &ByteRecord) -> bool
     true
 }
 
-// The row that a record spells after earlier ones, which the index then knows.
+// The row that a record spells after earlier ones, which the index then knows too.
 #[tactic(auto, unfolding(crate::specs::Tables::next_row, crate::specs::Keys::twin_of))]
 fn next_row(
     alloc: Global,
     shape: &TableShape,
+    rows: &Rows,
     index: &mut KeyIndex,
     fields: &ByteRecord,
     row: u64,
 ) -> Result<List<Cell>, TableFault>
-    ensures ok { IfOk result (λ cells. (rows : List (List Cell)) → KeepsIndex shape.now rows index.old → row ≡ length rows + 1
-        → (next_row shape.now rows (fields_of fields.now) ≡ Ok cells) × KeepsIndex shape.now (rows ++ cells ∷ []) index.new) }
-    ensures err { IfErr result (λ e. (rows : List (List Cell)) → KeepsIndex shape.now rows index.old → row ≡ length rows + 1
-        → e ≢ fault.Memory → next_row shape.now rows (fields_of fields.now) ≡ Err e) }
+    ensures ok { IfOk result (λ cells. KeepsIndex shape.now rows.now index.old → row ≡ length rows.now + 1
+        → (next_row shape.now rows.now (fields_of fields.now) ≡ Ok cells) × KeepsIndex shape.now (rows.now ++ cells ∷ []) index.new) }
+    ensures err { IfErr result (λ e. KeepsIndex shape.now rows.now index.old → row ≡ length rows.now + 1
+        → e ≢ fault.Memory → next_row shape.now rows.now (fields_of fields.now) ≡ Err e) }
 {
     let cells = read_row(alloc, shape.columns.as_slice(), fields, row)?;
     if shape.key.is_empty() {
         return Ok(cells);
     }
-    match index.enter(alloc, &cells, row)? {
+    match index.enter(alloc, rows, &cells)? {
         Some(earlier) => Err(TableFault::TwiceKey { row, earlier }),
         None => Ok(cells),
     }
@@ -94,7 +94,7 @@ pub fn read_table(alloc: Global, shape: &TableShape, text: &[u8]) -> Result<Tabl
         if !read_next(&mut reader, &mut fields)? {
             return Ok(Table { rows });
         }
-        let cells = next_row(alloc, shape, &mut index, &fields, row)?;
+        let cells = next_row(alloc, shape, &rows, &mut index, &fields, row)?;
         rows.push(cells.as_slice())?;
     }
     // No memory holds so many rows.

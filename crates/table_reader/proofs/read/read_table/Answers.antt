@@ -32,13 +32,13 @@ returns-in_err-cells-clause-fault c =
     let told = err_from_is_err_and c.from_residual-in_err-cells.result c.from_residual-in_err-cells.ensures.1 in
     rw (told.1, told.2) (λ other.
     rows_stop c.args.shape.now c.args.text.now c.loop-row.reader c.read_next.new.reader c.loop-row.rows has (fields_of c.read_next.new.fields) given _
-    (c.in_err-cells.ensures.err c.loop-row.rows c.loop-row.invariant.keeps c.loop-row.invariant.number other))
+    (c.in_err-cells.ensures.err c.loop-row.invariant.keeps c.loop-row.invariant.number other))
 
 pub loop-row-preserved : goal.loop-row-preserved
 loop-row-preserved c =
     let has = c.loop-row.invariant.has in
     let given = rw c.if-not-branch-2.false at (c.in_ok-read_next.ensures c.args.text.now (has.header ∷ has.body) has.given) in
-    let row = c.in_ok-cells.ensures.ok c.loop-row.rows c.loop-row.invariant.keeps c.loop-row.invariant.number in
+    let row = c.in_ok-cells.ensures.ok c.loop-row.invariant.keeps c.loop-row.invariant.number in
     let more = rw c.as_slice.ensures at c.in_ok-push.ensures.ok in
     record {
       has = rw more (rows_more c.args.shape.now c.args.text.now c.loop-row.reader c.read_next.new.reader c.loop-row.rows has (fields_of c.read_next.new.fields) given c.in_ok-cells.cells row.0);

@@ -1,0 +1,23 @@
+-- Codes of keys: numbers of 64 bits that the cells of a key determine.
+use Rattle.std.specs.Prelude.{◌+◌, ◌*◌, ◌%◌, ◌^◌, ℕ, List, fold, if◌then◌else◌}
+use Rattle.std.specs.Int.{w64, cast_unsigned}
+use Rattle.nq_model.specs.declared.table.Cell.{Cell}
+use Rattle.nq_model.specs.declared.table.Cell.TheVariants.{Int, Bool as Truth, Text}
+
+-- a code that goes on with a number: the value of a polynomial, modulo 2 ^ 64
+unfoldable pub code_with : ℕ → ℕ → ℕ
+code_with code number = (code * 1099511628211 + number) % 2 ^ 64
+
+-- a code that goes on with a text: its bytes, and 255, which is in no text
+abbrev pub text_code : ℕ → List ℕ → ℕ
+text_code code text = code_with (fold code_with code text) 255
+
+-- a code that goes on with a cell
+abbrev pub cell_code : ℕ → Cell → ℕ
+cell_code code (Int n) = code_with code (cast_unsigned w64 n)
+cell_code code (Truth b) = code_with code (if b then 1 else 0)
+cell_code code (Text t) = text_code code t
+
+-- the code of the cells of a key
+unfoldable pub key_code : List Cell → ℕ
+key_code key = fold cell_code 0 key
