@@ -40,7 +40,7 @@ const ONE: Case = Case {
     note: "",
 };
 
-const CASES: [Case; 13] = [
+const CASES: [Case; 16] = [
     ONE,
     Case {
         schema: "table t (b: int, a: text);",
@@ -119,6 +119,24 @@ const CASES: [Case; 13] = [
         query: "table t",
         t: "a\r\n\"x, \"\"y\"\"\"\r\n\"\"\r\n",
         out: "{(a = ''), (a = 'x, \"y\"')}\n",
+        ..ONE
+    },
+    // Rows that begin alike, and numbers on both sides of 0.
+    Case {
+        departments: Some("name\ndepartment 3\ndepartment 10\ndepartment\ndepartment 1\n"),
+        out: "{(name = 'department'), (name = 'department 1'), (name = 'department 10'), (name = 'department 3')}\n",
+        ..ONE
+    },
+    Case {
+        departments: Some("name\nz\n\u{e9}\na\0\ndep\na\ndepartment\n"),
+        out: "{(name = 'a'), (name = 'a\0'), (name = 'dep'), (name = 'department'), (name = 'z'), (name = '\u{e9}')}\n",
+        ..ONE
+    },
+    Case {
+        schema: "table t (n: int);",
+        query: "table t",
+        t: "n\n5\n-3\n9223372036854775807\n-9223372036854775808\n0\n",
+        out: "{(n = -9223372036854775808), (n = -3), (n = 0), (n = 5), (n = 9223372036854775807)}\n",
         ..ONE
     },
 ];

@@ -14,13 +14,15 @@ const CLIENT: &str = "dept text,name text,client bool";
 
 const PAIR: &str = "a int,b text";
 
+const INTS: &str = "a int,b int";
+
 const INT: &str = "a int";
 
 const BOOL: &str = "a bool";
 
 const TEXT: &str = "a text";
 
-const CASES: [Case; 48] = [
+const CASES: [Case; 51] = [
     (
         SALARY,
         "",
@@ -168,6 +170,25 @@ const CASES: [Case; 48] = [
         "a",
         b"a\nt\nf\ntrue",
         "TwiceKey { row: 3, earlier: 1 }",
+    ),
+    // Two keys that share a code of the index.
+    (
+        INTS,
+        "a,b",
+        b"a,b\n0,1099511628211\n1,0\n2,0",
+        "[0][1099511628211]\n[1][0]\n[2][0]\n",
+    ),
+    (
+        INTS,
+        "a,b",
+        b"a,b\n0,1099511628211\n1,0\n0,1099511628211",
+        "TwiceKey { row: 3, earlier: 1 }",
+    ),
+    (
+        INTS,
+        "a,b",
+        b"a,b\n0,1099511628211\n1,0\n1,0",
+        "TwiceKey { row: 3, earlier: 2 }",
     ),
 ];
 
