@@ -6,3 +6,4 @@ mod Apart
 mod Sorted
 mod Typed
 mod FlatRows
+mod Ranking

@@ -3,3 +3,4 @@ pub mod Typed
 pub mod Sorted
 pub mod Texts
 pub mod Rows
+pub mod Ranks

@@ -3,6 +3,7 @@
 
 mod laws;
 mod order;
+mod ranks;
 mod rows;
 mod sort;
 mod text;

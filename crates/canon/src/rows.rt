@@ -1,12 +1,15 @@
 // The canonical text of a bag of flat records, from rows of cells.
 ghost use Rattle.std.specs.Prelude.{◌≡◌, ◌≤◌, ◌+◌, ◌++◌, IfOk, OnOk, map, max, take, drop, length, string_bytes, slice_range};
 ghost use Rattle.std.specs.Cmp.Lexicographic.{slice_cmp};
+ghost use Rattle.std.specs.Ordering.{ordering_then};
 ghost use Rattle.nq_model.specs.CellRefs.{cell_seen};
 ghost use Rattle.nq_model.specs.Cells.{cell_cmp};
 ghost use Rattle.nq_model.specs.Orders.{sorted_by};
 ghost use Rattle.nq_model.specs.Canonical.{canonical_text, cell_text, written, value_cmp};
+ghost use Rattle.canon.specs.Ranks.{rank_cmp};
 ghost use Rattle.canon.specs.Rows.{row_at, row_record, rows_at, rows_value};
 
+use crate::ranks::{Ranked, rank_rows, write_places};
 use crate::text::{write_quoted, write_separator};
 use itoa::Buffer;
 use nq_model::{CellRef, Label, List, Memory, Rows};
@@ -53,14 +56,42 @@ fn compare_rows(labels: &[Label], first: usize, rows: &Rows, left: usize, right:
     }
 }
 
-// Records that tie are one, so the sort need not be stable.
-fn put_rows_in_order(labels: &[Label], first: usize, rows: &Rows, places: &mut Vec<u32>)
-    ensures { map (row_record labels.now first) (rows_at rows.now places.new.items)
-        ≡ sorted_by value_cmp (map (row_record labels.now first) (rows_at rows.now places.old.items)) }
+// The order of the records of two ranked rows. Their cells are looked up only where the ranks tie.
+fn compare_ranked(
+    labels: &[Label],
+    first: usize,
+    rows: &Rows,
+    left: &Ranked,
+    right: &Ranked,
+) -> Ordering
+    ensures { result ≡ ordering_then (rank_cmp left.now right.now) (value_cmp (row_record labels.now first (row_at rows.now left.now.place)) (row_record labels.now first (row_at rows.now right.now.place))) }
 {
-    places.sort_unstable_by(|left, right| {
-        compare_rows(labels, first, rows, *left as usize, *right as usize)
-    });
+    match left.compare(right) {
+        Ordering::Equal => compare_rows(
+            labels,
+            first,
+            rows,
+            left.place() as usize,
+            right.place() as usize,
+        ),
+        other => other,
+    }
+}
+
+// Records that tie are one, so the sort need not be stable.
+fn put_rows_in_order(
+    alloc: Global,
+    labels: &[Label],
+    first: usize,
+    rows: &Rows,
+    places: &mut Vec<u32>,
+) -> Result<(), Memory>
+    ensures { OnOk result (map (row_record labels.now first) (rows_at rows.now places.new.items)
+        ≡ sorted_by value_cmp (map (row_record labels.now first) (rows_at rows.now places.old.items))) }
+{
+    let mut ranks = rank_rows(alloc, rows, first, labels.len(), places.as_slice())?;
+    ranks.sort_unstable_by(|left, right| compare_ranked(labels, first, rows, left, right));
+    write_places(places, ranks.as_slice())
 }
 
 fn write_cell(text: &mut String, cell: &CellRef<'_>) -> Result<(), Memory>
@@ -170,7 +201,7 @@ pub fn write_rows(
     ensures { IfOk result (λ text. text ≡ canonical_text (rows_value labels.now first (rows_at rows.now places.items))) }
 {
     let mut sorted = places;
-    put_rows_in_order(labels, first, rows, &mut sorted);
+    put_rows_in_order(alloc, labels, first, rows, &mut sorted)?;
     let size = rows_size(labels, first, rows, sorted.as_slice());
     let mut text = String::with_capacity(alloc, size)?;
     write_bag_of_rows(&mut text, labels, first, rows, sorted.as_slice())?;
