@@ -18,12 +18,12 @@ pub(crate) enum KeyCell {
     Text(String),
 }
 
-// The first row of each key. Rows are counted from 0. By its code a key takes some 20 bytes where a copy
-// of its cells would take 100, and so only a key whose code is an earlier key's too is copied.
+// The first row of each key, counted from 0. A key that is found by its code takes some 20 bytes, and a
+// copy of its cells more than 100, so a key is copied only where an earlier one has its code.
 #[derive(Drop)]
 pub(crate) struct KeyIndex {
     columns: Vec<usize>,
-    first_rows: BTreeMap<u64, u32>,
+    first_rows: BTreeMap<u32, u32>,
     others: BTreeMap<Vec<KeyCell>, u32>,
 }
 
@@ -78,7 +78,7 @@ impl KeyIndex {
 
     // The code of the key of a row.
     #[tactic(auto, using(crate::proofs::KeyFacts::code_rules))]
-    fn code_of(&self, row: &List<Cell>) -> u64
+    fn code_of(&self, row: &List<Cell>) -> u32
         ensures { result ≡ key_code (filter_map (slice_get row.now) self.now.columns.items) }
     {
         let mut code = 0;
