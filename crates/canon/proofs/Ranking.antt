@@ -1,7 +1,8 @@
 -- What the records of rows begin with stands in the records' order.
-use Rattle.std.proofs.Common.{◌≡◌, ℕ, zero, suc, ◌+◌, ◌-◌, ◌*◌, ◌^◌, ◌<◌, ◌≤◌, min, Bool, true, false, cond, List, [], ◌∷◌, map, take, drop, length, get_or, ℤ, pos, negsuc, nat_le, int_lt, refl, sym, ap, ap₂, ◌∙◌, subst, arith, add-one, length-take}
+use Rattle.std.proofs.Common.{◌≡◌, ℕ, zero, suc, ◌+◌, ◌-◌, ◌*◌, ◌^◌, ◌<◌, ◌≤◌, min, Bool, true, false, cond, List, [], ◌∷◌, map, take, drop, length, get_or, ℤ, pos, negsuc, nat_le, int_lt, refl, sym, ap, ap₂, ◌∙◌, subst, arith, add-one, length-take, drop-cons}
 use Rattle.std.proofs.Math.Nat.{pow-suc, mul_assoc, mul-le-mul_right, min-eq_left, pow-le-pow_right}
 use Rattle.std.proofs.lemmas.Bool.{lt-ltb, leb-true, leb-false, lt-leb, le-leb}
+use Rattle.std.proofs.lemmas.List.{drop_all}
 use Rattle.std.proofs.lemmas.Simd.{map-map}
 use Rattle.std.specs.declared.cmp.Ordering.{Ordering}
 use Rattle.std.specs.declared.cmp.Ordering.TheVariants.{Less, Equal, Greater}
@@ -19,7 +20,7 @@ use Rattle.nq_model.specs.Canonical.{value_cmp}
 use Rattle.nq_model.proofs.Canonical.{value_order}
 use Rattle.nq_model.proofs.Orders.{IsStrictOrder, sorted_mapped}
 use Rattle.canon.specs.declared.ranks.Ranked.{Ranked}
-use Rattle.canon.specs.Ranks.{head_of_text, head_of_int, lead_of, kind_of, head_of, kind_number, ranked_at}
+use Rattle.canon.specs.Ranks.{head_by, head_past, head_of_text, head_of_int, lead_of, kind_of, head_of, kind_number, ranked_at}
 use Rattle.canon.specs.Rows.{row_at, row_record, rows_at}
 use Rattle.canon.proofs.FlatRows.{records_compare, cell_behind}
 
@@ -104,6 +105,57 @@ head_fits n bs h b k =
     let below = head_below n bs in
     omega (arith, most, below)
 
+-- ---- the heads of texts behind a prefix
+
+past_below : (prefix text : List ℕ) → head_past prefix text < 2 ^ 64
+past_below [] text = head_below 8 text
+past_below (p ∷ ps) [] = omega arith
+past_below (p ∷ ps) (b ∷ bs) = by_order (nat_cmp b p) (past_below ps bs)
+  where
+    by_order : (o : Ordering) → head_past ps bs < 2 ^ 64 → head_by o (head_past ps bs) < 2 ^ 64
+    by_order Less h = omega arith
+    by_order Equal h = h
+    by_order Greater h = omega arith
+
+less_then : (x y : ℕ) (o : Ordering) → x < y → ordering_then (nat_cmp x y) o ≡ Less
+less_then x y o h = ap (λ (r : Ordering). ordering_then r o) (sym (nat_cmp_is x y Less h))
+
+-- whatever the prefix is, the heads behind it stand in the order of the texts
+past_follow : (prefix xs ys : List ℕ) → head_past prefix xs < head_past prefix ys → slice_cmp nat_cmp xs ys ≡ Less
+past_follow [] xs ys h = texts_follow 8 xs ys h
+past_follow (p ∷ ps) [] [] h = absurd (omega (arith, h))
+past_follow (p ∷ ps) [] (y ∷ ys) h = refl
+past_follow (p ∷ ps) (x ∷ xs) [] h = absurd (omega (arith, h))
+past_follow (p ∷ ps) (x ∷ xs) (y ∷ ys) h = by_orders (nat_cmp x p) (nat_cmp y p) refl refl h (past_follow ps xs ys)
+  where
+    by_orders : (l r : Ordering) → l ≡ nat_cmp x p → r ≡ nat_cmp y p → head_by l (head_past ps xs) < head_by r (head_past ps ys)
+        → (head_past ps xs < head_past ps ys → slice_cmp nat_cmp xs ys ≡ Less) → ordering_then (nat_cmp x y) (slice_cmp nat_cmp xs ys) ≡ Less
+    by_orders Less Less e f h later = absurd (omega (arith, h))
+    by_orders Less Equal e f h later =
+        let below : x < p = ranked x p Less e in
+        let same : y ≡ p = ranked y p Equal f in
+        less_then x y (slice_cmp nat_cmp xs ys) (omega (arith, below, same))
+    by_orders Less Greater e f h later =
+        let below : x < p = ranked x p Less e in
+        let above : p < y = ranked y p Greater f in
+        less_then x y (slice_cmp nat_cmp xs ys) (omega (arith, below, above))
+    by_orders Equal Less e f h later = absurd (omega (arith, h))
+    by_orders Equal Equal e f h later =
+        let left : x ≡ p = ranked x p Equal e in
+        let right : y ≡ p = ranked y p Equal f in
+        ap (λ (r : Ordering). ordering_then r (slice_cmp nat_cmp xs ys)) (sym (nat_cmp_is x y Equal (left ∙ sym right))) ∙ later h
+    by_orders Equal Greater e f h later =
+        let same : x ≡ p = ranked x p Equal e in
+        let above : p < y = ranked y p Greater f in
+        less_then x y (slice_cmp nat_cmp xs ys) (omega (arith, same, above))
+    by_orders Greater Less e f h later = absurd (omega (arith, h))
+    by_orders Greater Equal e f h later = let most = past_below ps ys in absurd (omega (arith, h, most))
+    by_orders Greater Greater e f h later = absurd (omega (arith, h))
+
+-- a text that ends before the prefix does
+pub past_end : (prefix text : List ℕ) (i : ℕ) → i < length prefix → length text ≤ i → head_past (drop i prefix) (drop i text) ≡ 0
+past_end prefix text i h k = ap₂ head_past (drop-cons prefix i 0 h) (drop_all i text k)
+
 -- ---- the heads of numbers
 
 int_less : (m n : ℤ) → int_lt m n ≡ true → int_cmp m n ≡ Less
@@ -118,27 +170,27 @@ ints_follow (negsuc a) (negsuc b) h = int_less (negsuc a) (negsuc b) (lt-ltb b a
 -- ---- cells, and records by their first cells
 
 -- the order of what two records begin with
-abbrev lead_cmp : Option Cell → Option Cell → Ordering
-lead_cmp c d = ordering_then (nat_cmp (kind_number (kind_of c)) (kind_number (kind_of d))) (nat_cmp (head_of c) (head_of d))
+abbrev lead_cmp : List ℕ → Option Cell → Option Cell → Ordering
+lead_cmp prefix c d = ordering_then (nat_cmp (kind_number (kind_of c)) (kind_number (kind_of d))) (nat_cmp (head_of prefix c) (head_of prefix d))
 
-cells_follow : (c d : Cell) → lead_cmp (Some c) (Some d) ≡ Less → cell_cmp c d ≡ Less
-cells_follow (Truth true) (Truth true) e = absurd (cc)
-cells_follow (Truth true) (Truth false) e = absurd (cc)
-cells_follow (Truth false) (Truth true) e = refl
-cells_follow (Truth false) (Truth false) e = absurd (cc)
-cells_follow (Truth b) (Int n) e = refl
-cells_follow (Truth b) (Text t) e = refl
-cells_follow (Int m) (Truth b) e = absurd (cc)
-cells_follow (Int m) (Int n) e = ints_follow m n (ranked (head_of_int m) (head_of_int n) Less (sym e))
-cells_follow (Int m) (Text t) e = refl
-cells_follow (Text s) (Truth b) e = absurd (cc)
-cells_follow (Text s) (Int n) e = absurd (cc)
-cells_follow (Text s) (Text t) e = texts_follow 8 s t (ranked (head_of_text 8 s) (head_of_text 8 t) Less (sym e))
+cells_follow : (prefix : List ℕ) (c d : Cell) → lead_cmp prefix (Some c) (Some d) ≡ Less → cell_cmp c d ≡ Less
+cells_follow prefix (Truth true) (Truth true) e = absurd (cc)
+cells_follow prefix (Truth true) (Truth false) e = absurd (cc)
+cells_follow prefix (Truth false) (Truth true) e = refl
+cells_follow prefix (Truth false) (Truth false) e = absurd (cc)
+cells_follow prefix (Truth b) (Int n) e = refl
+cells_follow prefix (Truth b) (Text t) e = refl
+cells_follow prefix (Int m) (Truth b) e = absurd (cc)
+cells_follow prefix (Int m) (Int n) e = ints_follow m n (ranked (head_of_int m) (head_of_int n) Less (sym e))
+cells_follow prefix (Int m) (Text t) e = refl
+cells_follow prefix (Text s) (Truth b) e = absurd (cc)
+cells_follow prefix (Text s) (Int n) e = absurd (cc)
+cells_follow prefix (Text s) (Text t) e = past_follow prefix s t (ranked (head_past prefix s) (head_past prefix t) Less (sym e))
 
-none_first : (c : Cell) → lead_cmp (Some c) None ≡ Less → ⊥
-none_first (Truth b) e = absurd (cc)
-none_first (Int n) e = absurd (cc)
-none_first (Text t) e = absurd (cc)
+none_first : (prefix : List ℕ) (c : Cell) → lead_cmp prefix (Some c) None ≡ Less → ⊥
+none_first prefix (Truth b) e = absurd (cc)
+none_first prefix (Int n) e = absurd (cc)
+none_first prefix (Text t) e = absurd (cc)
 
 fewer : (n : ℕ) (ls rs : List Cell) → nat_le n (length ls) ≡ false → n ≤ length rs → nat_cmp (suc (length (take n ls))) (suc (length (take n rs))) ≡ Less
 fewer n ls rs l r =
@@ -149,27 +201,27 @@ as_many : (n : ℕ) (ls rs : List Cell) → n ≤ length ls → n ≤ length rs 
 as_many n ls rs l r =
     sym (nat_cmp_is (suc (length (take n ls))) (suc (length (take n rs))) Equal (rw (length-take n ls, length-take n rs) (omega arith)))
 
-records_follow : (count : ℕ) (ls rs : List Cell) → lead_cmp (lead_of count ls) (lead_of count rs) ≡ Less
+records_follow : (prefix : List ℕ) (count : ℕ) (ls rs : List Cell) → lead_cmp prefix (lead_of count ls) (lead_of count rs) ≡ Less
     → ordering_then (nat_cmp (length (take count ls)) (length (take count rs))) (slice_cmp cell_cmp (take count ls) (take count rs)) ≡ Less
-records_follow zero ls rs e = absurd (cc)
-records_follow (suc n) [] [] e = absurd (cc)
-records_follow (suc n) [] (r ∷ rs) e =
+records_follow prefix zero ls rs e = absurd (cc)
+records_follow prefix (suc n) [] [] e = absurd (cc)
+records_follow prefix (suc n) [] (r ∷ rs) e =
     let less : Less ≡ nat_cmp 0 (suc (length (take n rs))) = nat_cmp_is 0 (suc (length (take n rs))) Less (omega arith) in
     ap (λ (o : Ordering). ordering_then o Less) (sym less)
-records_follow (suc n) (l ∷ ls) [] e = by_test (nat_le n (length ls)) e
+records_follow prefix (suc n) (l ∷ ls) [] e = by_test (nat_le n (length ls)) e
   where
-    by_test : (b : Bool) → lead_cmp (cond b (Some l) None) None ≡ Less
+    by_test : (b : Bool) → lead_cmp prefix (cond b (Some l) None) None ≡ Less
         → ordering_then (nat_cmp (suc (length (take n ls))) 0) Greater ≡ Less
-    by_test true e = absurd (none_first l e)
+    by_test true e = absurd (none_first prefix l e)
     by_test false e = absurd (cc)
-records_follow (suc n) (l ∷ ls) (r ∷ rs) e = by_tests (nat_le n (length ls)) (nat_le n (length rs)) refl refl e
+records_follow prefix (suc n) (l ∷ ls) (r ∷ rs) e = by_tests (nat_le n (length ls)) (nat_le n (length rs)) refl refl e
   where
-    by_tests : (b d : Bool) → nat_le n (length ls) ≡ b → nat_le n (length rs) ≡ d → lead_cmp (cond b (Some l) None) (cond d (Some r) None) ≡ Less
+    by_tests : (b d : Bool) → nat_le n (length ls) ≡ b → nat_le n (length rs) ≡ d → lead_cmp prefix (cond b (Some l) None) (cond d (Some r) None) ≡ Less
         → ordering_then (nat_cmp (suc (length (take n ls))) (suc (length (take n rs)))) (slice_cmp cell_cmp (l ∷ take n ls) (r ∷ take n rs)) ≡ Less
     by_tests true true b_is d_is e =
         ap₂ ordering_then (as_many n ls rs (leb-true n (length ls) b_is) (leb-true n (length rs) d_is))
-        (ap (λ (o : Ordering). ordering_then o (slice_cmp cell_cmp (take n ls) (take n rs))) (cells_follow l r e))
-    by_tests true false b_is d_is e = absurd (none_first l e)
+        (ap (λ (o : Ordering). ordering_then o (slice_cmp cell_cmp (take n ls) (take n rs))) (cells_follow prefix l r e))
+    by_tests true false b_is d_is e = absurd (none_first prefix l e)
     by_tests false true b_is d_is e =
         ap (λ (o : Ordering). ordering_then o (slice_cmp cell_cmp (l ∷ take n ls) (r ∷ take n rs))) (fewer n ls rs b_is (leb-true n (length rs) d_is))
     by_tests false false b_is d_is e = absurd (cc)
@@ -229,41 +281,41 @@ keys_tie k l e =
 pub key_order : IsStrictOrder key_cmp
 key_order = record { total = then_total rank_total (on_total (λ (k : Key). k.2) value_order.total); ties = keys_tie }
 
-module _ (names : List (List ℕ)) (first : ℕ) where
+abbrev pub key_of : List (List ℕ) → ℕ → List (List Cell) → Ranked → Key
+key_of names first rows r = (kind_number r.kind, r.head, row_record names first (row_at rows r.place))
+
+module _ (names : List (List ℕ)) (first : ℕ) (prefix : List ℕ) where
   abbrev key_of_row : List Cell → Key
-  key_of_row row = (kind_number (kind_of (lead_of (length names) (drop first row))), head_of (lead_of (length names) (drop first row)), row_record names first row)
+  key_of_row row = (kind_number (kind_of (lead_of (length names) (drop first row))), head_of prefix (lead_of (length names) (drop first row)), row_record names first row)
 
   abbrev by_record : List Cell → List Cell → Ordering
   by_record ls rs = value_cmp (row_record names first ls) (row_record names first rs)
 
-  rows_follow : (ls rs : List Cell) → lead_cmp (lead_of (length names) (drop first ls)) (lead_of (length names) (drop first rs)) ≡ Less → by_record ls rs ≡ Less
-  rows_follow ls rs e = records_compare names (drop first ls) (drop first rs) ∙ records_follow (length names) (drop first ls) (drop first rs) e
+  rows_follow : (ls rs : List Cell) → lead_cmp prefix (lead_of (length names) (drop first ls)) (lead_of (length names) (drop first rs)) ≡ Less → by_record ls rs ≡ Less
+  rows_follow ls rs e = records_compare names (drop first ls) (drop first rs) ∙ records_follow prefix (length names) (drop first ls) (drop first rs) e
 
   keys_compare : (ls rs : List Cell) → key_cmp (key_of_row ls) (key_of_row rs) ≡ by_record ls rs
   keys_compare ls rs =
       let lead : List Cell → Option Cell = λ row. lead_of (length names) (drop first row) in
-      ruled (lead_cmp (lead ls) (lead rs)) (by_record ls rs) (rows_follow ls rs)
+      ruled (lead_cmp prefix (lead ls) (lead rs)) (by_record ls rs) (rows_follow ls rs)
       (λ e. value_order.total.antisymm (row_record names first ls) (row_record names first rs)
       ∙ ap ordering_reverse (rows_follow rs ls (rank_total.antisymm (key_of_row rs) (key_of_row ls) ∙ ap ordering_reverse e)))
 
-  abbrev pub key_of : List (List Cell) → Ranked → Key
-  key_of rows r = (kind_number r.kind, r.head, row_record names first (row_at rows r.place))
-
   -- rows whose ranks are in order
   pub ranks_sorted : (rows : List (List Cell)) (places : List ℕ) (ranks : List Ranked)
-      → map (key_of rows) ranks ≡ sorted_by key_cmp (map (key_of rows) (map (ranked_at rows first (length names)) places))
+      → map (key_of names first rows) ranks ≡ sorted_by key_cmp (map (key_of names first rows) (map (ranked_at rows first (length names) prefix) places))
       → map (row_record names first) (rows_at rows (map (λ r. r.place) ranks)) ≡ sorted_by value_cmp (map (row_record names first) (rows_at rows places))
   ranks_sorted rows places ranks e =
       let there : List (List Cell) = rows_at rows places in
       let record_of_row : List Cell → Nested = row_record names first in
       let record_of_key : Key → Nested = λ k. k.2 in
-      let keys : map (key_of rows) (map (ranked_at rows first (length names)) places) ≡ map key_of_row there =
-      map-map (key_of rows) (ranked_at rows first (length names)) places ∙ sym (map-map key_of_row (row_at rows) places) in
-      let sorted : map (key_of rows) ranks ≡ map key_of_row (sorted_by by_record there) =
+      let keys : map (key_of names first rows) (map (ranked_at rows first (length names) prefix) places) ≡ map key_of_row there =
+      map-map (key_of names first rows) (ranked_at rows first (length names) prefix) places ∙ sym (map-map key_of_row (row_at rows) places) in
+      let sorted : map (key_of names first rows) ranks ≡ map key_of_row (sorted_by by_record there) =
       e ∙ ap (sorted_by key_cmp) keys ∙ sorted_mapped key_of_row by_record key_cmp keys_compare there in
       map-map record_of_row (row_at rows) (map (λ r. r.place) ranks)
       ∙ map-map (λ p. record_of_row (row_at rows p)) (λ r. r.place) ranks
-      ∙ sym (map-map record_of_key (key_of rows) ranks)
+      ∙ sym (map-map record_of_key (key_of names first rows) ranks)
       ∙ ap (map record_of_key) sorted
       ∙ map-map record_of_key key_of_row (sorted_by by_record there)
       ∙ sym (sorted_mapped record_of_row by_record value_cmp (λ x y. refl) there)

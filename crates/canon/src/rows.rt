@@ -9,7 +9,7 @@ ghost use Rattle.nq_model.specs.Canonical.{canonical_text, cell_text, written, v
 ghost use Rattle.canon.specs.Ranks.{rank_cmp};
 ghost use Rattle.canon.specs.Rows.{row_at, row_record, rows_at, rows_value};
 
-use crate::ranks::{Ranked, rank_rows, write_places};
+use crate::ranks::{Ranked, common_prefix, rank_rows, write_places};
 use crate::text::{write_quoted, write_separator};
 use itoa::Buffer;
 use nq_model::{CellRef, Label, List, Memory, Rows};
@@ -64,7 +64,8 @@ fn compare_ranked(
     left: &Ranked,
     right: &Ranked,
 ) -> Ordering
-    ensures { result ≡ ordering_then (rank_cmp left.now right.now) (value_cmp (row_record labels.now first (row_at rows.now left.now.place)) (row_record labels.now first (row_at rows.now right.now.place))) }
+    ensures { result ≡ ordering_then (rank_cmp left.now right.now)
+        (value_cmp (row_record labels.now first (row_at rows.now left.now.place)) (row_record labels.now first (row_at rows.now right.now.place))) }
 {
     match left.compare(right) {
         Ordering::Equal => compare_rows(
@@ -89,7 +90,8 @@ fn put_rows_in_order(
     ensures { OnOk result (map (row_record labels.now first) (rows_at rows.now places.new.items)
         ≡ sorted_by value_cmp (map (row_record labels.now first) (rows_at rows.now places.old.items))) }
 {
-    let mut ranks = rank_rows(alloc, rows, first, labels.len(), places.as_slice())?;
+    let prefix = common_prefix(rows, first, labels.len(), places.as_slice());
+    let mut ranks = rank_rows(alloc, rows, first, labels.len(), prefix, places.as_slice())?;
     ranks.sort_unstable_by(|left, right| compare_ranked(labels, first, rows, left, right));
     write_places(places, ranks.as_slice())
 }
