@@ -28,7 +28,7 @@ enum Kind {
 
 // The place of a row, and what its record begins with.
 #[derive(Clone, Copy)]
-pub struct Ranked {
+pub(crate) struct Ranked {
     head: u64,
     place: u32,
     kind: Kind,
@@ -38,14 +38,14 @@ pub struct Ranked {
 const _: () = prove!(size_of::<Ranked>() == 16);
 
 impl Ranked {
-    pub fn place(&self) -> u32
+    pub(crate) fn place(&self) -> u32
         ensures { result ≡ self.now.place }
     {
         self.place
     }
 
     // The order of the records, as far as it shows in what they begin with.
-    pub fn compare(&self, other: &Ranked) -> Ordering
+    pub(crate) fn compare(&self, other: &Ranked) -> Ordering
         ensures { result ≡ rank_cmp self.now other.now }
     {
         self.kind.cmp(&other.kind).then(self.head.cmp(&other.head))
@@ -155,7 +155,12 @@ fn lead_text(rows: &Rows, first: usize, count: usize, row: usize) -> &[u8] {
 
 // What the records of rows here and there begin with alike, and so most others too. Behind it their texts
 // are told apart by their heads.
-pub fn common_prefix<'a>(rows: &'a Rows, first: usize, count: usize, places: &[u32]) -> &'a [u8] {
+pub(crate) fn common_prefix<'a>(
+    rows: &'a Rows,
+    first: usize,
+    count: usize,
+    places: &[u32],
+) -> &'a [u8] {
     if places.is_empty() {
         return &[];
     }
@@ -168,7 +173,7 @@ pub fn common_prefix<'a>(rows: &'a Rows, first: usize, count: usize, places: &[u
 }
 
 // The rows at these places with what their records begin with, of which each has so many labels.
-pub fn rank_rows(
+pub(crate) fn rank_rows(
     alloc: Global,
     rows: &Rows,
     first: usize,
@@ -186,7 +191,7 @@ pub fn rank_rows(
 }
 
 // Writes the places of the ranked rows over those that stand there.
-pub fn write_places(places: &mut Vec<u32>, ranks: &[Ranked]) -> Result<(), Memory>
+pub(crate) fn write_places(places: &mut Vec<u32>, ranks: &[Ranked]) -> Result<(), Memory>
     ensures { OnOk result (places.new.items ≡ map (λ ranked. ranked.place) ranks.now) }
 {
     places.clear();

@@ -1,6 +1,5 @@
 // Schemas, and tables as lists of rows.
 ghost use Rattle.std.specs.Prelude.{◌≡◌, IfOk};
-ghost use Rattle.nq_model.specs.Cells.{column_type_of};
 
 use crate::list::List;
 use crate::memory::Memory;
@@ -40,17 +39,6 @@ pub enum Cell {
 }
 
 impl Cell {
-    /// The type of the columns in which the cell may stand.
-    pub fn column_type(&self) -> ColumnType
-        ensures { result ≡ column_type_of self.now }
-    {
-        match self {
-            Cell::Int(_) => ColumnType::Int,
-            Cell::Bool(_) => ColumnType::Bool,
-            Cell::Text(_) => ColumnType::Text,
-        }
-    }
-
     /// A copy of the cell.
     pub fn copy(&self, alloc: Global) -> Result<Cell, Memory>
         ensures { IfOk result (λ copy. copy ≡ self.now) }

@@ -14,8 +14,6 @@ const CLIENT: &str = "dept text,name text,client bool";
 
 const PAIR: &str = "a int,b text";
 
-const INTS: &str = "a int,b int";
-
 const INT: &str = "a int";
 
 const BOOL: &str = "a bool";
@@ -171,23 +169,23 @@ const CASES: [Case; 51] = [
         b"a\nt\nf\ntrue",
         "TwiceKey { row: 3, earlier: 1 }",
     ),
-    // Two keys that share a code of the index.
+    // The first two keys share a code of the index of keys.
     (
-        INTS,
-        "a,b",
-        b"a,b\n0,1099511628211\n1,0\n2,0",
-        "[0][1099511628211]\n[1][0]\n[2][0]\n",
+        INT,
+        "a",
+        b"a\n2654435769\n4294967296\n0",
+        "[2654435769]\n[4294967296]\n[0]\n",
     ),
     (
-        INTS,
-        "a,b",
-        b"a,b\n0,1099511628211\n1,0\n0,1099511628211",
+        INT,
+        "a",
+        b"a\n2654435769\n4294967296\n2654435769",
         "TwiceKey { row: 3, earlier: 1 }",
     ),
     (
-        INTS,
-        "a,b",
-        b"a,b\n0,1099511628211\n1,0\n1,0",
+        INT,
+        "a",
+        b"a\n2654435769\n4294967296\n4294967296",
         "TwiceKey { row: 3, earlier: 2 }",
     ),
 ];
