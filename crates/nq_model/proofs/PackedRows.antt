@@ -1,5 +1,5 @@
 -- Pieces of a list, and cells whose wide numbers and texts stand apart.
-use Rattle.std.proofs.Common.{◌≡◌, ℕ, zero, suc, ℤ, pos, ◌+◌, ◌-◌, ◌<◌, ◌≤◌, List, [], ◌∷◌, ◌++◌, map, take, drop, length, get_or, min, slice_range, All, Result, Ok, Err, OnOk, OnErr, IsOk, refl, sym, ap, ap₂, ◌∙◌, subst, arith, length-append, length-drop, length-take}
+use Rattle.std.proofs.Common.{◌≡◌, ℕ, zero, suc, ℤ, pos, ◌+◌, ◌-◌, ◌<◌, ◌≤◌, List, [], ◌∷◌, ◌++◌, map, take, drop, length, get_or, slice_range, All, Result, Ok, Err, OnOk, OnErr, IsOk, refl, sym, ap, ap₂, ◌∙◌, subst, arith, length-append, length-drop, length-take}
 use Rattle.std.proofs.lemmas.List.{drop_all, take_all, get_or-take, get_or-drop, take-append-le, drop-append-le, map-append, get_or_append_left, get_or_read}
 use Rattle.std.proofs.lemmas.List.Elements.{All-weaker, All-head, All-tail, All-push}
 use Rattle.std.proofs.lemmas.Bool.{false≢true}

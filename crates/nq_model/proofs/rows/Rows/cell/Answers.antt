@@ -1,4 +1,4 @@
-use Rattle.std.proofs.Common.{◌≡◌, ◌∙◌, ◌<◌, ◌+◌, [], pos, sym, ap, subst, arith, rules, length, get_or, List, ℕ}
+use Rattle.std.proofs.Common.{◌≡◌, ◌∙◌, ◌<◌, ◌+◌, pos, sym, arith, length, get_or}
 use Rattle.std.proofs.lemmas.List.{get_or_default}
 use Rattle.nq_model.specs.declared.table.Cell.TheVariants.{Int}
 use Rattle.nq_model.specs.Packed.{start_of}

@@ -1,6 +1,5 @@
-use Rattle.std.proofs.Common.{◌≡◌, ◌∙◌, ◌<◌, ◌≤◌, ℕ, [], sym, ap, ap₂, arith, rules, length, get_or, List, subst, refl}
+use Rattle.std.proofs.Common.{◌≡◌, ◌<◌, ◌≤◌, [], sym, ap, arith, length}
 use Rattle.std.proofs.lemmas.List.{get_or_past}
-use Rattle.nq_model.specs.declared.table.Cell.{Cell}
 use Rattle.nq_model.specs.Packed.{start_of}
 use Rattle.nq_model.proofs.PackedRows.{ends_length, read_order, read_width}
 use Rattle.nq_model.proofs.rows.Rows.width.Goals as goal
