@@ -24,7 +24,7 @@ fn int_code(code: u32, number: i64) -> u32
     ensures { result ≡ int_code code number }
 {
     let bits = number.cast_unsigned();
-    let upper = (bits / (1 << 32)) as u32;
+    let upper = (bits >> 32) as u32;
     let lower = (bits % (1 << 32)) as u32;
     code_with(code_with(code, upper), lower)
 }

@@ -114,7 +114,8 @@ impl KeyIndex {
         rows: &Rows,
         row: &List<Cell>,
     ) -> Result<Option<u64>, Memory>
-        ensures { IfOk result (λ found. (shape : TableShape) → Indexes shape rows.now self.old → Enters shape rows.now row.now self.new found) }
+        ensures { IfOk result (λ found. (shape : TableShape)
+            → Indexes shape rows.now self.old → Enters shape rows.now row.now self.new found) }
     {
         let place = u32::try_from(rows.len()).map_err(|_| Memory)?;
         let code = self.code_of(row);
