@@ -20,9 +20,6 @@ nothing_more : {A : Type 0} (o : Option A) → o ≡ option_or o None
 nothing_more None = refl
 nothing_more (Some x) = refl
 
-some_same : {A : Type 0} (x y : A) → Some x ≡ Some y → x ≡ y
-some_same x y e = cc
-
 module _ {X : Type 0} (t : X → Bool) where
   -- the first place in a list of one element more
   position_more : (xs : List X) (x : X) → position_from t 0 (xs ++ x ∷ []) ≡ option_or (position_from t 0 xs) (cond (t x) (Some (length xs)) None)

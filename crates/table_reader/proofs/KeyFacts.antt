@@ -42,6 +42,7 @@ module _ {X Y Z : Type 0} (h : X → Option Y) (view : Z → Y) (xs : List X) (i
 
 pub ruleset part_rules = (part_more, part_less)
 
+-- the code of no cell
 pub code_none : 0 ≡ key_code []
 unfolding key_code
 code_none = refl
