@@ -15,12 +15,12 @@ use Rattle.nq_model.specs.Canonical.{canonical, canonical_text, value_cmp, field
 use Rattle.nq_model.specs.declared.table.Cell.{Cell}
 use Rattle.nq_model.specs.declared.table.Cell.TheVariants.{Int}
 use Rattle.nq_model.proofs.Canonical.{label_order}
-use Rattle.canon.specs.Rows.{record_of, row_at, row_record, rows_at, rows_value}
+use Rattle.canon.specs.Rows.{cells_cmp, record_of, row_at, row_record, rows_at, rows_value}
 use Rattle.canon.specs.Texts.{separator}
 use Rattle.canon.proofs.Canonical.{canonical_record, canonical_bag}
 use Rattle.canon.proofs.Writing.{field_text, elements_push, fields_push}
 
-not_turned : (r : Ordering) → r ≡ ordering_reverse r → r ≡ Equal
+pub not_turned : (r : Ordering) → r ≡ ordering_reverse r → r ≡ Equal
 not_turned Less e = absurd (cc)
 not_turned Equal e = refl
 not_turned Greater e = absurd (cc)
@@ -77,16 +77,20 @@ same_place m n e = grind (arith, nat_tests)
 later : (first m n : ℕ) → nat_cmp m n ≡ nat_cmp (first + m) (first + n)
 later first m n = grind (arith, nat_tests)
 
--- the records of two rows, whose cells from a place on end at these places
-pub rows_compare : (names : List (List ℕ)) (first : ℕ) (ls rs : List Cell) (l r : ℕ)
-    → l ≡ first + length (take (length names) (drop first ls)) → r ≡ first + length (take (length names) (drop first rs))
-    → ordering_then (nat_cmp l r) (slice_cmp cell_cmp (take (length names) (drop first ls)) (take (length names) (drop first rs)))
-    ≡ value_cmp (row_record names first ls) (row_record names first rs)
-rows_compare names first ls rs l r l_is r_is =
-    let left : List Cell = take (length names) (drop first ls) in
-    let right : List Cell = take (length names) (drop first rs) in
-    sym (records_compare names (drop first ls) (drop first rs)
-    ∙ ap (λ (o : Ordering). ordering_then o (slice_cmp cell_cmp left right)) (later first (length left) (length right) ∙ ap₂ nat_cmp (sym l_is) (sym r_is)))
+-- the cells of two rows from a place on, which end at these places
+pub rows_compare : (count first : ℕ) (ls rs : List Cell) (l r : ℕ)
+    → l ≡ first + length (take count (drop first ls)) → r ≡ first + length (take count (drop first rs))
+    → ordering_then (nat_cmp l r) (slice_cmp cell_cmp (take count (drop first ls)) (take count (drop first rs)))
+    ≡ cells_cmp (take count (drop first ls)) (take count (drop first rs))
+rows_compare count first ls rs l r l_is r_is =
+    let left : List Cell = take count (drop first ls) in
+    let right : List Cell = take count (drop first rs) in
+    ap (λ (o : Ordering). ordering_then o (slice_cmp cell_cmp left right)) (ap₂ nat_cmp l_is r_is ∙ sym (later first (length left) (length right)))
+
+-- the records of two rows compare as their cells do
+pub row_records_compare : (names : List (List ℕ)) (first : ℕ) (ls rs : List Cell)
+    → value_cmp (row_record names first ls) (row_record names first rs) ≡ cells_cmp (take (length names) (drop first ls)) (take (length names) (drop first rs))
+row_records_compare names first ls rs = records_compare names (drop first ls) (drop first rs)
 
 -- so many elements, as far as there are
 taken_again : {A : Type 0} (n : ℕ) (xs : List A) → take (length (take n xs)) xs ≡ take n xs

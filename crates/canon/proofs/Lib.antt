@@ -7,3 +7,5 @@ mod Sorted
 mod Typed
 mod FlatRows
 mod Ranking
+mod Refining
+mod Places

@@ -1,28 +1,18 @@
--- What the records of rows begin with stands in the records' order.
-use Rattle.std.proofs.Common.{◌≡◌, ℕ, zero, suc, ◌+◌, ◌-◌, ◌*◌, ◌^◌, ◌<◌, ◌≤◌, min, Bool, true, false, cond, List, [], ◌∷◌, map, take, drop, length, get_or, ℤ, pos, negsuc, nat_le, int_lt, refl, sym, ap, ap₂, ◌∙◌, subst, arith, add-one, length-take, drop-cons}
+-- What cells begin with stands in the cells' order.
+use Rattle.std.proofs.Common.{◌≡◌, ℕ, zero, suc, ◌+◌, ◌-◌, ◌*◌, ◌^◌, ◌<◌, ◌≤◌, min, Bool, true, false, cond, List, [], ◌∷◌, drop, length, get_or, ℤ, pos, negsuc, int_lt, refl, sym, ap, ap₂, ◌∙◌, subst, arith, add-one, drop-cons}
 use Rattle.std.proofs.Math.Nat.{pow-suc, mul_assoc, mul-le-mul_right, min-eq_left, pow-le-pow_right}
-use Rattle.std.proofs.lemmas.Bool.{lt-ltb, leb-true, leb-false, lt-leb, le-leb}
+use Rattle.std.proofs.lemmas.Bool.{lt-ltb}
 use Rattle.std.proofs.lemmas.List.{drop_all}
-use Rattle.std.proofs.lemmas.Simd.{map-map}
 use Rattle.std.specs.declared.cmp.Ordering.{Ordering}
 use Rattle.std.specs.declared.cmp.Ordering.TheVariants.{Less, Equal, Greater}
-use Rattle.std.specs.declared.option.Option.{Option}
-use Rattle.std.specs.declared.option.Option.TheVariants.{None, Some}
-use Rattle.std.specs.Ordering.{nat_cmp, int_cmp, ordering_then, ordering_reverse, then_cmp, on}
-use Rattle.std.specs.Cmp.{ranked, nat_cmp_is, nat_cmp_total, on_total, then_total, IsTotalOrder}
+use Rattle.std.specs.Ordering.{nat_cmp, int_cmp, ordering_then, then_cmp, on}
+use Rattle.std.specs.Cmp.{ranked, nat_cmp_is, nat_cmp_total, on_total, then_total}
 use Rattle.std.specs.Cmp.Lexicographic.{slice_cmp}
 use Rattle.nq_model.specs.declared.table.Cell.{Cell}
 use Rattle.nq_model.specs.declared.table.Cell.TheVariants.{Int, Bool as Truth, Text}
 use Rattle.nq_model.specs.Cells.{cell_cmp}
-use Rattle.nq_model.specs.Orders.{sorted_by}
-use Rattle.nq_model.specs.Values.{Nested}
-use Rattle.nq_model.specs.Canonical.{value_cmp}
-use Rattle.nq_model.proofs.Canonical.{value_order}
-use Rattle.nq_model.proofs.Orders.{IsStrictOrder, sorted_mapped}
-use Rattle.canon.specs.declared.ranks.Ranked.{Ranked}
-use Rattle.canon.specs.Ranks.{head_by, head_past, head_of_text, head_of_int, lead_of, kind_of, head_of, kind_number, ranked_at}
-use Rattle.canon.specs.Rows.{row_at, row_record, rows_at}
-use Rattle.canon.proofs.FlatRows.{records_compare, cell_behind}
+use Rattle.nq_model.proofs.Orders.{IsStrictOrder}
+use Rattle.canon.specs.Ranks.{head_by, head_past, head_of_text, head_of_int, kind_of, head_of, kind_number}
 
 -- ---- the heads of texts
 
@@ -167,13 +157,35 @@ ints_follow (pos a) (negsuc b) h = absurd (omega (arith, h))
 ints_follow (negsuc a) (pos b) h = refl
 ints_follow (negsuc a) (negsuc b) h = int_less (negsuc a) (negsuc b) (lt-ltb b a (omega (arith, h)))
 
--- ---- cells, and records by their first cells
+-- ---- cells
 
--- the order of what two records begin with
-abbrev lead_cmp : List ℕ → Option Cell → Option Cell → Ordering
-lead_cmp prefix c d = ordering_then (nat_cmp (kind_number (kind_of c)) (kind_number (kind_of d))) (nat_cmp (head_of prefix c) (head_of prefix d))
+-- the rank of a cell: the number of its kind, and its head
+abbrev pub Rank : Type 0
+Rank = ℕ × ℕ
 
-cells_follow : (prefix : List ℕ) (c d : Cell) → lead_cmp prefix (Some c) (Some d) ≡ Less → cell_cmp c d ≡ Less
+abbrev pub rank_of : List ℕ → Cell → Rank
+rank_of prefix c = (kind_number (kind_of c), head_of prefix c)
+
+abbrev pub by_rank : Rank → Rank → Ordering
+by_rank = then_cmp (on (λ (r : Rank). r.0) nat_cmp) (on (λ (r : Rank). r.1) nat_cmp)
+
+then_ties : (r s : Ordering) → ordering_then r s ≡ Equal → (r ≡ Equal) × (s ≡ Equal)
+then_ties Less s e = absurd (cc)
+then_ties Equal s e = (refl, e)
+then_ties Greater s e = absurd (cc)
+
+ranks_tie : (q r : Rank) → by_rank q r ≡ Equal → q ≡ r
+ranks_tie q r e =
+    let parts = then_ties (nat_cmp q.0 r.0) (nat_cmp q.1 r.1) e in
+    let kinds : q.0 ≡ r.0 = ranked q.0 r.0 Equal (sym parts.0) in
+    let heads : q.1 ≡ r.1 = ranked q.1 r.1 Equal (sym parts.1) in
+    λ i. (kinds i, heads i)
+
+pub rank_order : IsStrictOrder by_rank
+rank_order = record { total = then_total (on_total (λ (r : Rank). r.0) nat_cmp_total) (on_total (λ (r : Rank). r.1) nat_cmp_total); ties = ranks_tie }
+
+-- cells of which one has the lower rank stand in that order
+pub cells_follow : (prefix : List ℕ) (c d : Cell) → by_rank (rank_of prefix c) (rank_of prefix d) ≡ Less → cell_cmp c d ≡ Less
 cells_follow prefix (Truth true) (Truth true) e = absurd (cc)
 cells_follow prefix (Truth true) (Truth false) e = absurd (cc)
 cells_follow prefix (Truth false) (Truth true) e = refl
@@ -186,136 +198,3 @@ cells_follow prefix (Int m) (Text t) e = refl
 cells_follow prefix (Text s) (Truth b) e = absurd (cc)
 cells_follow prefix (Text s) (Int n) e = absurd (cc)
 cells_follow prefix (Text s) (Text t) e = past_follow prefix s t (ranked (head_past prefix s) (head_past prefix t) Less (sym e))
-
-none_first : (prefix : List ℕ) (c : Cell) → lead_cmp prefix (Some c) None ≡ Less → ⊥
-none_first prefix (Truth b) e = absurd (cc)
-none_first prefix (Int n) e = absurd (cc)
-none_first prefix (Text t) e = absurd (cc)
-
-fewer : (n : ℕ) (ls rs : List Cell) → nat_le n (length ls) ≡ false → n ≤ length rs → nat_cmp (suc (length (take n ls))) (suc (length (take n rs))) ≡ Less
-fewer n ls rs l r =
-    let short : length ls < n = leb-false n (length ls) l in
-    sym (nat_cmp_is (suc (length (take n ls))) (suc (length (take n rs))) Less (rw (length-take n ls, length-take n rs) (omega arith)))
-
-as_many : (n : ℕ) (ls rs : List Cell) → n ≤ length ls → n ≤ length rs → nat_cmp (suc (length (take n ls))) (suc (length (take n rs))) ≡ Equal
-as_many n ls rs l r =
-    sym (nat_cmp_is (suc (length (take n ls))) (suc (length (take n rs))) Equal (rw (length-take n ls, length-take n rs) (omega arith)))
-
-records_follow : (prefix : List ℕ) (count : ℕ) (ls rs : List Cell) → lead_cmp prefix (lead_of count ls) (lead_of count rs) ≡ Less
-    → ordering_then (nat_cmp (length (take count ls)) (length (take count rs))) (slice_cmp cell_cmp (take count ls) (take count rs)) ≡ Less
-records_follow prefix zero ls rs e = absurd (cc)
-records_follow prefix (suc n) [] [] e = absurd (cc)
-records_follow prefix (suc n) [] (r ∷ rs) e =
-    let less : Less ≡ nat_cmp 0 (suc (length (take n rs))) = nat_cmp_is 0 (suc (length (take n rs))) Less (omega arith) in
-    ap (λ (o : Ordering). ordering_then o Less) (sym less)
-records_follow prefix (suc n) (l ∷ ls) [] e = by_test (nat_le n (length ls)) e
-  where
-    by_test : (b : Bool) → lead_cmp prefix (cond b (Some l) None) None ≡ Less
-        → ordering_then (nat_cmp (suc (length (take n ls))) 0) Greater ≡ Less
-    by_test true e = absurd (none_first prefix l e)
-    by_test false e = absurd (cc)
-records_follow prefix (suc n) (l ∷ ls) (r ∷ rs) e = by_tests (nat_le n (length ls)) (nat_le n (length rs)) refl refl e
-  where
-    by_tests : (b d : Bool) → nat_le n (length ls) ≡ b → nat_le n (length rs) ≡ d → lead_cmp prefix (cond b (Some l) None) (cond d (Some r) None) ≡ Less
-        → ordering_then (nat_cmp (suc (length (take n ls))) (suc (length (take n rs)))) (slice_cmp cell_cmp (l ∷ take n ls) (r ∷ take n rs)) ≡ Less
-    by_tests true true b_is d_is e =
-        ap₂ ordering_then (as_many n ls rs (leb-true n (length ls) b_is) (leb-true n (length rs) d_is))
-        (ap (λ (o : Ordering). ordering_then o (slice_cmp cell_cmp (take n ls) (take n rs))) (cells_follow prefix l r e))
-    by_tests true false b_is d_is e = absurd (none_first prefix l e)
-    by_tests false true b_is d_is e =
-        ap (λ (o : Ordering). ordering_then o (slice_cmp cell_cmp (l ∷ take n ls) (r ∷ take n rs))) (fewer n ls rs b_is (leb-true n (length rs) d_is))
-    by_tests false false b_is d_is e = absurd (cc)
-
--- a record that has no first cell, wants a cell, or has them all
-pub lead_none : (count : ℕ) (cells : List Cell) → count ≡ 0 → None ≡ lead_of count cells
-lead_none count cells e = ap (λ (n : ℕ). lead_of n cells) (sym e)
-
-pub lead_short : (count : ℕ) (cells : List Cell) → length cells < count → None ≡ lead_of count cells
-lead_short zero cells h = absurd (omega (arith, h))
-lead_short (suc n) [] h = refl
-lead_short (suc n) (c ∷ cs) h = ap (λ (b : Bool). cond b (Some c) None) (sym (lt-leb n (length cs) (omega (arith, h))))
-
-pub lead_there : (count : ℕ) (cells : List Cell) (c : Cell) → 0 < count → count ≤ length cells → c ≡ get_or cells 0 c → Some c ≡ lead_of count cells
-lead_there zero cells c h k e = absurd (omega (arith, h))
-lead_there (suc n) [] c h k e = absurd (omega (arith, k))
-lead_there (suc n) (d ∷ ds) c h k e =
-    ap Some e ∙ ap (λ (b : Bool). cond b (Some d) None) (sym (le-leb n (length ds) (omega (arith, k))))
-
-pub first_behind : (first : ℕ) (row : List Cell) (cell : Cell) → first < length row → cell ≡ get_or row first (Int (pos 0)) → cell ≡ get_or (drop first row) 0 cell
-first_behind first row cell within e =
-    let none : first - first ≡ 0 = omega arith in
-    subst (λ (k : ℕ). cell ≡ get_or (drop first row) k cell) none (cell_behind first row first cell (omega arith) within e)
-
--- ---- ranked rows
-
-then_ties : (r s : Ordering) → ordering_then r s ≡ Equal → (r ≡ Equal) × (s ≡ Equal)
-then_ties Less s e = absurd (cc)
-then_ties Equal s e = (refl, e)
-then_ties Greater s e = absurd (cc)
-
--- an order that follows another changes nothing before it
-ruled : (r v : Ordering) → (r ≡ Less → v ≡ Less) → (r ≡ Greater → v ≡ Greater) → ordering_then r v ≡ v
-ruled Less v less greater = sym (less refl)
-ruled Equal v less greater = refl
-ruled Greater v less greater = sym (greater refl)
-
--- a ranked row by its kind, its head and its record
-abbrev pub Key : Type 0
-Key = ℕ × ℕ × Nested
-
-abbrev pub key_cmp : Key → Key → Ordering
-key_cmp = then_cmp (then_cmp (on (λ k. k.0) nat_cmp) (on (λ k. k.1) nat_cmp)) (on (λ k. k.2) value_cmp)
-
-rank_total : IsTotalOrder (then_cmp (on (λ (k : Key). k.0) nat_cmp) (on (λ (k : Key). k.1) nat_cmp))
-rank_total = then_total (on_total (λ (k : Key). k.0) nat_cmp_total) (on_total (λ (k : Key). k.1) nat_cmp_total)
-
-keys_tie : (k l : Key) → key_cmp k l ≡ Equal → k ≡ l
-keys_tie k l e =
-    let parts = then_ties (ordering_then (nat_cmp k.0 l.0) (nat_cmp k.1 l.1)) (value_cmp k.2 l.2) e in
-    let ranks = then_ties (nat_cmp k.0 l.0) (nat_cmp k.1 l.1) parts.0 in
-    let kinds : k.0 ≡ l.0 = ranked k.0 l.0 Equal (sym ranks.0) in
-    let heads : k.1 ≡ l.1 = ranked k.1 l.1 Equal (sym ranks.1) in
-    let records : k.2 ≡ l.2 = value_order.ties k.2 l.2 parts.1 in
-    λ i. (kinds i, heads i, records i)
-
-pub key_order : IsStrictOrder key_cmp
-key_order = record { total = then_total rank_total (on_total (λ (k : Key). k.2) value_order.total); ties = keys_tie }
-
-abbrev pub key_of : List (List ℕ) → ℕ → List (List Cell) → Ranked → Key
-key_of names first rows r = (kind_number r.kind, r.head, row_record names first (row_at rows r.place))
-
-module _ (names : List (List ℕ)) (first : ℕ) (prefix : List ℕ) where
-  abbrev key_of_row : List Cell → Key
-  key_of_row row = (kind_number (kind_of (lead_of (length names) (drop first row))), head_of prefix (lead_of (length names) (drop first row)), row_record names first row)
-
-  abbrev by_record : List Cell → List Cell → Ordering
-  by_record ls rs = value_cmp (row_record names first ls) (row_record names first rs)
-
-  rows_follow : (ls rs : List Cell) → lead_cmp prefix (lead_of (length names) (drop first ls)) (lead_of (length names) (drop first rs)) ≡ Less → by_record ls rs ≡ Less
-  rows_follow ls rs e = records_compare names (drop first ls) (drop first rs) ∙ records_follow prefix (length names) (drop first ls) (drop first rs) e
-
-  keys_compare : (ls rs : List Cell) → key_cmp (key_of_row ls) (key_of_row rs) ≡ by_record ls rs
-  keys_compare ls rs =
-      let lead : List Cell → Option Cell = λ row. lead_of (length names) (drop first row) in
-      ruled (lead_cmp prefix (lead ls) (lead rs)) (by_record ls rs) (rows_follow ls rs)
-      (λ e. value_order.total.antisymm (row_record names first ls) (row_record names first rs)
-      ∙ ap ordering_reverse (rows_follow rs ls (rank_total.antisymm (key_of_row rs) (key_of_row ls) ∙ ap ordering_reverse e)))
-
-  -- rows whose ranks are in order
-  pub ranks_sorted : (rows : List (List Cell)) (places : List ℕ) (ranks : List Ranked)
-      → map (key_of names first rows) ranks ≡ sorted_by key_cmp (map (key_of names first rows) (map (ranked_at rows first (length names) prefix) places))
-      → map (row_record names first) (rows_at rows (map (λ r. r.place) ranks)) ≡ sorted_by value_cmp (map (row_record names first) (rows_at rows places))
-  ranks_sorted rows places ranks e =
-      let there : List (List Cell) = rows_at rows places in
-      let record_of_row : List Cell → Nested = row_record names first in
-      let record_of_key : Key → Nested = λ k. k.2 in
-      let keys : map (key_of names first rows) (map (ranked_at rows first (length names) prefix) places) ≡ map key_of_row there =
-      map-map (key_of names first rows) (ranked_at rows first (length names) prefix) places ∙ sym (map-map key_of_row (row_at rows) places) in
-      let sorted : map (key_of names first rows) ranks ≡ map key_of_row (sorted_by by_record there) =
-      e ∙ ap (sorted_by key_cmp) keys ∙ sorted_mapped key_of_row by_record key_cmp keys_compare there in
-      map-map record_of_row (row_at rows) (map (λ r. r.place) ranks)
-      ∙ map-map (λ p. record_of_row (row_at rows p)) (λ r. r.place) ranks
-      ∙ sym (map-map record_of_key (key_of names first rows) ranks)
-      ∙ ap (map record_of_key) sorted
-      ∙ map-map record_of_key key_of_row (sorted_by by_record there)
-      ∙ sym (sorted_mapped record_of_row by_record value_cmp (λ x y. refl) there)

@@ -4,3 +4,4 @@ pub mod Sorted
 pub mod Texts
 pub mod Rows
 pub mod Ranks
+pub mod Runs

@@ -1,15 +1,14 @@
--- What the records of rows begin with, as numbers in the records' order.
-use Rattle.std.specs.Prelude.{ℕ, zero, suc, ◌+◌, ◌-◌, ◌*◌, ◌^◌, min, cond, nat_le, List, [], ◌∷◌, drop, length, ℤ, pos, negsuc}
+-- What the cells of a column begin with, as numbers in the cells' order.
+use Rattle.std.specs.Prelude.{◌≡◌, ℕ, zero, suc, ◌+◌, ◌-◌, ◌*◌, ◌^◌, min, cond, List, [], ◌∷◌, ℤ, pos, negsuc, slice_index_or}
+use Rattle.std.specs.List.{All}
 use Rattle.std.specs.declared.cmp.Ordering.{Ordering}
 use Rattle.std.specs.declared.cmp.Ordering.TheVariants.{Less, Equal, Greater}
-use Rattle.std.specs.declared.option.Option.{Option}
-use Rattle.std.specs.declared.option.Option.TheVariants.{None, Some}
 use Rattle.std.specs.Ordering.{ordering_then, nat_cmp}
 use Rattle.nq_model.specs.declared.table.Cell.{Cell}
 use Rattle.nq_model.specs.declared.table.Cell.TheVariants as cell
 use Rattle.canon.specs.declared.ranks.Ranked.{Ranked}
 use Rattle.canon.specs.declared.ranks.Kind.{Kind}
-use Rattle.canon.specs.declared.ranks.Kind.TheVariants.{Short, Truth, Number, Text}
+use Rattle.canon.specs.declared.ranks.Kind.TheVariants.{Truth, Number, Text}
 use Rattle.canon.specs.Rows.{row_at}
 
 -- so many first bytes as the digits of a number, with zeros behind the last (a byte is below 256)
@@ -35,38 +34,36 @@ abbrev pub head_of_int : ℤ → ℕ
 head_of_int (pos n) = 2 ^ 63 + n
 head_of_int (negsuc n) = 2 ^ 63 - suc n
 
--- the first of a record's cells, where it has one for each of so many labels
-abbrev pub lead_of : ℕ → List Cell → Option Cell
-lead_of zero cells = None
-lead_of (suc more) [] = None
-lead_of (suc more) (c ∷ cs) = cond (nat_le more (length cs)) (Some c) None
-
--- the kind of what a record begins with
-abbrev pub kind_of : Option Cell → Kind
-kind_of None = Short
-kind_of (Some (cell.Bool b)) = Truth
-kind_of (Some (cell.Int n)) = Number
-kind_of (Some (cell.Text t)) = Text
+abbrev pub kind_of : Cell → Kind
+kind_of (cell.Bool b) = Truth
+kind_of (cell.Int n) = Number
+kind_of (cell.Text t) = Text
 
 -- a number that stands among those of the same kind as the cell does, whatever the prefix is
-abbrev pub head_of : List ℕ → Option Cell → ℕ
-head_of prefix None = 0
-head_of prefix (Some (cell.Bool b)) = cond b 1 0
-head_of prefix (Some (cell.Int n)) = head_of_int n
-head_of prefix (Some (cell.Text t)) = head_past prefix t
+abbrev pub head_of : List ℕ → Cell → ℕ
+head_of prefix (cell.Bool b) = cond b 1 0
+head_of prefix (cell.Int n) = head_of_int n
+head_of prefix (cell.Text t) = head_past prefix t
 
--- the row at a place with what its record begins with
-abbrev pub ranked_at : List (List Cell) → ℕ → ℕ → List ℕ → ℕ → Ranked
-ranked_at rows first count prefix place =
-    let lead : Option Cell = lead_of count (drop first (row_at rows place)) in
-    record { head = head_of prefix lead; place = place; kind = kind_of lead }
+-- the cell in a column of the row at a place
+abbrev pub cell_at : List (List Cell) → ℕ → ℕ → Cell
+cell_at rows column place = slice_index_or (row_at rows place) column (cell.Int (pos 0))
+
+-- the row at a place, ranked by its cell in a column
+abbrev pub ranked_at : List (List Cell) → ℕ → List ℕ → ℕ → Ranked
+ranked_at rows column prefix place =
+    let c : Cell = cell_at rows column place in
+    record { head = head_of prefix c; place = place; kind = kind_of c }
+
+-- rows ranked by their cells in a column, behind some prefix
+abbrev pub AreRanked : List (List Cell) → ℕ → List Ranked → Type 0
+AreRanked rows column ranks = (prefix : List ℕ) × All (λ ranked. ranked ≡ ranked_at rows column prefix ranked.place) ranks
 
 -- the kinds in their order
 abbrev pub kind_number : Kind → ℕ
-kind_number Short = 0
-kind_number Truth = 1
-kind_number Number = 2
-kind_number Text = 3
+kind_number Truth = 0
+kind_number Number = 1
+kind_number Text = 2
 
 -- by kind, and then by head
 abbrev pub rank_cmp : Ranked → Ranked → Ordering

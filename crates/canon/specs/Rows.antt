@@ -1,5 +1,9 @@
 -- Bags of records whose fields are cells, each given by a row.
-use Rattle.std.specs.Prelude.{ℕ, List, [], map, drop, zip, slice_index_or}
+use Rattle.std.specs.Prelude.{ℕ, List, [], map, drop, length, zip, slice_index_or}
+use Rattle.std.specs.Cmp.Lexicographic.{slice_cmp}
+use Rattle.std.specs.declared.cmp.Ordering.{Ordering}
+use Rattle.std.specs.Ordering.{ordering_then, nat_cmp}
+use Rattle.nq_model.specs.Cells.{cell_cmp}
 use Rattle.nq_model.specs.Values.{Nested, base, rec_of, bag_of}
 use Rattle.nq_model.specs.declared.table.Cell.{Cell}
 
@@ -22,3 +26,7 @@ row_at rows place = slice_index_or rows place []
 -- the rows at these places, in their order
 abbrev pub rows_at : List (List Cell) → List ℕ → List (List Cell)
 rows_at rows places = map (row_at rows) places
+
+-- fewer cells first, and as many cell by cell
+abbrev pub cells_cmp : List Cell → List Cell → Ordering
+cells_cmp ls rs = ordering_then (nat_cmp (length ls) (length rs)) (slice_cmp cell_cmp ls rs)

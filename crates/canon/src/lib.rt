@@ -4,7 +4,9 @@
 mod laws;
 mod order;
 mod ranks;
+mod row_order;
 mod rows;
+mod runs;
 mod sort;
 mod text;
 

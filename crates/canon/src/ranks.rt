@@ -1,10 +1,11 @@
-// What the records of rows begin with, as numbers that stand in the records' order. Rows are put in order
-// by these, and their cells are looked up only where the numbers tie.
-ghost use Rattle.std.specs.Prelude.{◌≡◌, ◌≤◌, IfOk, OnOk, map, drop, length, slice_index};
-ghost use Rattle.std.specs.Option.{option_map};
+// What the cells of a column begin with, as numbers that stand in the cells' order. Rows are put in order
+// by these, and their cells are looked up again only where the numbers tie.
+ghost use Rattle.std.specs.Prelude.{◌≡◌, ◌<◌, ◌≤◌, IfOk, OnOk, map, length, slice_index};
+ghost use Rattle.std.specs.List.{All};
 ghost use Rattle.nq_model.specs.CellRefs.{cell_seen};
-ghost use Rattle.canon.specs.Ranks.{head_of, head_of_text, head_past, kind_of, lead_of, ranked_at, rank_cmp};
+ghost use Rattle.canon.specs.Ranks.{head_of, head_of_text, head_past, kind_of, ranked_at, rank_cmp};
 ghost use Rattle.canon.specs.Rows.{row_at};
+ghost use Rattle.canon.specs.Runs.{places_of};
 
 use nq_model::{CellRef, Memory, Rows};
 use std::alloc::Global;
@@ -16,17 +17,15 @@ const HEAD_SIZE: usize = 8;
 // Of how many rows the common prefix is taken, at most.
 const SAMPLE_SIZE: usize = 256;
 
-// What kind of cell a record begins with, in the order of records. One that wants a cell, or has none,
-// stands before those that have them all.
+// The kinds of cells in their order.
 #[derive(Clone, Copy, PartialEq, Eq, PartialOrd, Ord)]
 enum Kind {
-    Short,
     Truth,
     Number,
     Text,
 }
 
-// The place of a row, and what its record begins with.
+// The place of a row, and what its cell in some column begins with.
 #[derive(Clone, Copy)]
 pub(crate) struct Ranked {
     head: u64,
@@ -44,7 +43,7 @@ impl Ranked {
         self.place
     }
 
-    // The order of the records, as far as it shows in what they begin with.
+    // The order of the cells, as far as it shows in what they begin with.
     pub(crate) fn compare(&self, other: &Ranked) -> Ordering
         ensures { result ≡ rank_cmp self.now other.now }
     {
@@ -88,48 +87,36 @@ fn head_behind(prefix: &[u8], text: &[u8]) -> u64
     text_head(&text[prefix.len()..])
 }
 
-// The first cell of a row's record, where the row has a cell for each label.
-fn lead(rows: &Rows, first: usize, count: usize, row: usize) -> Option<CellRef<'_>>
-    ensures { option_map cell_seen result ≡ lead_of count (drop first (row_at rows.now row)) }
+fn cell_kind(cell: &CellRef<'_>) -> Kind
+    ensures { result ≡ kind_of (cell_seen cell.now) }
 {
-    let cells = rows.width(row).saturating_sub(first);
-    if count == 0 || cells < count {
-        return None;
-    }
-    Some(rows.cell(row, first))
-}
-
-fn lead_kind(lead: &Option<CellRef<'_>>) -> Kind
-    ensures { result ≡ kind_of (option_map cell_seen lead.now) }
-{
-    match lead {
-        None => Kind::Short,
-        Some(CellRef::Bool(_)) => Kind::Truth,
-        Some(CellRef::Int(_)) => Kind::Number,
-        Some(CellRef::Text(_)) => Kind::Text,
+    match cell {
+        CellRef::Bool(_) => Kind::Truth,
+        CellRef::Int(_) => Kind::Number,
+        CellRef::Text(_) => Kind::Text,
     }
 }
 
 // A number that stands among those of the same kind as the cell does.
-fn lead_head(prefix: &[u8], lead: &Option<CellRef<'_>>) -> u64
-    ensures { result ≡ head_of prefix.now (option_map cell_seen lead.now) }
+fn cell_head(prefix: &[u8], cell: &CellRef<'_>) -> u64
+    ensures { result ≡ head_of prefix.now (cell_seen cell.now) }
 {
-    match lead {
-        None => 0,
-        Some(CellRef::Bool(truth)) => u64::from(*truth),
-        Some(CellRef::Int(number)) => number.abs_diff(i64::MIN),
-        Some(CellRef::Text(text)) => head_behind(prefix, text.as_bytes()),
+    match cell {
+        CellRef::Bool(truth) => u64::from(*truth),
+        CellRef::Int(number) => number.abs_diff(i64::MIN),
+        CellRef::Text(text) => head_behind(prefix, text.as_bytes()),
     }
 }
 
-fn rank_row(rows: &Rows, first: usize, count: usize, prefix: &[u8], place: u32) -> Ranked
-    ensures { result ≡ ranked_at rows.now first count prefix.now place }
+fn rank_row(rows: &Rows, column: usize, prefix: &[u8], place: u32) -> Ranked
+    requires { column < length (row_at rows.now place) }
+    ensures { result ≡ ranked_at rows.now column prefix.now place }
 {
-    let lead = lead(rows, first, count, place as usize);
+    let cell = rows.cell(place as usize, column);
     Ranked {
-        head: lead_head(prefix, &lead),
+        head: cell_head(prefix, &cell),
         place,
-        kind: lead_kind(&lead),
+        kind: cell_kind(&cell),
     }
 }
 
@@ -145,54 +132,59 @@ fn common_size(text: &[u8], other: &[u8]) -> usize
     text.len()
 }
 
-// The text that a row's record begins with, and none where it begins with something else.
-fn lead_text(rows: &Rows, first: usize, count: usize, row: usize) -> &[u8] {
-    match lead(rows, first, count, row) {
-        Some(CellRef::Text(text)) => text.as_bytes(),
+// The text in a column of a row, and none where something else stands there.
+fn text_at(rows: &Rows, column: usize, row: usize) -> &[u8] {
+    if column >= rows.width(row) {
+        return &[];
+    }
+    match rows.cell(row, column) {
+        CellRef::Text(text) => text.as_bytes(),
         _ => &[],
     }
 }
 
-// What the records of rows here and there begin with alike, and so most others too. Behind it their texts
-// are told apart by their heads.
-pub(crate) fn common_prefix<'a>(
-    rows: &'a Rows,
-    first: usize,
-    count: usize,
-    places: &[u32],
-) -> &'a [u8] {
-    if places.is_empty() {
+// What the texts of rows here and there begin with alike, and so most others too. Behind it they are told
+// apart by their heads.
+pub(crate) fn common_prefix<'a>(rows: &'a Rows, column: usize, ranks: &[Ranked]) -> &'a [u8] {
+    if ranks.is_empty() {
         return &[];
     }
-    let mut prefix = lead_text(rows, first, count, places[0] as usize);
-    for place in places.iter().step_by(places.len() / SAMPLE_SIZE + 1) {
-        let text = lead_text(rows, first, count, *place as usize);
+    let mut prefix = text_at(rows, column, ranks[0].place as usize);
+    for ranked in ranks.iter().step_by(ranks.len() / SAMPLE_SIZE + 1) {
+        let text = text_at(rows, column, ranked.place as usize);
         prefix = &prefix[..common_size(prefix, text)];
     }
     prefix
 }
 
-// The rows at these places with what their records begin with, of which each has so many labels.
-pub(crate) fn rank_rows(
-    alloc: Global,
-    rows: &Rows,
-    first: usize,
-    count: usize,
-    prefix: &[u8],
-    places: &[u32],
-) -> Result<Vec<Ranked>, Memory>
-    ensures { IfOk result (λ ranks. ranks.items ≡ map (ranked_at rows.now first count prefix.now) places.now) }
+// The rows at these places, before their cells have been looked up.
+pub(crate) fn unranked(alloc: Global, places: &[u32]) -> Result<Vec<Ranked>, Memory>
+    ensures { IfOk result (λ ranks. places_of ranks.items ≡ places.now) }
 {
     let mut ranks = Vec::with_capacity(alloc, places.len())?;
     for place in places {
-        ranks.push(rank_row(rows, first, count, prefix, *place))?;
+        ranks.push(Ranked {
+            head: 0,
+            place: *place,
+            kind: Kind::Truth,
+        })?;
     }
     Ok(ranks)
 }
 
+// Ranks rows by their cells in a column.
+pub(crate) fn rank_rows(rows: &Rows, column: usize, prefix: &[u8], ranks: &mut [Ranked])
+    requires { All (λ ranked. column < length (row_at rows.now ranked.place)) ranks.old }
+    ensures { ranks.new ≡ map (λ ranked. ranked_at rows.now column prefix.now ranked.place) ranks.old }
+{
+    for i in 0..ranks.len() {
+        ranks[i] = rank_row(rows, column, prefix, ranks[i].place);
+    }
+}
+
 // Writes the places of the ranked rows over those that stand there.
 pub(crate) fn write_places(places: &mut Vec<u32>, ranks: &[Ranked]) -> Result<(), Memory>
-    ensures { OnOk result (places.new.items ≡ map (λ ranked. ranked.place) ranks.now) }
+    ensures { OnOk result (places.new.items ≡ places_of ranks.now) }
 {
     places.clear();
     for ranked in ranks {

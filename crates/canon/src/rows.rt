@@ -1,85 +1,55 @@
 // The canonical text of a bag of flat records, from rows of cells.
-ghost use Rattle.std.specs.Prelude.{◌≡◌, ◌≤◌, ◌+◌, ◌++◌, IfOk, OnOk, map, max, take, drop, length, string_bytes, slice_range};
-ghost use Rattle.std.specs.Cmp.Lexicographic.{slice_cmp};
-ghost use Rattle.std.specs.Ordering.{ordering_then};
+ghost use Rattle.std.specs.Prelude.{◌≡◌, ℕ, ◌≤◌, ◌+◌, ◌++◌, IfOk, OnOk, IfSome, map, length, slice_range, string_bytes};
+ghost use Rattle.std.specs.List.{All};
+ghost use Rattle.std.specs.List.Sorted.{IsPermutation, IsSortedByKey};
 ghost use Rattle.nq_model.specs.CellRefs.{cell_seen};
-ghost use Rattle.nq_model.specs.Cells.{cell_cmp};
 ghost use Rattle.nq_model.specs.Orders.{sorted_by};
 ghost use Rattle.nq_model.specs.Canonical.{canonical_text, cell_text, written, value_cmp};
-ghost use Rattle.canon.specs.Ranks.{rank_cmp};
-ghost use Rattle.canon.specs.Rows.{row_at, row_record, rows_at, rows_value};
+ghost use Rattle.canon.specs.Rows.{cells_cmp, row_at, row_record, rows_at, rows_value};
 
-use crate::ranks::{Ranked, common_prefix, rank_rows, write_places};
+use crate::ranks::{unranked, write_places};
+use crate::row_order::{compare_rows, end_from};
+use crate::runs::sort_run;
 use crate::text::{write_quoted, write_separator};
 use itoa::Buffer;
 use nq_model::{CellRef, Label, List, Memory, Rows};
 use std::alloc::Global;
-use std::cmp::Ordering;
 
 // The most bytes that an integer of 64 bits is written with.
 const INT_SIZE: usize = 20;
 
-// Where the cells of a row from a place on end, at most so many.
-fn end_from(rows: &Rows, first: usize, count: usize, row: usize) -> usize
-    ensures value { result ≡ first + length (take count (drop first (row_at rows.now row))) }
-    ensures within { result ≤ max first (length (row_at rows.now row)) }
+// Where the cells of each row's record end, if each row has one for each label.
+fn common_end(rows: &Rows, first: usize, count: usize, places: &[u32]) -> Option<usize>
+    ensures { IfSome result (λ end. (end ≡ first + count) × All (λ place. end ≤ length (row_at rows.now place)) places.now) }
 {
-    let end = rows.width(row).min(first.saturating_add(count));
-    end.max(first)
-}
-
-// Compares the cells of two rows between two places.
-fn compare_cells(rows: &Rows, first: usize, end: usize, left: usize, right: usize) -> Ordering
-    requires left { end ≤ max first (length (row_at rows.now left)) }
-    requires right { end ≤ max first (length (row_at rows.now right)) }
-    ensures { result ≡ slice_cmp cell_cmp (slice_range (row_at rows.now left) first end) (slice_range (row_at rows.now right) first end) }
-{
-    for column in first..end {
-        let order = rows.cell(left, column).compare(&rows.cell(right, column));
-        if order != Ordering::Equal {
-            return order;
+    let end = first.checked_add(count)?;
+    for place in places {
+        if rows.width(*place as usize) < end {
+            return None;
         }
     }
-    Ordering::Equal
+    Some(end)
 }
 
-// The canonical order of the records of two rows. The labels are the same in both, so of them only their
-// number counts.
-fn compare_rows(labels: &[Label], first: usize, rows: &Rows, left: usize, right: usize) -> Ordering
-    ensures { result ≡ value_cmp (row_record labels.now first (row_at rows.now left)) (row_record labels.now first (row_at rows.now right)) }
-{
-    let left_end = end_from(rows, first, labels.len(), left);
-    let right_end = end_from(rows, first, labels.len(), right);
-    match left_end.cmp(&right_end) {
-        Ordering::Equal => compare_cells(rows, first, left_end, left, right),
-        other => other,
-    }
-}
-
-// The order of the records of two ranked rows. Their cells are looked up only where the ranks tie.
-fn compare_ranked(
-    labels: &[Label],
-    first: usize,
+// Puts rows in order that all have cells up to an end. What they are ranked by is dropped here.
+fn put_full_rows_in_order(
+    alloc: Global,
     rows: &Rows,
-    left: &Ranked,
-    right: &Ranked,
-) -> Ordering
-    ensures { result ≡ ordering_then (rank_cmp left.now right.now)
-        (value_cmp (row_record labels.now first (row_at rows.now left.now.place)) (row_record labels.now first (row_at rows.now right.now.place))) }
+    first: usize,
+    end: usize,
+    places: &mut Vec<u32>,
+) -> Result<(), Memory>
+    requires { All (λ place. end ≤ length (row_at rows.now place)) places.old.items }
+    ensures permutation { OnOk result (IsPermutation places.old.items places.new.items) }
+    ensures sorted { OnOk result (IsSortedByKey (λ place. slice_range (row_at rows.now place) first end) cells_cmp places.new.items) }
 {
-    match left.compare(right) {
-        Ordering::Equal => compare_rows(
-            labels,
-            first,
-            rows,
-            left.place() as usize,
-            right.place() as usize,
-        ),
-        other => other,
-    }
+    let mut ranks = unranked(alloc, places.as_slice())?;
+    sort_run(rows, first, end, ranks.as_mut_slice());
+    write_places(places, ranks.as_slice())
 }
 
-// Records that tie are one, so the sort need not be stable.
+// Records that tie are one, so the sort need not be stable. Where a row wants cells, all are compared as they
+// stand.
 fn put_rows_in_order(
     alloc: Global,
     labels: &[Label],
@@ -90,10 +60,16 @@ fn put_rows_in_order(
     ensures { OnOk result (map (row_record labels.now first) (rows_at rows.now places.new.items)
         ≡ sorted_by value_cmp (map (row_record labels.now first) (rows_at rows.now places.old.items))) }
 {
-    let prefix = common_prefix(rows, first, labels.len(), places.as_slice());
-    let mut ranks = rank_rows(alloc, rows, first, labels.len(), prefix, places.as_slice())?;
-    ranks.sort_unstable_by(|left, right| compare_ranked(labels, first, rows, left, right));
-    write_places(places, ranks.as_slice())
+    let count = labels.len();
+    match common_end(rows, first, count, places.as_slice()) {
+        Some(end) => put_full_rows_in_order(alloc, rows, first, end, places),
+        None => {
+            places.sort_unstable_by(|left, right| {
+                compare_rows(rows, first, count, *left as usize, *right as usize)
+            });
+            Ok(())
+        }
+    }
 }
 
 fn write_cell(text: &mut String, cell: &CellRef<'_>) -> Result<(), Memory>

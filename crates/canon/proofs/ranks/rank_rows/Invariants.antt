@@ -1,6 +1,7 @@
-use Rattle.std.proofs.Common.{◌≡◌, map, take}
+use Rattle.std.proofs.Common.{◌≡◌, ◌++◌, map, take, drop}
 use Rattle.canon.specs.Ranks.{ranked_at}
 use Rattle.canon.proofs.ranks.rank_rows.Given as goal
 
-abbrev pub invariant-loop-place : goal.invariant-loop-place
-invariant-loop-place l = l.ranks.items ≡ map (ranked_at l.rows l.first l.count l.prefix) (take l.place-index l.places)
+abbrev pub invariant-loop-i : goal.invariant-loop-i
+invariant-loop-i l =
+    l.ranks ≡ map (λ ranked. ranked_at l.rows l.column l.prefix ranked.place) (take l.i l.initial.ranks) ++ drop l.i l.initial.ranks

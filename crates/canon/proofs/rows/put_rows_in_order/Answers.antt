@@ -1,34 +1,31 @@
-use Rattle.std.proofs.Common.{◌≡◌, ℕ, List, map, ap, ◌∙◌, length, rules}
+use Rattle.std.proofs.Common.{◌≡◌, ℕ, List, IsPermutation, map, take, drop, length, slice_range, rules}
 use Rattle.std.proofs.lemmas.Fn.{always_returns_same}
 use Rattle.std.proofs.lemmas.List.Sorted.{ranks_by}
-use Rattle.std.proofs.lemmas.Result.{IfOk-weaker}
+use Rattle.std.specs.List.Sorted.{IsSortedByKey}
 use Rattle.nq_model.specs.Canonical.{value_cmp}
 use Rattle.nq_model.specs.Orders.{sorted_by}
-use Rattle.nq_model.specs.Values.{Nested}
-use Rattle.canon.specs.declared.ranks.Ranked.{Ranked}
-use Rattle.canon.specs.Ranks.{ranked_at}
-use Rattle.canon.specs.Rows.{row_record, rows_at}
-use Rattle.canon.proofs.Ranking.{Key, key_cmp, key_of, key_order, ranks_sorted}
-use Rattle.canon.proofs.Sorting.{sorted_by_key}
+use Rattle.nq_model.specs.declared.table.Cell.{Cell}
+use Rattle.canon.specs.Rows.{cells_cmp, row_at, row_record, rows_at}
+use Rattle.canon.proofs.Places.{on_ok_both, ranges_in_order, records_in_order}
+use Rattle.canon.proofs.Refining.{cells_total}
 use Rattle.canon.proofs.rows.put_rows_in_order.Goals as goal
 
-pub returns : goal.returns
-returns c =
+pub returns-in-Some : goal.returns-in-Some
+returns-in-Some c =
     let names = c.args.labels.now in
     let first = c.args.first in
     let rows = c.args.rows.now in
-    let prefix = c.common_prefix-prefix.result.now in
-    let places = c.args.places.now.items in
-    let key : Ranked → Key = key_of names first rows in
-    let rank : ℕ → Ranked = ranked_at rows first (length names) prefix in
-    let place : Ranked → ℕ = λ r. r.place in
-    let records_at : List ℕ → List Nested = λ l. map (row_record names first) (rows_at rows l) in
-    let ranks = c.sort_unstable_by.new.self.items in
-    let in_order = c.sort_unstable_by.ensures.sorted _ (ranks_by key_order.total key) (always_returns_same _ _ _ (λ a r f h. (search rules, search rules))) in
-    let keys = sorted_by_key key_cmp key key_order c.in_ok-ranks.ranks.items ranks c.sort_unstable_by.ensures.permutation in_order in
-    let made : c.in_ok-ranks.ranks.items ≡ map rank places = c.in_ok-ranks.ensures ∙ ap (map rank) c.as_slice-2.ensures.value in
-    let sorted = ranks_sorted names first prefix rows places ranks (keys ∙ ap (λ (l : List Ranked). sorted_by key_cmp (map key l)) made) in
-    IfOk-weaker c.write_places.result
-    (λ _. c.write_places.new.places.items ≡ map place c.as_slice-3.result.now)
-    (λ _. records_at c.write_places.new.places.items ≡ sorted_by value_cmp (records_at places))
-    (λ _ e. ap records_at (e ∙ ap (map place) c.as_slice-3.ensures.value) ∙ sorted) c.write_places.ensures
+    let before = c.args.places.now.items in
+    let now = c.put_full_rows_in_order.new.places.items in
+    on_ok_both c.put_full_rows_in_order.result (IsPermutation before now) (IsSortedByKey (λ place. slice_range (row_at rows place) first c.in-Some.end) cells_cmp now)
+    (map (row_record names first) (rows_at rows now) ≡ sorted_by value_cmp (map (row_record names first) (rows_at rows before)))
+    (λ p up. records_in_order names first rows before now p (ranges_in_order names first rows c.in-Some.end now c.in-Some.ensures.0 up))
+    c.put_full_rows_in_order.ensures.permutation c.put_full_rows_in_order.ensures.sorted
+
+pub returns-in-None : goal.returns-in-None
+returns-in-None c =
+    let names = c.args.labels.now in
+    let rows = c.args.rows.now in
+    let cells : ℕ → List Cell = λ place. take (length names) (drop c.args.first (row_at rows place)) in
+    records_in_order names c.args.first rows c.args.places.now.items c.sort_unstable_by.new.self.items c.sort_unstable_by.ensures.permutation
+    (c.sort_unstable_by.ensures.sorted _ (ranks_by cells_total cells) (always_returns_same _ _ _ (λ a r f h. (search rules, search rules))))

@@ -7,8 +7,8 @@ use Rattle.nq_model.specs.CellRefs.{cell_seen}
 use Rattle.nq_model.specs.Cells.{cell_cmp}
 use Rattle.canon.specs.Rows.{row_at}
 use Rattle.canon.proofs.FlatRows.{cells_step, then_equal, then_other}
-use Rattle.canon.proofs.rows.compare_cells.Goals as goal
-use Rattle.canon.proofs.rows.compare_cells.Goals.{After-ne}
+use Rattle.canon.proofs.row_order.compare_cells.Goals as goal
+use Rattle.canon.proofs.row_order.compare_cells.Goals.{After-ne}
 
 abbrev rest : After-ne → Ordering
 rest c =

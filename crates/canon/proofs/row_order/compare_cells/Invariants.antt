@@ -2,7 +2,7 @@ use Rattle.std.proofs.Common.{◌≡◌, slice_range}
 use Rattle.std.specs.Cmp.Lexicographic.{slice_cmp}
 use Rattle.nq_model.specs.Cells.{cell_cmp}
 use Rattle.canon.specs.Rows.{row_at}
-use Rattle.canon.proofs.rows.compare_cells.Given as goal
+use Rattle.canon.proofs.row_order.compare_cells.Given as goal
 
 abbrev pub invariant-loop-column : goal.invariant-loop-column
 invariant-loop-column l =
