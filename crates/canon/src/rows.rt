@@ -178,9 +178,10 @@ pub fn write_rows(
 ) -> Result<List<u8>, Memory>
     ensures { IfOk result (λ text. text ≡ canonical_text (rows_value labels.now first (rows_at rows.now places.items))) }
 {
+    // Rows are measured before they are put in order, so that they are looked up where they stand.
+    let size = rows_size(labels, first, rows, places.as_slice());
     let mut sorted = places;
     put_rows_in_order(alloc, labels, first, rows, &mut sorted)?;
-    let size = rows_size(labels, first, rows, sorted.as_slice());
     let mut text = String::with_capacity(alloc, size)?;
     write_bag_of_rows(&mut text, labels, first, rows, sorted.as_slice())?;
     text.push_str("\n")?;
