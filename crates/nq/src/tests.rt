@@ -40,7 +40,7 @@ const ONE: Case = Case {
     note: "",
 };
 
-const CASES: [Case; 16] = [
+const CASES: [Case; 18] = [
     ONE,
     Case {
         schema: "table t (b: int, a: text);",
@@ -137,6 +137,21 @@ const CASES: [Case; 16] = [
         query: "table t",
         t: "n\n5\n-3\n9223372036854775807\n-9223372036854775808\n0\n",
         out: "{(n = -9223372036854775808), (n = -3), (n = 0), (n = 5), (n = 9223372036854775807)}\n",
+        ..ONE
+    },
+    // Many rows that tie in their first column, and many that begin with the same eight bytes.
+    Case {
+        schema: "table t (a: text, n: int);",
+        query: "table t",
+        t: "a,n\nx,3\nx,1\nx,2\nw,9\nx,5\nx,4\n",
+        out: "{(a = 'w', n = 9), (a = 'x', n = 1), (a = 'x', n = 2), (a = 'x', n = 3), (a = 'x', n = 4), (a = 'x', n = 5)}\n",
+        ..ONE
+    },
+    Case {
+        schema: "table t (a: text);",
+        query: "table t",
+        t: "a\naaaaaaaa5\naaaaaaaa3\nb\naaaaaaaa1\naaaaaaaa4\naaaaaaaa2\n",
+        out: "{(a = 'aaaaaaaa1'), (a = 'aaaaaaaa2'), (a = 'aaaaaaaa3'), (a = 'aaaaaaaa4'), (a = 'aaaaaaaa5'), (a = 'b')}\n",
         ..ONE
     },
 ];
