@@ -1,5 +1,5 @@
 // The canonical text of a bag of flat records, from rows of cells.
-ghost use Rattle.std.specs.Prelude.{◌≡◌, ℕ, ◌≤◌, ◌+◌, ◌++◌, IfOk, OnOk, IfSome, map, length, slice_range, string_bytes};
+ghost use Rattle.std.specs.Prelude.{◌≡◌, ◌≤◌, ◌+◌, ◌++◌, IfOk, OnOk, IfSome, map, length, slice_range, string_bytes};
 ghost use Rattle.std.specs.List.{All};
 ghost use Rattle.std.specs.List.Sorted.{IsPermutation, IsSortedByKey};
 ghost use Rattle.nq_model.specs.CellRefs.{cell_seen};

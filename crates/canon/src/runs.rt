@@ -1,6 +1,6 @@
 // Rows are put in order column by column: those that tie in one are put in order by the next, so that most
 // cells are looked up a few times only. (Bentley and Sedgewick, SODA 1997; Ng and Kakehi, IEICE 2007.)
-ghost use Rattle.std.specs.Prelude.{◌≡◌, ◌≢◌, ℕ, ◌<◌, ◌≤◌, IsTrue, length, slice_index_or};
+ghost use Rattle.std.specs.Prelude.{◌≢◌, ◌<◌, ◌≤◌, IsTrue, length, slice_index_or};
 ghost use Rattle.std.specs.List.{All};
 ghost use Rattle.std.specs.List.Sorted.{IsPermutation, IsSorted};
 ghost use Rattle.std.specs.declared.cmp.Ordering.TheVariants.{Equal};

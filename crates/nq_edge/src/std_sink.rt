@@ -1,5 +1,5 @@
 // A sink over a writer, which does not tell its content.
-ghost use Rattle.std.specs.Prelude.{◌≡◌, ◌≤◌, [], length, None, IsOk};
+ghost use Rattle.std.specs.Prelude.{◌≡◌, [], None, IsOk};
 ghost use Rattle.nq_edge.specs.Edge.{PutAppends, PutCounts};
 ghost use Rattle.nq_edge.specs.Streams.{Writes};
 

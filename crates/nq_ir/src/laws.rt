@@ -1,10 +1,10 @@
 // Laws of the forms, each on a function that does nothing.
-ghost use Rattle.std.specs.Prelude.{◌≡◌, ◌++◌, [], List, map};
+ghost use Rattle.std.specs.Prelude.{◌≡◌, [], List, map};
 ghost use Rattle.std.specs.List.{AllByRecursion as Each};
 ghost use Rattle.nq_model.specs.Databases.{database};
 ghost use Rattle.nq_model.specs.Numberings.{TellsApart};
 ghost use Rattle.nq_model.specs.Tables.{IsProperSchema};
-ghost use Rattle.nq_model.specs.Types.{TypeTree, bag};
+ghost use Rattle.nq_model.specs.Types.{bag};
 ghost use Rattle.nq_model.specs.Values.{Same, bag_of};
 ghost use Rattle.nq_model.specs.declared.table.Schema.{Schema};
 ghost use Rattle.nq_model.specs.declared.table.Table.{Table};

@@ -1,5 +1,5 @@
 // Cells that take little memory: a mark of eight bytes each, with wide numbers and texts apart.
-ghost use Rattle.std.specs.Prelude.{◌≡◌, ◌<◌, ◌++◌, [], ◌∷◌, IfOk, OnOk, OnErr, length, take, pos, slice_index_or};
+ghost use Rattle.std.specs.Prelude.{◌≡◌, ◌<◌, ◌++◌, [], ◌∷◌, OnOk, OnErr, length, take, pos, slice_index_or};
 ghost use Rattle.nq_model.specs.CellRefs.{cell_seen};
 ghost use Rattle.nq_model.specs.declared.table.Cell.TheVariants as cell;
 

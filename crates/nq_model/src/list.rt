@@ -1,5 +1,5 @@
 // Lists: a `Vec` that contracts see as the list of its elements.
-ghost use Rattle.std.specs.Prelude.{◌≡◌, [], ◌∷◌, ◌++◌, ◌<◌, ◌↔◌, length, slice_get, IsTrue, IfOk, MatchOption, OnOk, OnErr, option_copied, vec_len};
+ghost use Rattle.std.specs.Prelude.{◌≡◌, [], ◌∷◌, ◌++◌, ◌<◌, ◌↔◌, length, slice_get, IsTrue, IfOk, MatchOption, OnOk, OnErr, option_copied};
 
 use crate::memory::Memory;
 use std::alloc::Global;

@@ -1,5 +1,5 @@
 // The byte order of labels.
-ghost use Rattle.std.specs.Prelude.{◌≡◌, ◌<◌, ◌≤◌, All, IfOk, OnOk, length, map, insert};
+ghost use Rattle.std.specs.Prelude.{◌≡◌, ◌<◌, ◌≤◌, All, IfOk, length, map, insert};
 ghost use Rattle.nq_model.specs.Orders.{label_at, place_cmp, label_order, put_by};
 
 use crate::list::List;

@@ -1,5 +1,5 @@
 // Laws of shifting, substituting and unfolding, each on a function that does nothing.
-ghost use Rattle.std.specs.Prelude.{◌≡◌, ℕ, List, option_map};
+ghost use Rattle.std.specs.Prelude.{◌≡◌, ℕ, option_map};
 ghost use Rattle.nq_model.specs.Terms.{PlacedTerm, TermTree, bare};
 ghost use Rattle.nq_model.specs.Substitution.{shift, subst, shift_tree, subst_tree};
 ghost use Rattle.nq_model.specs.Unfolding.{step, step_tree, Steps, Unfolds, TreeUnfolds, Around};

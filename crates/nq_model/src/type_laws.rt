@@ -1,5 +1,5 @@
 // Laws of the typing rules and of the judging order, each on a function that does nothing.
-ghost use Rattle.std.specs.Prelude.{◌≡◌, ◌↔◌, ℕ, true, List, [], Some, Ok, Err, map, Decides};
+ghost use Rattle.std.specs.Prelude.{◌≡◌, ◌↔◌, ℕ, true, List, Some, Ok, Err, map, Decides};
 ghost use Rattle.std.specs.List.{AllByRecursion as Each};
 ghost use Rattle.nq_model.specs.Bags.{Reordered};
 ghost use Rattle.nq_model.specs.Orders.{AreDistinct};

@@ -1,5 +1,4 @@
 // A token behind a whole expression.
-ghost use Rattle.std.specs.Prelude.{◌≡◌};
 ghost use Rattle.nq_model.specs.QueryGrammar.{First};
 ghost use Rattle.nq_model.specs.QueryTokens.{Dot, End, Opening, Oper, Sign};
 ghost use Rattle.nq_parser.specs.Forms.{part_view};

@@ -1,5 +1,4 @@
 // A token where one certain token has to come.
-ghost use Rattle.std.specs.Prelude.{◌≡◌};
 ghost use Rattle.nq_model.specs.QueryGrammar.{First};
 ghost use Rattle.nq_parser.specs.Forms.{part_view};
 ghost use Rattle.nq_parser.specs.Machine.{at_comma, at_dot, at_empty, at_for, at_for_name, at_for_open, at_fun, at_fun_close, at_fun_name, at_fun_open, at_label, at_let, at_let_name, at_table, at_where, if_name};

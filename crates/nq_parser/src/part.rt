@@ -1,5 +1,5 @@
 // Parts that were read whole, with how deep they are.
-ghost use Rattle.std.specs.Prelude.{◌≡◌, ◌≤◌, suc, max, length, IfOk, ◌++◌, ◌∷◌, []};
+ghost use Rattle.std.specs.Prelude.{◌≡◌, ◌≤◌, suc, length, IfOk};
 ghost use Rattle.nq_model.specs.QueryGrammar.{depth as depth_of, deepest, fields_depth, fields_deepest, type_depth, type_fields_depth};
 ghost use Rattle.query_syntax.specs.Trees.{syntax_view, type_view, fields as record_fields, named, type_fields, typed};
 

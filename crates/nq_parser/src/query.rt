@@ -1,5 +1,4 @@
 // Reads a query text.
-ghost use Rattle.std.specs.Str.{IsUtf8};
 ghost use Rattle.nq_parser.specs.Parsing.{Parsed};
 
 use crate::read::read;

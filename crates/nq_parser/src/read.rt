@@ -1,5 +1,5 @@
 // Reads tokens, one after the other.
-ghost use Rattle.std.specs.Prelude.{◌≡◌, map};
+ghost use Rattle.std.specs.Prelude.{map};
 ghost use Rattle.nq_parser.specs.Reading.{Ends};
 ghost use Rattle.nq_parser.specs.Runs.{Advances, IsProgramOf, Reads};
 ghost use Rattle.nq_parser.specs.States.{state_view};

@@ -1,9 +1,7 @@
 // One token more.
-ghost use Rattle.std.specs.Prelude.{◌≡◌};
 ghost use Rattle.nq_model.specs.QueryGrammar.{First};
 ghost use Rattle.nq_parser.specs.Machine.{step};
-ghost use Rattle.nq_parser.specs.Stacks.{frames};
-ghost use Rattle.nq_parser.specs.States.{position_view, state_view, Steps};
+ghost use Rattle.nq_parser.specs.States.{state_view, Steps};
 ghost use Rattle.query_syntax.specs.Symbols.{token_view};
 
 use crate::begin::start;

@@ -1,5 +1,4 @@
 // A token where a type begins.
-ghost use Rattle.std.specs.Prelude.{◌≡◌};
 ghost use Rattle.nq_model.specs.QueryGrammar.{First};
 ghost use Rattle.nq_model.specs.QueryTokens.{Closing, Sign};
 ghost use Rattle.nq_parser.specs.Forms.{around_view};

@@ -1,5 +1,4 @@
 // A token where one certain token of a record type has to come.
-ghost use Rattle.std.specs.Prelude.{◌≡◌};
 ghost use Rattle.nq_model.specs.QueryGrammar.{First, kind};
 ghost use Rattle.nq_parser.specs.Forms.{around_view};
 ghost use Rattle.nq_parser.specs.Machine.{at_type_comma, at_type_label, at_type_word, no_type_label};
@@ -8,7 +7,6 @@ ghost use Rattle.nq_parser.specs.States.{Steps};
 ghost use Rattle.query_syntax.specs.Symbols.{token_view};
 ghost use Rattle.query_syntax.specs.Trees.{type_fields, typed};
 ghost use Rattle.nq_parser.specs.TypeStacks.{type_frames};
-ghost use Rattle.nq_parser.specs.Words.{kind_view};
 
 use crate::form::{TypeForm, TypeHead};
 use crate::part::{TypeFields, TypePart};

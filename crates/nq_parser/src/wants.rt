@@ -1,5 +1,5 @@
 // States behind a token.
-ghost use Rattle.std.specs.Prelude.{◌≡◌, ◌∷◌, Some};
+ghost use Rattle.std.specs.Prelude.{◌∷◌, Some};
 ghost use Rattle.nq_parser.specs.Forms.{around_view, form_view, type_form_view};
 ghost use Rattle.nq_parser.specs.Machine.{Want, WantType};
 ghost use Rattle.nq_parser.specs.Stacks.{frames};

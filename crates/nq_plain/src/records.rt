@@ -1,5 +1,5 @@
 // Records: fields in the byte order of their labels.
-ghost use Rattle.std.specs.Prelude.{◌≡◌, ◌≤◌, ℕ, List, length, map, insert, IfOk, OnOk};
+ghost use Rattle.std.specs.Prelude.{◌≡◌, ◌≤◌, List, length, insert, IfOk};
 ghost use Rattle.nq_model.specs.Meaning.{field_in, put_field, value_under};
 ghost use Rattle.nq_model.specs.Values.{Nested, nested, fields_view, fields_of};
 

@@ -1,8 +1,8 @@
 // What tables mean: bags of their rows as records.
-ghost use Rattle.std.specs.Prelude.{◌≡◌, List, map, IfOk};
+ghost use Rattle.std.specs.Prelude.{◌≡◌, List, IfOk};
 ghost use Rattle.nq_model.specs.Databases.{database, table_meaning};
 ghost use Rattle.nq_model.specs.Tables.{names_of, row_record, table_value};
-ghost use Rattle.nq_model.specs.Values.{nested, fields_view, rec_of};
+ghost use Rattle.nq_model.specs.Values.{nested};
 
 use crate::cells::value_of;
 use crate::records::put_field;

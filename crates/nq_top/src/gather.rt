@@ -1,5 +1,5 @@
 // Reads the inputs of a command, each judged before the next.
-ghost use Rattle.std.specs.Prelude.{◌≡◌, ◌≢◌, ◌<◌, ◌↔◌, true, List, ℕ, IfOk, IfSome, None, Err, length, map, option_map, string_bytes};
+ghost use Rattle.std.specs.Prelude.{◌≡◌, ◌≢◌, ◌<◌, ◌↔◌, true, List, IfOk, IfSome, None, Err, length, map, option_map, string_bytes};
 ghost use Rattle.nq_model.specs.Terms.{placed};
 ghost use Rattle.nq_model.specs.Types.{type_tree};
 ghost use Rattle.nq_model.specs.Typing.{shape_named};

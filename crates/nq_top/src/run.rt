@@ -1,5 +1,5 @@
 // A whole run, but for its note.
-ghost use Rattle.std.specs.Prelude.{◌≡◌, ◌↔◌, [], List, ℕ, map, None, Err, true, IfSome, OnErr, is_some, string_bytes};
+ghost use Rattle.std.specs.Prelude.{◌≡◌, ◌↔◌, [], List, map, None, Err, true, IfSome, OnErr, is_some, string_bytes};
 ghost use Rattle.nq_top.specs.Commands.{command_of, asks_server};
 ghost use Rattle.nq_top.specs.Reading.{Reading};
 ghost use Rattle.nq_top.specs.Judging.{judgement};

@@ -1,5 +1,5 @@
 // Loads tables into a server, asks for the rows of one, and writes the answer.
-ghost use Rattle.std.specs.Prelude.{◌≡◌, ◌<◌, ◌+◌, ◌∷◌, ◌++◌, [], List, ℕ, true, All, IfOk, IfErr, OnOk, OnErr, is_some, length, map};
+ghost use Rattle.std.specs.Prelude.{◌≡◌, ◌<◌, ◌∷◌, [], List, true, All, IfOk, IfErr, OnOk, OnErr, is_some, length, map};
 ghost use Rattle.nq_model.specs.Orders.{by_label, label_at, label_order};
 ghost use Rattle.nq_model.specs.Tables.{names_of, types_of};
 ghost use Rattle.sql_profile.specs.Scans.{IsScan, Allows, scan_text, scan_types};

@@ -1,5 +1,5 @@
 // The top calls: a run with its note line and its status.
-ghost use Rattle.std.specs.Prelude.{◌≡◌, ◌<◌, ◌↔◌, ◌⊎◌, [], true, List, ℕ, map, None, IfSome, string_bytes};
+ghost use Rattle.std.specs.Prelude.{◌≡◌, ◌<◌, ◌↔◌, ◌⊎◌, [], true, map, None, IfSome, string_bytes};
 ghost use Rattle.nq_edge.specs.Edge.{Rose};
 ghost use Rattle.sql_profile.specs.Servers.{RoseBelow};
 ghost use Rattle.nq_top.specs.Commands.{command_of, asks_server};

@@ -1,5 +1,5 @@
 // The words of the command line.
-ghost use Rattle.std.specs.Prelude.{◌≡◌, List, ℕ, map, option_map, string_bytes};
+ghost use Rattle.std.specs.Prelude.{◌≡◌, map, option_map, string_bytes};
 ghost use Rattle.nq_top.specs.Commands.{one_word, three_words, four_words, command_of};
 ghost use Rattle.nq_top.specs.Words.{command_view};
 

@@ -1,5 +1,4 @@
 // The tokens of a query text.
-ghost use Rattle.std.specs.Prelude.{◌≡◌};
 ghost use Rattle.nq_model.specs.QueryTokens.{tokens_of};
 ghost use Rattle.query_syntax.specs.Fronts.{Cuts};
 

@@ -1,5 +1,5 @@
 // What a token says.
-ghost use Rattle.std.specs.Prelude.{ℕ, ◌<◌, ◌^◌};
+ghost use Rattle.std.specs.Prelude.{◌<◌, ◌^◌};
 
 use nq_model::Binary;
 

@@ -1,5 +1,5 @@
 // Laws of the definitions, each on a function that does nothing.
-ghost use Rattle.std.specs.Prelude.{◌≡◌, ◌↔◌, ◌⊎◌, ℕ, List, Option, Result};
+ghost use Rattle.std.specs.Prelude.{◌≡◌, ◌↔◌, ◌⊎◌, ℕ, List};
 ghost use Rattle.nq_model.specs.declared.table.Cell.{Cell};
 ghost use Rattle.nq_model.specs.declared.table.TableShape.{TableShape};
 ghost use Rattle.table_reader.specs.declared.TableFault.{TableFault};

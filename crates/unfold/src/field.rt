@@ -1,6 +1,6 @@
 // Fields of done terms.
 ghost use Rattle.std.specs.Prelude.{◌≡◌, IfOk, MatchOption, ◌<◌, length, option_map, slice_get};
-ghost use Rattle.nq_model.specs.Terms.{placed, at, PlacedNode, placed_fields};
+ghost use Rattle.nq_model.specs.Terms.{placed, at, placed_fields};
 ghost use Rattle.nq_model.specs.Unfolding.{picked};
 ghost use Rattle.unfold.specs.Hereditary.{field_by};
 
