@@ -58,7 +58,7 @@ fields_compare (n ∷ ns) (l ∷ ls) [] = refl
 fields_compare (n ∷ ns) (l ∷ ls) (r ∷ rs) = ap (ordering_then (cell_cmp l r)) (fields_compare ns ls rs)
 
 -- records of the same labels compare by how many cells they have, and then cell by cell
-pub records_compare : (names : List (List ℕ)) (ls rs : List Cell) →
+records_compare : (names : List (List ℕ)) (ls rs : List Cell) →
     value_cmp (record_of names ls) (record_of names rs)
     ≡ ordering_then (nat_cmp (length (take (length names) ls)) (length (take (length names) rs))) (slice_cmp cell_cmp (take (length names) ls) (take (length names) rs))
 records_compare names ls rs = ap₂ ordering_then (labels_compare names ls rs) (fields_compare names ls rs)
