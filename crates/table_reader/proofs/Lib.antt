@@ -5,6 +5,7 @@ pub mod SpellingFacts
 pub mod KeyFacts
 pub mod ReadFacts
 pub mod TwinFacts
+pub mod CodeMapFacts
 pub mod IndexFacts
 pub mod TableFacts
 pub mod FitFacts

@@ -2,8 +2,6 @@
 use Rattle.std.specs.Prelude.{◌≡◌, ◌≢◌, ◌==◌, ℕ, ◌∷◌, ◌++◌, [], List, map, Option, Some, None, string_bytes, if◌then◌else◌}
 use Rattle.std.specs.List.{filter_map, position, position_from}
 use Rattle.std.specs.Map.{lookup}
-use Rattle.std.specs.BTreeMap.{get}
-use Rattle.std.specs.Ordering.{nat_cmp}
 use Rattle.std.specs.Cmp.Lexicographic.{pointwise}
 use Rattle.std.specs.Str.{bytes_eq}
 use Rattle.nq_model.specs.Cells.{cell_eq}
@@ -17,6 +15,7 @@ use Rattle.table_reader.specs.declared.keys.KeyIndex.{KeyIndex}
 use Rattle.table_reader.specs.declared.keys.KeyCell.{KeyCell}
 use Rattle.table_reader.specs.declared.keys.KeyCell.TheVariants as key_cell
 use Rattle.table_reader.specs.Codes.{key_code}
+use Rattle.table_reader.specs.CodeMaps.{place_under, IsSound}
 use Rattle.table_reader.specs.Keys.{key_of, first_with}
 
 -- the cell that a cell of a key is a copy of
@@ -55,7 +54,8 @@ other_than (Some first) (Some place) = if first == place then None else Some pla
 -- and for all key cells the first row that has them, where that is not the first with their code
 pub record Indexes (shape : TableShape) (rows : List (List Cell)) (index : KeyIndex) : Type 0 where
   pub columns : index.columns.items ≡ key_places shape
-  pub finds : (code : ℕ) → get nat_cmp index.first_rows code ≡ place_coded shape code rows
+  pub sound : IsSound index.first_rows
+  pub finds : (code : ℕ) → place_under index.first_rows code ≡ place_coded shape code rows
   pub others : (key : List Cell) → lookup (λ k. pointwise cell_eq key (cells_of_key k)) index.others.entries
       ≡ other_than (place_coded shape (key_code key) rows) (place_with shape key rows)
 

@@ -5,25 +5,26 @@ ghost use Rattle.std.specs.List.{filter_map};
 ghost use Rattle.table_reader.specs.Codes.{key_code};
 ghost use Rattle.table_reader.specs.FirstRows.{cell_of_key, key_places, place_of, Enters, Indexes};
 
+use crate::code_map::CodeMap;
 use crate::codes::cell_code;
 use nq_model::{Cell, ColumnType, Label, List, Memory, Rows, TableShape};
 use std::alloc::Global;
 use std::collections::BTreeMap;
 
 // A cell of a key.
-#[derive(Debug, PartialEq, Eq, PartialOrd, Ord, Drop)]
+#[derive(PartialEq, Eq, PartialOrd, Ord, Drop)]
 pub(crate) enum KeyCell {
     Int(i64),
     Bool(bool),
     Text(String),
 }
 
-// The first row of each key, counted from 0. A key that is found by its code takes some 20 bytes, and a
+// The first row of each key, counted from 0. A key that is found by its code takes 8 to 30 bytes, and a
 // copy of its cells more than 100, so a key is copied only where an earlier one has its code.
 #[derive(Drop)]
 pub(crate) struct KeyIndex {
     columns: Vec<usize>,
-    first_rows: BTreeMap<u32, u32>,
+    first_rows: CodeMap,
     others: BTreeMap<Vec<KeyCell>, u32>,
 }
 
@@ -63,15 +64,16 @@ fn number_of(place: u32) -> u64
 }
 
 impl KeyIndex {
-    // An index of no row.
+    // An index of no row. Where the table has a key, it has so many slots.
     #[tactic(auto, using(crate::proofs::IndexFacts::indexes_none))]
-    pub(crate) fn new(alloc: Global, shape: &TableShape) -> Result<KeyIndex, Memory>
+    pub(crate) fn new(alloc: Global, shape: &TableShape, slots: usize) -> Result<KeyIndex, Memory>
         ensures { IfOk result (Indexes shape.now []) }
     {
         let columns = key_places(alloc, shape)?;
+        let count = if columns.is_empty() { 0 } else { slots };
         Ok(KeyIndex {
             columns,
-            first_rows: BTreeMap::new(alloc),
+            first_rows: CodeMap::new(alloc, count)?,
             others: BTreeMap::new(alloc),
         })
     }
@@ -119,7 +121,7 @@ impl KeyIndex {
     {
         let place = u32::try_from(rows.len()).map_err(|_| Memory)?;
         let code = self.code_of(row);
-        let Some(first) = self.first_rows.get(&code).copied() else {
+        let Some(first) = self.first_rows.get(code) else {
             self.first_rows.insert(code, place)?;
             return Ok(None);
         };

@@ -2,6 +2,7 @@
 #![tactic(auto)]
 
 mod cells;
+mod code_map;
 mod codes;
 mod keys;
 mod laws;

@@ -1,8 +1,7 @@
-use Rattle.std.proofs.Common.{◌≡◌, length, map, option_map, Some, true, false, arith, refl, sym, ◌∙◌, ◌+◌, [], get_or, slice_get}
+use Rattle.std.proofs.Common.{◌≡◌, length, map, option_map, None, Some, true, false, arith, refl, sym, ◌∙◌, ◌+◌, [], get_or, slice_get}
 use Rattle.std.specs.List.{filter_map}
 use Rattle.std.proofs.lemmas.Grind.{common_steps}
-use Rattle.std.specs.BTreeMap.{get}
-use Rattle.std.specs.Ordering.{nat_cmp}
+use Rattle.table_reader.specs.CodeMaps.{place_under}
 use Rattle.table_reader.specs.FirstRows.{cell_of_key, cells_of_key}
 use Rattle.table_reader.proofs.KeyFacts.{cells_eq, keys_same}
 use Rattle.table_reader.proofs.IndexFacts.{entered_first, told_first, entered_other}
@@ -10,13 +9,15 @@ use Rattle.table_reader.proofs.keys.KeyIndex.enter.Goals as goal
 
 pub returns-in_default : goal.returns-in_default
 returns-in_default c =
-    λ shape index. entered_first shape c.args.rows.now c.args.self.now index c.args.row.now c.code_of-code.result c.code_of-code.ensures _ c.in_ok-place.place
-    (grind (arith, common_steps)) (grind (arith, common_steps)) refl refl c.in_ok-insert.ensures.updates.0
+    λ shape index.
+    let tells : None ≡ place_under c.args.self.now.first_rows c.code_of-code.result = grind (arith, common_steps) in
+    entered_first shape c.args.rows.now c.args.self.now index c.args.row.now c.code_of-code.result c.code_of-code.ensures _ c.in_ok-place.place
+    tells (grind (arith, common_steps)) refl refl (c.in_ok-insert.ensures index.sound (sym tells))
 
 pub returns-then-eq : goal.returns-then-eq
 returns-then-eq c =
     λ shape index.
-    let tells : Some c.in-Some.first ≡ get nat_cmp c.args.self.now.first_rows c.code_of-code.result = grind (arith, common_steps) in
+    let tells : Some c.in-Some.first ≡ place_under c.args.self.now.first_rows c.code_of-code.result = grind (arith, common_steps) in
     let copied : map cell_of_key c.in_ok-first_key.first_key.items ≡ filter_map (slice_get (get_or c.args.rows.now c.in-Some.first [])) c.args.self.now.columns.items
     = rw (sym c.in_ok-first_row.ensures) c.in_ok-first_key.ensures in
     let same : cells_eq (cells_of_key c.in_ok-key.key) (cells_of_key c.in_ok-first_key.first_key) ≡ true
@@ -27,7 +28,7 @@ returns-then-eq c =
 pub returns : goal.returns
 returns c =
     λ shape index.
-    let tells : Some c.in-Some.first ≡ get nat_cmp c.args.self.now.first_rows c.code_of-code.result = grind (arith, common_steps) in
+    let tells : Some c.in-Some.first ≡ place_under c.args.self.now.first_rows c.code_of-code.result = grind (arith, common_steps) in
     let counted : c.in_ok-place.place ≡ length c.args.rows.now = grind (arith, common_steps) in
     let copied : map cell_of_key c.in_ok-first_key.first_key.items ≡ filter_map (slice_get (get_or c.args.rows.now c.in-Some.first [])) c.args.self.now.columns.items
     = rw (sym c.in_ok-first_row.ensures) c.in_ok-first_key.ensures in
