@@ -33,9 +33,6 @@ abbrev mutual
   AvoidsTests ns no_test = Unit {0}
   AvoidsTests ns (test gens conds xs) = AvoidsAll ns conds × AvoidsTests ns xs
 
-numbers_of : Env → List ℕ
-numbers_of e = map (λ b. b.0) e
-
 row_skips : (g : ℕ) (e f r : Env) → Absent g (map (λ b. b.0) f) → row_of g (e ++ (f ++ r)) ≡ row_of g (e ++ r)
 row_skips g [] [] r h = refl
 row_skips g [] (b ∷ f) r h = ap (λ c. cond c b.1 (row_of g (f ++ r))) h.0 ∙ row_skips g [] f r h.1

@@ -3,7 +3,6 @@ use Rattle.std.proofs.Common.{◌≡◌, ℕ, zero, suc, ◌+◌, List, [], ◌�
 use Rattle.std.proofs.lemmas.List.Elements.{filter-append}
 use Rattle.std.proofs.lemmas.List.{map-append}
 use Rattle.std.proofs.Math.Seq.{get_or-append_seam}
-use Rattle.std.proofs.lemmas.Bool.Decides.{Decides-eqb}
 use Rattle.nq_ir.proofs.Fits.{FitsBody, FitsComps, FitsFields}
 use Rattle.nq_ir.specs.Building.{built, element, element_fields}
 use Rattle.nq_ir.specs.Meanings.{Env, Tables, bodies_meaning, body_meaning, comps_meaning, kept, no_cell, value}
@@ -41,9 +40,6 @@ pub get_or_map : {A B : Type 0} (f : A → B) (xs : List A) (n : ℕ) (d : A) �
 get_or_map f [] n d = refl
 get_or_map f (x ∷ xs) zero d = refl
 get_or_map f (x ∷ xs) (suc n) d = get_or_map f xs n d
-
-eq_same : (n : ℕ) → nat_eq n n ≡ true
-eq_same n = (Decides-eqb n n).1 refl
 
 each_append_left : {A : Type 0} (P : A → Type 0) (xs ys : List A) → Each P (xs ++ ys) → Each P xs
 each_append_left P [] ys e = tt

@@ -1,5 +1,5 @@
 -- The parts of a type by which answers go: base parts and inner bags of an element, and bags, which are the paths.
-use Rattle.std.specs.Prelude.{ℕ, ◌+◌, suc, List, [], ◌∷◌, ◌++◌, get_or}
+use Rattle.std.specs.Prelude.{ℕ, ◌+◌, suc, List, [], ◌∷◌, ◌++◌}
 use Rattle.nq_model.specs.Types.{TypeTree, int, bool, text, rec, bag, fun, FieldTypes, none, field}
 
 -- the base parts of an element
@@ -57,7 +57,3 @@ abbrev mutual
   pub element_types_in : FieldTypes → List TypeTree
   element_types_in none = []
   element_types_in (field l a fs) = element_types a ++ element_types_in fs
-
--- the element type at the path with this number, counted from 0; int where there is no such path
-abbrev pub element_number : TypeTree → ℕ → TypeTree
-element_number a q = get_or (element_types a) q int

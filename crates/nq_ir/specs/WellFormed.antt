@@ -30,7 +30,7 @@ table_columns shapes name = columns_or_none (shape_named name shapes)
 abbrev pub column_names : List TableShape → Label → List Label
 column_names shapes name = names_of (table_columns shapes name)
 
--- an integer that a query can spell
+-- a constant that a query can spell: its integers are from 0 to 2^63 - 1
 abbrev pub IsLiteral : Cell → Type 0
 IsLiteral (cell.Int n) = IsNumeral n
 IsLiteral (cell.Bool b) = Unit {0}

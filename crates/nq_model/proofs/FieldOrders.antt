@@ -14,9 +14,6 @@ use Rattle.nq_model.specs.Proper.{labels_of}
 use Rattle.nq_model.proofs.Canonical.{label_order}
 use Rattle.nq_model.specs.declared.table.Schema.{Schema}
 
-is_above : List ℕ → List ℕ → Bool
-is_above l m = is_gt (label_cmp l m)
-
 reversed : (r : Ordering) → is_gt r ≡ true → ordering_reverse r ≡ Less
 reversed Less e = absurd (true≢false (sym e))
 reversed Equal e = absurd (true≢false (sym e))

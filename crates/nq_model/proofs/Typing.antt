@@ -17,10 +17,6 @@ use Rattle.nq_model.specs.declared.table.Schema.{Schema}
 pub one_type : (schema : Schema) (cx : List TypeTree) (t : TermTree) (a b : TypeTree) → HasType schema cx t a → HasType schema cx t b → a ≡ b
 one_type schema cx t a b h k = let e = sym (has_type schema cx t a h) ∙ has_type schema cx t b k in cc
 
--- what a rule's equation says of a type
-is_of : (P : TypeTree → Type 0) (a k : TypeTree) → k ≡ a → P a → P k
-is_of P a k e h = subst P (sym e) h
-
 pub each_get : {A : Type 0} (P : A → Type 0) (xs : List A) (n : ℕ) (x : A) → Each P xs → slice_get xs n ≡ Some x → P x
 each_get P [] n x all e = cc
 each_get P (y ∷ ys) zero x all e = let h : y ≡ x = cc in subst P h all.0

@@ -10,7 +10,8 @@ use crate::text::Label;
 use std::alloc::Global;
 
 impl Term {
-    /// The term under `by` more binders, where the variables below `from` are its own.
+    /// The term under `by` more binders, where the variables below `from` are its own. A variable past
+    /// 2^64 - 1 counts as want of memory: no term in memory has so many binders around it.
     ///
     /// After de Bruijn, "Lambda calculus notation with nameless dummies", Indagationes Mathematicae 1972.
     #[cycle(shift)]

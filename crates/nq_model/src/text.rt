@@ -37,6 +37,7 @@ impl Text {
         Text { text }
     }
 
+    /// The characters, lent to be read.
     pub fn as_str(&self) -> &str
         ensures value { result.now ≡ self.now }
         ensures utf8 { IsUtf8 self.now }
@@ -77,6 +78,7 @@ impl Label {
         })
     }
 
+    /// The characters, lent to be read.
     pub fn as_str(&self) -> &str
         ensures value { result.now ≡ self.now }
         ensures utf8 { IsUtf8 self.now }

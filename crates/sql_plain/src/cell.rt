@@ -57,7 +57,7 @@ fn same_cell(left: &Cell, right: &Cell) -> bool
     }
 }
 
-// Whether the cell is a below b.
+// Whether the left cell is below the right.
 fn below(left: &Cell, right: &Cell) -> bool
     ensures { result ≡ is_lt (cell_cmp left.now right.now) }
 {

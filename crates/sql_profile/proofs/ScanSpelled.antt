@@ -220,9 +220,6 @@ names_by_label columns e =
     subst (λ (l : List (List ℕ)). Each IsWritableName l) (sorted_mapped (λ column. column.0) (λ f g. label_cmp f.0 g.0) label_cmp (λ f g. refl) columns)
     (each_sorted IsWritableName label_cmp (names_of columns) e)
 
-names_many : (columns : Columns) (n : ℕ) → length (names_of (by_label columns)) ≡ n → 1 + length (names_of (by_label columns)) ≤ 2 ^ 64 → 1 + n ≤ 2 ^ 64
-names_many columns n e h = omega (arith, e, h)
-
 -- the scan text of writable names spells the scan tree
 pub scan_spelled : (name : List ℕ) (columns : Columns) → IsWritableName name → Each IsWritableName (names_of columns) → 1 + length (names_of (by_label columns)) ≤ 2 ^ 64
     → (tree : PlacedSql) × Spells First (length (scan_text name columns)) (scan_text name columns) tree × (bare tree ≡ scan_tree name columns)

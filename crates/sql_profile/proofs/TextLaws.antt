@@ -3,7 +3,7 @@ use Rattle.std.proofs.Common.{◌≡◌, ℕ, zero, suc, ◌<◌, ◌≤◌, Boo
 use Rattle.std.specs.Str.{IsUtf8, IsValidUpTo, is_utf8}
 use Rattle.std.proofs.lemmas.Str.{IsUtf8-from_is_utf8, is_utf8-from_IsUtf8, utf8_valid_len-IsUtf8, utf8_valid_len-IsValidUpTo, IsUtf8-nil}
 use Rattle.std.proofs.lemmas.List.{take_all}
-use Rattle.nq_model.specs.OpenLists.{IsFaultAt, Unexpected, Deep}
+use Rattle.nq_model.specs.OpenLists.{Unexpected, Deep}
 use Rattle.nq_model.specs.OpenLists as open_lists
 use Rattle.nq_model.proofs.OpenLists as generic
 use Rattle.sql_profile.specs.Tokens.{Edition, Token, End, place_of, Stuck, NoToken, TooLarge, tokens_of}

@@ -5,7 +5,7 @@ use Rattle.nq_model.specs.declared.term.Binary.TheVariants.{Sub}
 use Rattle.sql_profile.specs.Tokens.{With, As, Union, All, Select, From, Where, RowNumber, Over, Order, By, Not, Exists, Case, When, Then, Else, Stop, Number, Token, Value, Name, Key, Oper, Open, Close, Comma, Dot, Semi, End}
 use Rattle.sql_profile.specs.Grammar.{SourceSyntax, OfSource, SourcesSyntax, OneSource, MoreSources, FromSyntax, NoFrom, HasFrom, NumberingHead, OfRowNumber, ExprSyntax, OfConstant, OfColumn, OfParens, OfMinus, OfNot, OfNotExists, OfCase, OfBinary, QuerySyntax, OneSelect, MoreSelects, SelectSyntax, OfSelect, NoWhere, HasWhere, ItemsSyntax, OneItem, MoreItems, ItemSyntax, OfItem, ValueSyntax, Plain, Numbering, NoKeys, HasKeys, KeyListSyntax, OneKey, MoreKeys, WithSyntax, OfWith, WithListSyntax, OneDef, MoreDefs, WithsSyntax, NoWith, HasWith, NoSemi, HasSemi, TextSyntax, OfText, level, left_level, text_depth}
 use Rattle.nq_model.specs.Machines as machines
-use Rattle.nq_model.specs.Machines.{Outcome, Reached, Faulty}
+use Rattle.nq_model.specs.Machines.{Outcome}
 
 -- What stands before the next part of a list: its opening tokens, or the parts so far and the separator.
 pub data Before : Type 0 where

@@ -13,8 +13,10 @@ use std::hash::Hash;
 ///
 /// After Cheney, Lindley and Wadler, "Query Shredding", SIGMOD 2014.
 pub trait IndexScheme {
+    /// What names a bag.
     type Index: Eq + Hash + Drop;
 
+    /// The scheme that the calls follow.
     ghost scheme: { Self → Scheme Self.Index };
 
     /// The columns of the answer at a path.
@@ -49,7 +51,9 @@ pub trait IndexScheme {
         requires row { RowFits ((scheme self.now).columns path) row.now }
         ensures { IfOk result (λ index. index ≡ (scheme self.now).inner path slot row.now) };
 
+    /// Indexes are compared as their type compares them.
     ghost compares: { (s : Self) (i j : Self.Index) → (scheme s).is i j ≡ Self.Index.Eq.eq i j };
 
+    /// The column of a base part is there and has its type.
     ghost bases_are_typed: { (s : Self) → BasesAreTyped (scheme s) };
 }
