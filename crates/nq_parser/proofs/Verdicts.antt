@@ -80,12 +80,6 @@ pub one_term : (d : ℕ) (text : List ℕ) (t u : PlacedTerm) → Spells d text 
 one_term d text t u a b =
     a.same ∙ ap (λ z. term_of z []) (one_program text d d a.tokens b.tokens a.syntax_tree b.syntax_tree a.cut b.cut a.derived b.derived) ∙ sym b.same
 
-utf8_here : (d : ℕ) (text : List ℕ) (f : Fault) (p q : ℕ) → IsValidUpTo text q → Found d text f p → f ≡ Fault.not_utf8
-utf8_here d text f p q v (of_utf8 e w) = e
-utf8_here d text f p q v (of_stop x e k) = absurd (valid_not_utf8 text q k.0 v)
-utf8_here d text f p q v (of_close g e k) = absurd (valid_not_utf8 text q k.cut.0 v)
-utf8_here d text f p q v (of_wrong w e r k) = absurd (valid_not_utf8 text q k.cut.0 v)
-
 stop_same : (text : List ℕ) (s t : Stop) (p q : ℕ) → StopsAt text s p → StopsAt text t q → (s ≡ t) × (p ≡ q)
 stop_same text s t p q h k =
     let e : ◌≡◌ {A = Result (List Token) (ℕ × Stop)} (Err (p, s)) (Err (q, t)) = sym h.1 ∙ k.1 in

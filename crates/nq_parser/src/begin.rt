@@ -1,7 +1,7 @@
 // A token where an expression begins.
 ghost use Rattle.std.specs.Prelude.{◌≡◌, [], cond, leb, Some, None};
 ghost use Rattle.nq_model.specs.QueryGrammar.{First, IsIf};
-ghost use Rattle.nq_model.specs.QueryTokens.{Closing, Colon, Sign, Word};
+ghost use Rattle.nq_model.specs.QueryTokens.{Closing, Colon, Sign};
 ghost use Rattle.nq_parser.specs.Machine.{asks, asks_of, begin_word, start, start_prefix, start_word};
 ghost use Rattle.nq_parser.specs.Stacks.{frames};
 ghost use Rattle.nq_parser.specs.Forms.{form_view};

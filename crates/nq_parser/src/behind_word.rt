@@ -1,6 +1,6 @@
 // A token behind `(` and a word, which may be a label.
 ghost use Rattle.nq_model.specs.QueryGrammar.{First, kind};
-ghost use Rattle.nq_parser.specs.Machine.{at_word, no_label, start};
+ghost use Rattle.nq_parser.specs.Machine.{at_word, no_label};
 ghost use Rattle.nq_parser.specs.Stacks.{frames};
 ghost use Rattle.nq_parser.specs.States.{Steps};
 ghost use Rattle.query_syntax.specs.Symbols.{token_view};

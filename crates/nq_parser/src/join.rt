@@ -1,6 +1,5 @@
 // Whole forms of their parts.
 ghost use Rattle.std.specs.Prelude.{◌≡◌, IfOk};
-ghost use Rattle.nq_model.specs.QueryGrammar.{Bag, Empty, Field, Paren};
 ghost use Rattle.nq_parser.specs.Forms.{form_view, head_view, part_view, type_head_view};
 ghost use Rattle.nq_parser.specs.Machine.{joined, put_field, put_type};
 ghost use Rattle.query_syntax.specs.Trees.{fields as record_fields, named, type_fields, type_view, typed};

@@ -1,5 +1,5 @@
 // The unfinished forms, and how deep the program is in which they stand.
-ghost use Rattle.std.specs.Prelude.{◌≡◌, length, IfOk, ◌∷◌, [], max};
+ghost use Rattle.std.specs.Prelude.{◌≡◌, length, IfOk, ◌∷◌, []};
 ghost use Rattle.nq_parser.specs.Forms.{form_view, held, held_types, needs, needs_types};
 ghost use Rattle.nq_parser.specs.Stacks.{frames, marks, needed, Popped, TakenBag, TakenParen, TopIs};
 

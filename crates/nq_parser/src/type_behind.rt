@@ -1,6 +1,6 @@
 // A token behind a whole type.
 ghost use Rattle.std.specs.Prelude.{◌≡◌, IfOk};
-ghost use Rattle.nq_model.specs.QueryGrammar.{Nil, TBag, TParen, TRec};
+ghost use Rattle.nq_model.specs.QueryGrammar.{TBag, TParen, TRec};
 ghost use Rattle.nq_model.specs.QueryTokens.{Closing, ClosingBag, Comma, Sign};
 ghost use Rattle.nq_parser.specs.Forms.{around_view, type_head_view};
 ghost use Rattle.nq_parser.specs.Machine.{after_around, after_type, put_type};

@@ -1,5 +1,5 @@
 // The unfinished forms of a type, and how deep the type is in which they stand.
-ghost use Rattle.std.specs.Prelude.{◌≡◌, length, IfOk, ◌∷◌, [], max};
+ghost use Rattle.std.specs.Prelude.{◌≡◌, length, IfOk, ◌∷◌, []};
 ghost use Rattle.nq_parser.specs.Forms.{type_form_view, type_held, type_needs};
 ghost use Rattle.nq_parser.specs.TypeStacks.{PoppedType, TakenTypeParen, TypeTopIs, type_frames, type_marks, type_needed};
 

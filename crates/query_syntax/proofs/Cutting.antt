@@ -29,10 +29,6 @@ taken m n t h k = record { moves = (h, k) }
 stopped : (m : ℕ) (f : Stop) → Moving m (Stops f)
 stopped m f = record { moves = tt }
 
-and_first : (a b : Bool) → (a && b) ≡ true → a ≡ true
-and_first true b e = refl
-and_first false b e = e
-
 and_second : (a b : Bool) → (a && b) ≡ true → b ≡ true
 and_second true b e = e
 and_second false b e = absurd (cc)

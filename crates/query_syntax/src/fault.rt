@@ -22,7 +22,7 @@ pub enum SyntaxFault {
     Deep { place: u64 },
     #[error("the variable at byte {place} is bound nowhere")]
     Unbound { place: u64 },
-    #[error("the label at byte {place} stands earlier in the same record")]
+    #[error("the label at byte {place} stands earlier in the same record or record type")]
     TwiceLabel { place: u64 },
 }
 

@@ -18,7 +18,9 @@ use std::collections::BTreeSet;
 
 /// The term of a syntax tree, in which the index of a variable is how many binders stand inside its own.
 /// `Unbound` or `TwiceLabel` at the first variable in the text that has no binder, or label that stands
-/// earlier in the same record; `Memory` where there is too little memory.
+/// earlier in the same record or record type; `Memory` where there is too little memory, or the tree is one
+/// that no text spells: a `Rec` without fields, or a literal whose quotes are not in twos so that no UTF-8
+/// is left.
 ///
 /// After de Bruijn, "Lambda calculus notation with nameless dummies", Indagationes Mathematicae 1972.
 #[tactic(auto, using(crate::proofs::Lowering::whole_walk))]

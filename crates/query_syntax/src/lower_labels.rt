@@ -18,7 +18,8 @@ fn add(alloc: Global, labels: &mut BTreeSet<String>, label: &str) -> Result<bool
     Ok(labels.insert(name)?)
 }
 
-/// Adds the label of a field; one that is there already is a fault.
+/// Adds the label of a field: `TwiceLabel` at one that is there already; `Memory` where there is too little
+/// memory.
 pub fn put(
     alloc: Global,
     labels: &mut BTreeSet<String>,

@@ -16,13 +16,14 @@ fn undoubled(alloc: Global, spelled: &[u8]) -> Result<Vec<u8>, Memory>
             kept = false;
         } else {
             bytes.push(*byte)?;
-            kept = *byte == 39;
+            kept = *byte == b'\'';
         }
     }
     Ok(bytes)
 }
 
 /// The text that a literal spells. A literal that was read has its quotes in twos, so its text is UTF-8.
+/// `Memory` where there is too little memory, or the quotes are not in twos so that no UTF-8 is left.
 pub fn literal(alloc: Global, spelled: &str) -> Result<Text, Memory>
     ensures { IfOk result (λ text. text ≡ undoubled false spelled.now) }
 {

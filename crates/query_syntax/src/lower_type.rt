@@ -14,7 +14,8 @@ use std::alloc::Global;
 use std::collections::BTreeSet;
 
 /// The type that is written, in which the fields of a record stand in the byte order of their labels.
-/// `TwiceLabel` at the first label that stands earlier in the same record type.
+/// `TwiceLabel` at the first label that stands earlier in the same record type; `Memory` where there is too
+/// little memory, or a `Rec` has no fields.
 #[cycle(lower_type)]
 #[tactic(auto, using(nq_model::proofs::Terms::type_of_record))]
 pub fn lower_type(alloc: Global, syntax: TypeSyntax) -> Result<Ty, SyntaxFault>

@@ -1,5 +1,5 @@
-//! Worked schema texts, query texts and programs, with what they are read as: tests alone, over the calls that
-//! are checked elsewhere.
+//! Worked schema texts, table texts, query texts and programs, with what they are read as: tests alone, over
+//! the calls that are checked elsewhere.
 #![tactic(auto)]
 
 #[cfg(test)]

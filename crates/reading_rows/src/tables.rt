@@ -1,4 +1,4 @@
-// What texts give, and how they are refused.
+// Table texts with the rows that they give, or with their first fault, worked out by hand.
 use nq_model::{CellRef, ColumnType, Label, List, Table, TableShape};
 use std::alloc::{AllocError, Global};
 use std::test::Fail;
