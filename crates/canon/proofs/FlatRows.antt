@@ -121,12 +121,6 @@ pub cells_step : (ls rs : List Cell) (column end : ℕ) (l r : Cell) → column 
 cells_step ls rs column end l r below left right l_is r_is =
     ap₂ (slice_cmp cell_cmp) (range_step ls column end l below left l_is) (range_step rs column end r below right r_is)
 
--- two ranges of cells that end where they begin
-pub cells_none : (ls rs : List Cell) (column end : ℕ) → end ≤ column → slice_cmp cell_cmp (slice_range ls column end) (slice_range rs column end) ≡ Equal
-cells_none ls rs column end past =
-    let none : end - column ≡ 0 = omega arith in
-    ap (λ (n : ℕ). slice_cmp cell_cmp (take n (drop column ls)) (take n (drop column rs))) none
-
 settled : (names : List (List ℕ)) (cells : List Cell) → map (λ f. (f.0, canonical f.1)) (zip names (map base cells)) ≡ zip names (map base cells)
 settled [] cells = refl
 settled (n ∷ ns) [] = refl

@@ -4,7 +4,7 @@ use borrow.Rule.Slice.PartMut.{mid_of, post_of, put_mid, same_len_mid}
 use Rattle.std.proofs.lemmas.Bool.{cases_lt}
 use Rattle.std.proofs.lemmas.List.{length-map, get_or-map, take-map, drop-map, map-append, get_or_append_left, get_or-append_right, get_or-take, get_or-drop, get_or_default, length-take-le, drop-drop}
 use Rattle.std.proofs.lemmas.List.Elements.{All-map}
-use Rattle.std.proofs.lemmas.List.Sorted.{All-permutation, IsPermutation-refl, IsPermutation-trans, IsPermutation-put_mid, length_permutation, sorted_far, ranks_by}
+use Rattle.std.proofs.lemmas.List.Sorted.{All-permutation, IsPermutation-trans, IsPermutation-put_mid, length_permutation, sorted_far, ranks_by}
 use Rattle.std.proofs.lemmas.Slice.{drop-put_mid}
 use Rattle.std.specs.List.{All}
 use Rattle.std.specs.List.Sorted.{IsSorted, IsSortedBy, IsSortedWithin}
@@ -17,7 +17,7 @@ use Rattle.nq_model.specs.Cells.{cell_cmp}
 use Rattle.nq_model.specs.declared.table.Cell.{Cell}
 use Rattle.nq_model.proofs.Canonical.{cell_order}
 use Rattle.canon.specs.declared.ranks.Ranked.{Ranked}
-use Rattle.canon.specs.Ranks.{AreRanked, cell_at, kind_number, rank_cmp, ranked_at}
+use Rattle.canon.specs.Ranks.{cell_at, kind_number, rank_cmp, ranked_at}
 use Rattle.canon.specs.Rows.{cells_cmp, row_at}
 use Rattle.canon.specs.Runs.{AreInOrder, HaveCells, HaveOneCell, HaveOneRank, places_of}
 use Rattle.canon.proofs.FlatRows.{cells_step, not_turned, then_equal}
@@ -66,17 +66,6 @@ module _ {X P K : Type 0} (place : X → P) (digit : P → K) (cmp : K → K →
     pub digits : (k : ℕ) (d : X) → at (get_or now k d) ≡ at (get_or before k d)
     pub sorted : IsSortedWithin lt now 0 s
     pub apart : (d : X) → 0 < s → s < length before → cmp (at (get_or before (s - 1) d)) (at (get_or before s d)) ≡ Less
-
-  pub refined_none : (before : List X) → RefinedBy before before 0
-  refined_none before = record {
-    within = omega arith;
-    long = refl;
-    moved = IsPermutation-refl (map place before);
-    ahead = refl;
-    digits = λ k d. refl;
-    sorted = λ k d low h. absurd (omega (arith, h));
-    apart = λ d h. absurd (omega (arith, h));
-  }
 
   module _ (Full : P → Type 0) (follows : (x y : X) → Full (place x) → Full (place y) → cmp (at x) (at y) ≡ Less → lt y x ≡ false) (before now run : List X) (s t : ℕ) (c : K)
       (full : All (λ x. Full (place x)) before) (r : RefinedBy before now s) (some : s < t) (most : t ≤ length now)
@@ -238,12 +227,6 @@ module _ (rows : List (List Cell)) (column end : ℕ) where
     pub prefix : List ℕ
     pub ranked : All (IsRanked prefix) before
     pub state : RefinedBy (λ (r : Ranked). r.place) (rank_at prefix) by_rank by_cells before now start
-
-  pub refined_first : (before : List Ranked) → AreRanked rows column before → Refined before before 0
-  refined_first before known = record { prefix = known.0; ranked = known.1; state = refined_none (λ (r : Ranked). r.place) (rank_at known.0) by_rank by_cells before }
-
-  pub refined_last : (before now : List Ranked) (start : ℕ) → Refined before now start → length now ≤ start → AreInOrder rows column end now
-  refined_last before now start r past k d low h = r.state.sorted k d low (omega arith)
 
   above_only : (q r : Ordering) → r ≡ ordering_reverse q → is_lt r ≡ false → (q ≡ Equal → ⊥) → q ≡ Less
   above_only Less r e low apart = refl

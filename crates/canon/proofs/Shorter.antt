@@ -6,10 +6,9 @@ use Rattle.std.specs.Ordering.{nat_cmp}
 use Rattle.std.specs.Cmp.{nat_cmp_is}
 use Rattle.std.specs.Cmp.Lexicographic.{slice_cmp}
 use Rattle.nq_model.specs.Orders.{label_cmp}
-use Rattle.nq_model.specs.Values.{nested, fields_of, bag_of, labels}
+use Rattle.nq_model.specs.Values.{nested, fields_of, bag_of, labels, fields_view}
 use Rattle.nq_model.specs.Canonical.{value_cmp, fields_cmp}
 use Rattle.nq_model.specs.declared.value.Value.{Value}
-use Rattle.canon.specs.Trees.{fields_view}
 
 less : (n : ℕ) → Less ≡ nat_cmp 0 (suc n)
 less n = nat_cmp_is 0 (suc n) Less (omega arith)

@@ -2,10 +2,9 @@
 use Rattle.std.proofs.Common.{◌≡◌, ◌≢◌, ℕ, zero, suc, ◌+◌, ◌<◌, List, [], ◌∷◌, ◌++◌, map, refl, sym, ap, ◌∙◌, cond, eqb, length, take, get_or, arith, append_assoc, codes, inl, inr}
 use Rattle.std.proofs.lemmas.List.{take_more, map-append}
 use Rattle.std.proofs.lemmas.Bool.Decides.{eqb_tells}
-use Rattle.nq_model.specs.Values.{Nested, nested, fields_of, elements_of}
+use Rattle.nq_model.specs.Values.{Nested, nested, fields_of, elements_of, fields_view}
 use Rattle.nq_model.specs.Canonical.{doubled_quotes, written, written_fields, written_elements}
 use Rattle.nq_model.specs.declared.value.Value.{Value}
-use Rattle.canon.specs.Trees.{fields_view}
 use Rattle.canon.specs.Texts.{separator}
 
 -- the text after start grows by a separator and an item

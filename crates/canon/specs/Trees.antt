@@ -1,12 +1,7 @@
 -- Values of the program as trees.
-use Rattle.std.specs.Prelude.{ℕ, List, map}
-use Rattle.nq_model.specs.Values.{Nested, base, rec, bag, nested}
+use Rattle.std.specs.Prelude.{ℕ}
+use Rattle.nq_model.specs.Values.{Nested, base, rec, bag}
 use Rattle.nq_model.specs.declared.table.Cell.TheVariants as cell
-use Rattle.nq_model.specs.declared.value.Value.{Value}
-
--- each field's label and tree
-abbrev pub fields_view : List (List ℕ × Value) → List (List ℕ × Nested)
-fields_view fields = map (λ f. (f.0, nested f.1)) fields
 
 -- the place of a value's kind in the canonical order
 abbrev pub kind_place : Nested → ℕ

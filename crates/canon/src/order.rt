@@ -2,9 +2,9 @@
 ghost use Rattle.std.specs.Prelude.{◌≡◌, map};
 ghost use Rattle.std.specs.Cmp.Lexicographic.{slice_cmp};
 ghost use Rattle.nq_model.specs.Orders.{label_cmp};
-ghost use Rattle.nq_model.specs.Values.{nested, rec_of, bag_of, fields_of, labels};
+ghost use Rattle.nq_model.specs.Values.{nested, rec_of, bag_of, fields_of, labels, fields_view};
 ghost use Rattle.nq_model.specs.Canonical.{value_cmp, fields_cmp};
-ghost use Rattle.canon.specs.Trees.{fields_view, kind_place};
+ghost use Rattle.canon.specs.Trees.{kind_place};
 
 use nq_model::{Label, Value};
 use std::cmp::Ordering;

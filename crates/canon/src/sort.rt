@@ -1,9 +1,8 @@
 // The canonical form.
 ghost use Rattle.std.specs.Prelude.{◌≡◌, IfOk, map};
 ghost use Rattle.nq_model.specs.Orders.{sorted_by};
-ghost use Rattle.nq_model.specs.Values.{nested};
+ghost use Rattle.nq_model.specs.Values.{nested, fields_view};
 ghost use Rattle.nq_model.specs.Canonical.{canonical, value_cmp};
-ghost use Rattle.canon.specs.Trees.{fields_view};
 
 use crate::order::compare;
 use nq_model::{Label, List, Memory, Value};

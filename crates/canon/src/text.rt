@@ -1,9 +1,8 @@
 // The canonical text.
 ghost use Rattle.std.specs.Prelude.{◌≡◌, ◌++◌, IfOk, OnOk, map, codes, string_bytes};
-ghost use Rattle.nq_model.specs.Values.{nested, rec_of, bag_of};
+ghost use Rattle.nq_model.specs.Values.{nested, rec_of, bag_of, fields_view};
 ghost use Rattle.nq_model.specs.Canonical.{canonical_text, cell_text, written};
 ghost use Rattle.nq_model.specs.declared.table.Cell.TheVariants as cell;
-ghost use Rattle.canon.specs.Trees.{fields_view};
 ghost use Rattle.canon.specs.Sorted.{IsSortedDeep};
 ghost use Rattle.canon.specs.Texts.{separator};
 

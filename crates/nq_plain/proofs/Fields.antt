@@ -30,15 +30,6 @@ belongs_here l v (f ∷ fs) zero x e h k =
 belongs_here l v (f ∷ fs) (suc i) x e h k =
     ap (λ (zs : List (List ℕ × Nested)). (f.0, nested f.1) ∷ zs) (belongs_here l v fs i x e (omega (arith, h)) k)
 
--- or at the end
-pub belongs_last : (l : List ℕ) (v : Nested) (fs : List (List ℕ × Value)) (i : ℕ) → length fs ≤ i
-    → insert (fields_view fs) (length fs) (l, v) ≡ take i (fields_view fs) ++ put_field l v (drop i (fields_view fs))
-belongs_last l v [] zero h = refl
-belongs_last l v [] (suc i) h = refl
-belongs_last l v (f ∷ fs) zero h = absurd (omega (arith, h))
-belongs_last l v (f ∷ fs) (suc i) h =
-    ap (λ (zs : List (List ℕ × Nested)). (f.0, nested f.1) ∷ zs) (belongs_last l v fs i (omega (arith, h)))
-
 -- what is seen of fields with one more
 pub inserted_view : (fs : List (List ℕ × Value)) (i : ℕ) (f : List ℕ × Value) → fields_view (insert fs i f) ≡ insert (fields_view fs) i (f.0, nested f.1)
 inserted_view [] zero f = refl

@@ -1,8 +1,8 @@
 -- A row's cells beside their labels, and the table of a name.
-use Rattle.std.proofs.Common.{◌≡◌, ℕ, zero, suc, ◌<◌, ◌≤◌, min, List, [], ◌∷◌, true, false, cond, drop, length, get_or, map, zip, refl, ap, sym, ◌∙◌, arith, bytes_eq}
+use Rattle.std.proofs.Common.{◌≡◌, ℕ, zero, suc, ◌<◌, ◌≤◌, min, List, [], ◌∷◌, false, cond, drop, length, get_or, map, zip, refl, ap, sym, ◌∙◌, arith, bytes_eq}
 use Rattle.std.specs.Prelude.{find, Some}
 use Rattle.nq_model.specs.Databases.{FilledTable, database, rows_value, table_meaning, filled}
-use Rattle.nq_model.specs.Tables.{names_of, table_value}
+use Rattle.nq_model.specs.Tables.{names_of}
 use Rattle.nq_model.specs.Values.{Nested, base}
 use Rattle.nq_model.specs.declared.table.Cell.{Cell}
 use Rattle.nq_model.specs.declared.table.ColumnType.{ColumnType}
@@ -36,17 +36,6 @@ table_later [] tables name i s h k e f = absurd (omega (arith, h))
 table_later (x ∷ shapes) [] name i s h k e f = absurd (omega (arith, k))
 table_later (x ∷ shapes) (t ∷ tables) name zero s h k e f = let g : bytes_eq x.name name ≡ false = ap (λ (z : TableShape). bytes_eq z.name name) (sym e) ∙ f in sym (ap (λ b. rows_value (cond b (Some (filled x t.rows)) (find (λ (z : FilledTable). bytes_eq z.name name) (database shapes tables)))) g)
 table_later (x ∷ shapes) (t ∷ tables) name (suc i) s h k e f = table_later shapes tables name i s (omega (arith, h)) (omega (arith, k)) e f
-
-pub table_here : (shapes : List TableShape) (tables : List Table) (name : List ℕ) (i : ℕ) (s : TableShape) (t : Table) → i < length shapes → i < length tables → s ≡ get_or shapes i s → t ≡ get_or tables i t
-    → bytes_eq s.name name ≡ true → table_value s.columns t.rows ≡ table_meaning (database (drop i shapes) (drop i tables)) name
-table_here [] tables name i s t h k e g f = absurd (omega (arith, h))
-table_here (x ∷ shapes) [] name i s t h k e g f = absurd (omega (arith, k))
-table_here (x ∷ shapes) (y ∷ tables) name zero s t h k e g f =
-    let test : bytes_eq x.name name ≡ true = ap (λ (z : TableShape). bytes_eq z.name name) (sym e) ∙ f in
-    ap (λ (z : TableShape). table_value z.columns t.rows) e
-    ∙ ap (λ (z : Table). table_value x.columns z.rows) g
-    ∙ sym (ap (λ b. rows_value (cond b (Some (filled x y.rows)) (find (λ (z : FilledTable). bytes_eq z.name name) (database shapes tables)))) test)
-table_here (x ∷ shapes) (y ∷ tables) name (suc i) s t h k e g f = table_here shapes tables name i s t (omega (arith, h)) (omega (arith, k)) e g f
 
 no_tables : (shapes : List TableShape) (i : ℕ) → database shapes (drop i []) ≡ []
 no_tables [] i = refl

@@ -8,7 +8,7 @@ ghost use Rattle.nq_model.specs.Values.{nested, base};
 use nq_model::{Binary, Cell, Unary, Value};
 use std::cmp::Ordering;
 
-// The value of a base type that a value is; another counts as false.
+/// The value of a base type that a value is, as a cell; another value counts as false.
 pub fn cell_in(value: Value) -> Cell
     ensures { result ≡ cell_of (nested value) }
 {
@@ -21,7 +21,7 @@ pub fn cell_in(value: Value) -> Cell
     }
 }
 
-// A cell as a value.
+/// A cell as a value.
 pub fn value_of(cell: Cell) -> Value
     ensures { nested result ≡ base cell }
 {
@@ -32,6 +32,7 @@ pub fn value_of(cell: Cell) -> Value
     }
 }
 
+/// Whether a cell is true; one that is no truth value counts as false.
 pub fn is_true(cell: &Cell) -> bool
     ensures { result ≡ is_true cell.now }
 {

@@ -6,7 +6,7 @@ ghost use Rattle.nq_model.specs.Values.{nested};
 use nq_model::{List, Memory, Value};
 use std::alloc::Global;
 
-// The elements of a bag; another value counts as one without elements.
+/// The elements of a bag; another value counts as one without elements.
 #[tactic(auto, using(nq_model::proofs::Trees::nested_bag, crate::proofs::Bags::elements_back))]
 pub fn elements_in(alloc: Global, value: Value) -> List<Value>
     ensures { map nested result ≡ elements_in (nested value) }
@@ -20,7 +20,8 @@ pub fn elements_in(alloc: Global, value: Value) -> List<Value>
     }
 }
 
-// Moves values behind those that are there.
+/// Moves values behind those that are there. The only error is that memory wants; some of the values may have
+/// been moved then.
 pub fn append(all: &mut List<Value>, more: List<Value>) -> Result<(), Memory>
     ensures { OnOk result (all.new ≡ all.old ++ more) }
 {

@@ -15,7 +15,7 @@ use nq_model::{Label, List, Memory, Node, Schema, Table, Term, Value};
 use std::alloc::Global;
 
 /// What a plain term means over the tables of a schema, where the variables have these values. A term
-/// that is not typed has a value too, which means nothing.
+/// that is not typed has a value too, which means nothing. The only error is that memory wants.
 #[cycle(evaluate)]
 pub fn evaluate(
     alloc: Global,

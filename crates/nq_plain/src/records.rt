@@ -20,7 +20,7 @@ fn place_of(fields: &[(Label, Value)], label: &str) -> usize
     fields.len()
 }
 
-// Puts a field into a record, in the byte order of the labels.
+/// Puts a field into a record, in the byte order of the labels. The only error is that memory wants.
 pub fn put_field(
     fields: List<(Label, Value)>,
     label: Label,
@@ -46,7 +46,8 @@ fn value_under(alloc: Global, fields: &[(Label, Value)], label: &str) -> Result<
     Ok(Value::Bool(false))
 }
 
-// A copy of a record's field.
+/// A copy of a record's field. A field that is not there counts as false, as does one of another value. The only
+/// error is that memory wants.
 #[tactic(auto, using(nq_model::proofs::Trees::nested_record))]
 pub fn field_in(alloc: Global, of: &Value, label: &str) -> Result<Value, Memory>
     ensures { IfOk result (λ value. nested value ≡ field_in label.now (nested of.now)) }

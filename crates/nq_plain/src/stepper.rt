@@ -26,7 +26,7 @@ pub fn unfold_by_steps(alloc: Global, term: Term) -> Result<Term, Memory>
 }
 
 /// One step of unfolding: the first contractible node in post-order is contracted. Where there is none,
-/// the term stays.
+/// the term stays. The only error is that memory wants; a variable past 2^64 - 1 counts as that too.
 #[cycle(step)]
 pub fn step(alloc: Global, term: Term) -> Result<Stepped, Memory>
     ensures { IfOk result (λ s. Tells (step (placed term)) s.moved (placed term) (placed s.term)) }

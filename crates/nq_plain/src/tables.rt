@@ -36,7 +36,8 @@ fn table_value(alloc: Global, columns: &[(Label, ColumnType)], rows: &Rows) -> R
     Ok(Value::Bag(records))
 }
 
-// What `table name` means over the tables of a schema.
+/// What `table name` means over the tables of a schema: the bag of the rows of the first table of that name, as
+/// records, and an empty bag where there is none. The only error is that memory wants.
 pub fn table_meaning(
     alloc: Global,
     schema: &Schema,

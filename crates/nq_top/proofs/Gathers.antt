@@ -213,12 +213,6 @@ refused_at_once (Some files) words old is = λ reading.
     let P : Judgement → Type 0 = λ j. Judges j (refused Usage) old old in
     subst P (sym whole) (record { comes_to = refl; fetched = tells_nothing old old refl })
 
--- want of memory before anything was fetched
-pub no_memory : (held : Option Files) (words : List (List ℕ)) (old : Told)
-    → IfSome held (λ files. (reading : Reading) → GatherTells (judgement reading words files) old old (Err input.Memory))
-no_memory None words old = tt
-no_memory (Some files) words old = λ reading. record { front = []; back = (judgement reading words files).names; all = refl; fetched = tells_nothing old old refl }
-
 -- one more table was read
 pub can_gather_more : (done : List Loaded) (shape : TableShape) (shapes : List TableShape) (asked : ℕ) (rows : List (List Cell))
     → CanGather done (shape ∷ shapes) asked → All (RowFits (types_of shape.columns)) rows → CanGather (done ++ loaded_as shape rows ∷ []) shapes asked

@@ -1,7 +1,7 @@
 -- What an honest answer to a scan text stands for.
-use Rattle.std.proofs.Common.{◌≡◌, ◌<◌, ◌+◌, ℕ, zero, suc, List, [], ◌∷◌, length, map, filter, get_or, zip, pos, refl, sym, ap, ap₂, ◌∙◌, subst, arith, All}
+use Rattle.std.proofs.Common.{◌≡◌, ◌<◌, ℕ, zero, suc, List, [], ◌∷◌, length, map, filter, get_or, zip, pos, refl, sym, ap, ap₂, ◌∙◌, subst, arith, All}
 use Rattle.std.proofs.lemmas.List.{length-map}
-use Rattle.std.proofs.lemmas.List.Elements.{All-head, All-tail, All-weaker}
+use Rattle.std.proofs.lemmas.List.Elements.{All-head, All-tail}
 use Rattle.std.proofs.lemmas.Simd.{map-map}
 use Rattle.nq_model.specs.Bags.{Reordered}
 use Rattle.nq_model.specs.Cells.{column_type_of, RowFits}
@@ -17,7 +17,7 @@ use Rattle.nq_model.proofs.Bags.{matched_map, matched_filter}
 use Rattle.nq_model.proofs.Canonical.{canonical_same}
 use Rattle.nq_model.proofs.Orders.{by_label_arranged, pair_at}
 use Rattle.nq_model.proofs.Sameness.{same_bag, same_refl}
-use Rattle.sql_profile.specs.Scans.{scan_row, scan_types}
+use Rattle.sql_profile.specs.Scans.{scan_row}
 use Rattle.nq_top.specs.Meanings.{is_top, element_of, answer_value}
 
 got_map : {A B : Type 0} (f : A → B) (xs : List A) (i : ℕ) (d : A) → get_or (map f xs) i (f d) ≡ f (get_or xs i d)
@@ -95,19 +95,6 @@ unfolding answer_value
 allowed_value columns rows answer fit m =
     sym (canonical_same (answer_value (names_of (by_label columns)) (map (scan_row (names_of columns)) rows)) (answer_value (names_of (by_label columns)) answer) (reordered_value (names_of (by_label columns)) (map (scan_row (names_of columns)) rows) answer m))
     ∙ ap (λ (vs : List Nested). canonical (bag_of vs)) (elements_are columns rows fit)
-
--- rows that fit have two cells more than there are labels
-pub fit_wide : (columns : Columns) (rows : List (List Cell)) → All (RowFits (scan_types columns)) rows
-    → All (λ row. length row ≡ length (names_of (by_label columns)) + 2) rows
-fit_wide columns rows fit =
-    All-weaker (RowFits (scan_types columns)) (λ row. length row ≡ length (names_of (by_label columns)) + 2) (λ row f. wide row f) rows fit
-  where
-    two : (n m : ℕ) → n ≡ suc (suc m) → n ≡ m + 2
-    two n m e = omega arith
-
-    wide : (row : List Cell) → RowFits (scan_types columns) row → length row ≡ length (names_of (by_label columns)) + 2
-    wide row f =
-        two (length row) (length (names_of (by_label columns))) (sym (length-map row column_type_of) ∙ ap length f ∙ ap (λ n. suc (suc n)) (length-map (by_label columns) (λ c. c.1) ∙ sym (length-map (by_label columns) (λ c. c.0))))
 
 -- the label of a column that is there
 pub label_there : (columns : Columns) (place : ℕ) (c : List ℕ × ColumnType) → place < length columns → c ≡ get_or columns place c → label_at (names_of columns) place ≡ c.0

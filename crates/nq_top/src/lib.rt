@@ -1,4 +1,4 @@
-//! The top call.
+//! The top calls: a whole run, with its note line and its status.
 #![tactic(auto)]
 
 mod answer;

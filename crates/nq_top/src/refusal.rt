@@ -74,17 +74,6 @@ impl From<Memory> for ServerRefusal {
     }
 }
 
-impl From<InputRefusal> for Refusal {
-    ghost use Rattle.std.specs.Prelude.{◌≡◌};
-    ghost use Rattle.nq_top.specs.declared.refusal.Refusal.TheVariants as refusal;
-
-    ghost from_gives = { λ given e. e ≡ refusal.Input given };
-
-    fn from(given: InputRefusal) -> Refusal {
-        Refusal::Input(given)
-    }
-}
-
 impl From<ServerRefusal> for Refusal {
     ghost use Rattle.std.specs.Prelude.{◌≡◌};
     ghost use Rattle.nq_top.specs.declared.refusal.Refusal.TheVariants as refusal;

@@ -30,8 +30,9 @@ pub fn read(alloc: Global, text: &str) -> Result<Term, Memory> {
     parse(alloc, text.as_bytes(), 200).map_err(|_| Memory)
 }
 
-/// The term, where each function that is applied on the spot under a `for` is a `let` in its place, which no text
-/// spells there.
+/// The term, where a function that is applied on the spot is a `let` in its place: at the head of the term, and at the
+/// head of the body of a `for` or of such a function, where no text spells one. Another application at such a place
+/// is an error.
 #[cycle(with_lets)]
 pub fn with_lets(alloc: Global, term: Term) -> Result<Term, Memory> {
     let Term { place, node } = term;

@@ -1,5 +1,5 @@
-//! Worked queries, with the terms to which they unfold and with what they mean over tables: tests alone, over the
-//! calls that are checked elsewhere.
+//! Worked queries, with the terms to which they unfold and with what they mean over tables, and values with their
+//! canonical texts: tests alone, over the calls that are checked elsewhere.
 #![tactic(auto)]
 
 #[cfg(test)]

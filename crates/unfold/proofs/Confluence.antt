@@ -7,12 +7,12 @@ use Rattle.nq_model.specs.Types.{TypeTree}
 use Rattle.nq_model.specs.declared.term.Unary.{Unary}
 use Rattle.nq_model.specs.declared.term.Binary.{Binary}
 use Rattle.nq_model.specs.Terms.{PlacedTerm, PlacedNode, PlacedFields, at, bare, bare_fields}
-use Rattle.nq_model.specs.Substitution.{shift, subst}
-use Rattle.nq_model.specs.Unfolding.{picked, contract_apply, contract_field, step, Chain, Steps, Unfolds}
+use Rattle.nq_model.specs.Substitution.{subst}
+use Rattle.nq_model.specs.Unfolding.{contract_apply, contract_field, step, Chain, Steps, Unfolds}
 use Rattle.unfold.specs.Contractions.{Closure, Contracts, Contractions}
 use Rattle.unfold.proofs.Still.{Still, AreStill}
 use Rattle.unfold.proofs.Shifts.{both, all}
-use Rattle.unfold.proofs.Developments.{Develops, FieldsDevelop, develops_same, fields_same, develops_shift, develops_subst, apply_develops, field_develops}
+use Rattle.unfold.proofs.Developments.{Develops, FieldsDevelop, develops_same, fields_same, develops_subst, apply_develops, field_develops}
 use Rattle.unfold.proofs.Closures.{join, around, around_two, around_three}
 use Rattle.unfold.proofs.Contractions.{step_contracts, no_apply, no_field, ended_still, contracts_develops, develops_contractions}
 
@@ -229,30 +229,12 @@ reduce_none = Closure.here
 pub reduce_with_field : {l : List ℕ} {t x : PlacedTerm} {fs gs : PlacedFields} → Reduces t x → ReduceFields fs gs → ReduceFields (PlacedFields.with_field l t fs) (PlacedFields.with_field l x gs)
 reduce_with_field {l = l} r q = around_two Develops FieldsDevelop FieldsDevelop (PlacedFields.with_field l) (λ s o i h. FieldsDevelop.with_field h (fields_same i)) (λ i s o h. FieldsDevelop.with_field (develops_same i) h) r q
 
-pub reduces_shift : (d c : ℕ) {t u : PlacedTerm} → Reduces t u → Reduces (shift d c t) (shift d c u)
-reduces_shift d c r = around Develops Develops (shift d c) (λ s o h. develops_shift d c h) r
-
-pub reduces_subst : (c : ℕ) {s r t u : PlacedTerm} → Reduces s r → Reduces t u → Reduces (subst c s t) (subst c r u)
-reduces_subst c q w = around_two Develops Develops Develops (subst c) (λ s o i h. develops_subst h c (develops_same i)) (λ i s o h. develops_subst (develops_same i) c h) q w
-
 -- contracting a node
 pub contracts_apply : {p : ℕ} {f a u : PlacedTerm} → contract_apply p f a ≡ Some u → Reduces (at p (PlacedNode.apply f a)) u
 contracts_apply {f = f} {a = a} e = reduces_by (Develops.apply_contracts (develops_same f) (develops_same a) e)
-
-pub contracts_field : {p : ℕ} {t u : PlacedTerm} {l : List ℕ} → contract_field p t l ≡ Some u → Reduces (at p (PlacedNode.field t l)) u
-contracts_field {t = t} e = reduces_by (Develops.field_contracts (develops_same t) e)
 
 pub contracts_bind : {p : ℕ} {s t : PlacedTerm} → Reduces (at p (PlacedNode.bind s t)) (subst 0 s t)
 contracts_bind {s = s} {t = t} = reduces_by (Develops.bind_contracts (develops_same s) (develops_same t))
 
 pub contracts_fun : {p q : ℕ} {a : TypeTree} {s t : PlacedTerm} → Reduces (at p (PlacedNode.apply (at q (PlacedNode.fun a t)) s)) (subst 0 s t)
 contracts_fun = contracts_apply refl
-
-pub contracts_rec : {p q : ℕ} {l : List ℕ} {fs : PlacedFields} {u : PlacedTerm} → picked l fs ≡ Some u → Reduces (at p (PlacedNode.field (at q (PlacedNode.rec fs)) l)) u
-contracts_rec e = contracts_field e
-
-pub contracts_choose_apply : {p q : ℕ} {x f g a : PlacedTerm} → Reduces (at p (PlacedNode.apply (at q (PlacedNode.choose x f g)) a)) (at p (PlacedNode.choose x (at p (PlacedNode.apply f a)) (at p (PlacedNode.apply g a))))
-contracts_choose_apply = contracts_apply refl
-
-pub contracts_choose_field : {p q : ℕ} {x t u : PlacedTerm} {l : List ℕ} → Reduces (at p (PlacedNode.field (at q (PlacedNode.choose x t u)) l)) (at p (PlacedNode.choose x (at p (PlacedNode.field t l)) (at p (PlacedNode.field u l))))
-contracts_choose_field = contracts_field refl

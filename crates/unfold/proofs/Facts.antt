@@ -69,10 +69,6 @@ app_nil : {A : Type 0} (xs : List A) → xs ++ [] ≡ xs
 app_nil [] = refl
 app_nil (x ∷ xs) = ap (λ ys. x ∷ ys) (app_nil xs)
 
-app_assoc : {A : Type 0} (xs ys zs : List A) → (xs ++ ys) ++ zs ≡ xs ++ (ys ++ zs)
-app_assoc [] ys zs = refl
-app_assoc (x ∷ xs) ys zs = ap (λ l. x ∷ l) (app_assoc xs ys zs)
-
 turn : {A : Type 0} (xs : List A) (x : A) → reverse (xs ++ x ∷ []) ≡ x ∷ reverse xs
 turn xs x = reverse-append xs (x ∷ [])
 
@@ -80,15 +76,7 @@ turn_twice : {A : Type 0} (xs : List A) → reverse (reverse xs) ≡ xs
 turn_twice [] = refl
 turn_twice (x ∷ xs) = ap reverse (reverse-append (x ∷ []) xs) ∙ turn (reverse xs) x ∙ ap (λ ys. x ∷ ys) (turn_twice xs)
 
--- one turn of a loop that pops and pushes
-pub popped : {X A : Type 0} (v : X → A) (f : A → A) (all pushed old new : List X) (x y : X) (whole : List A) → old ≡ new ++ x ∷ [] → pushed ≡ all ++ y ∷ [] → v y ≡ f (v x) → map v all ++ reverse (map f (map v old)) ≡ whole → map v pushed ++ reverse (map f (map v new)) ≡ whole
-popped v f all pushed old new x y whole e q p h =
-    let m : map f (map v old) ≡ map f (map v new) ++ f (v x) ∷ [] = ap (λ l. map f (map v l)) e ∙ ap (map f) (map-append v new (x ∷ [])) ∙ map-append f (map v new) (v x ∷ []) in
-    let r : reverse (map f (map v old)) ≡ f (v x) ∷ reverse (map f (map v new)) = ap reverse m ∙ turn (map f (map v new)) (f (v x)) in
-    let w : map v pushed ≡ map v all ++ v y ∷ [] = ap (map v) q ∙ map-append v all (y ∷ []) in
-    ap (λ l. l ++ reverse (map f (map v new))) w ∙ app_assoc (map v all) (v y ∷ []) (reverse (map f (map v new))) ∙ ap (λ z. map v all ++ z ∷ reverse (map f (map v new))) p ∙ ap (λ l. map v all ++ l) (sym r) ∙ h
-
--- the end of that loop
+-- the end of a loop that pops and pushes
 pub turned : {X A B : Type 0} (v : X → A) (u : X → B) (f : A → B) (all back : List X) (rest first : List X) → rest ≡ [] → back ≡ reverse all → map u all ++ reverse (map f (map v rest)) ≡ reverse (map f (map v first)) → map u back ≡ map f (map v first)
 turned v u f all back rest first e b h =
     let r : reverse (map f (map v rest)) ≡ [] = ap (λ l. reverse (map f (map v l))) e in

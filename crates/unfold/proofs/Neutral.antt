@@ -21,12 +21,6 @@ neutral_apply (TermTree.apply t u) a h = refl
 neutral_apply (TermTree.field t l) a h = refl
 neutral_apply _ a h = absurd h
 
-pub neutral_field : (t : TermTree) (l : List ℕ) → IsNeutral t → contract_tree_field t l ≡ None
-neutral_field (TermTree.var k) l h = refl
-neutral_field (TermTree.apply t u) l h = refl
-neutral_field (TermTree.field t m) l h = refl
-neutral_field _ l h = absurd h
-
 module _ (schema : Schema) where
   -- a field that a record's type has stands in the record
   pub picked_good : (g : List TypeTree) (fs : TermFields) (ks : FieldTypes) (l : List ℕ) (k : TypeTree) → HaveTypes schema g fs ks → type_at l ks ≡ Some k → (t : TermTree) × (picked_tree l fs ≡ Some t) × HasType schema g t k × (AreStill fs → Still t)

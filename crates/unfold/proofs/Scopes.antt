@@ -18,10 +18,6 @@ one_in [] (f ∷ es) b e h i = absurd h
 one_in (c ∷ bs) [] b e h i = absurd h
 one_in (c ∷ bs) (f ∷ es) b e h i = (h.0, one_in bs es b e h.1 i)
 
-no_more : (bs : List Binder) (b : Binder) (es : List Entry) → EachFor (bs ++ b ∷ []) [] → ⊥
-no_more [] b es h = h
-no_more (c ∷ bs) b es h = h
-
 one_out : (bs : List Binder) (es : List Entry) (b : Binder) (e : Entry) → EachFor (bs ++ b ∷ []) (es ++ e ∷ []) → EachFor bs es
 one_out [] [] b e h = tt
 one_out [] (f ∷ []) b e h = absurd h.1

@@ -281,9 +281,6 @@ mutual
   subst_unused_fields d e c k h g q s PlacedFields.none = refl
   subst_unused_fields d e c k h g q s (PlacedFields.with_field l t fs) = both (PlacedFields.with_field l) (subst_unused d e c k h g q s t) (subst_unused_fields d e c k h g q s fs)
 
-pub subst_shifted : (c : ℕ) (s t : PlacedTerm) → subst c s (shift 1 c t) ≡ t
-subst_shifted c s t = subst_unused 0 1 c c (omega arith) (omega arith) (omega arith) s t ∙ shift_zero c t
-
 put_put_above : (c n m : ℕ) → m ≡ n + c → (s u : PlacedTerm) (p i : ℕ) → n < i → Compared i (m + 1) → put m s p (i - 1) ≡ subst n (subst c s u) (put (m + 1) s p i)
 put_put_above c n m q s u p i h (below l) = put_below m s p (i - 1) (omega arith) ∙ sym (ap (subst n (subst c s u)) (put_below (m + 1) s p i l) ∙ put_above n (subst c s u) p i h)
 put_put_above c n m q s u p i h (same l) = put_here m s p (i - 1) (omega arith) ∙ sym (ap (subst n (subst c s u)) (put_here (m + 1) s p i l) ∙ subst_unused m (m + 1) n 0 (omega arith) (omega arith) (omega arith) (subst c s u) s)

@@ -1,7 +1,6 @@
 use Rattle.std.proofs.Common.{◌≡◌, map, drop}
-use Rattle.nq_model.specs.Values.{nested, fields_of, bag_of}
+use Rattle.nq_model.specs.Values.{nested, fields_of, bag_of, fields_view}
 use Rattle.nq_model.specs.Canonical.{value_cmp, fields_cmp}
-use Rattle.canon.specs.Trees.{fields_view}
 use Rattle.canon.proofs.order.+compare.Given as goal
 
 abbrev pub invariant-compare_bags-loop-i : goal.invariant-compare_bags-loop-i

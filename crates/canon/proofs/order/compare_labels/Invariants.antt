@@ -1,8 +1,7 @@
 use Rattle.std.proofs.Common.{◌≡◌, drop}
 use Rattle.std.specs.Cmp.Lexicographic.{slice_cmp}
 use Rattle.nq_model.specs.Orders.{label_cmp}
-use Rattle.nq_model.specs.Values.{fields_of, labels}
-use Rattle.canon.specs.Trees.{fields_view}
+use Rattle.nq_model.specs.Values.{fields_of, labels, fields_view}
 use Rattle.canon.proofs.order.compare_labels.Given as goal
 
 abbrev pub invariant-loop-i : goal.invariant-loop-i

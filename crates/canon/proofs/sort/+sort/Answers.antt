@@ -1,8 +1,7 @@
 use Rattle.std.proofs.Common.{map, ap, sym, ◌∙◌}
-use Rattle.nq_model.specs.Values.{nested, bag_of, rec_of}
+use Rattle.nq_model.specs.Values.{nested, bag_of, rec_of, fields_view}
 use Rattle.nq_model.specs.Canonical.{canonical}
 use Rattle.nq_model.proofs.Trees.{nested_record, nested_bag}
-use Rattle.canon.specs.Trees.{fields_view}
 use Rattle.canon.proofs.Canonical.{canonical_record, canonical_bag}
 use Rattle.canon.proofs.sort.+sort.Goals as goal
 

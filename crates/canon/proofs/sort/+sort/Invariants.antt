@@ -1,7 +1,6 @@
 use Rattle.std.proofs.Common.{◌≡◌, map}
-use Rattle.nq_model.specs.Values.{nested}
+use Rattle.nq_model.specs.Values.{nested, fields_view}
 use Rattle.nq_model.specs.Canonical.{canonical}
-use Rattle.canon.specs.Trees.{fields_view}
 use Rattle.canon.proofs.sort.+sort.Given as goal
 
 abbrev pub invariant-sort_elements-loop-element : goal.invariant-sort_elements-loop-element

@@ -1,7 +1,6 @@
 use Rattle.std.proofs.Common.{◌≡◌, ◌++◌, string_bytes, map, take}
-use Rattle.nq_model.specs.Values.{nested, fields_of, elements_of}
+use Rattle.nq_model.specs.Values.{nested, fields_of, elements_of, fields_view}
 use Rattle.nq_model.specs.Canonical.{written_fields, written_elements}
-use Rattle.canon.specs.Trees.{fields_view}
 use Rattle.canon.proofs.text.+write.Given as goal
 
 abbrev pub invariant-write_record-loop-i : goal.invariant-write_record-loop-i
