@@ -92,7 +92,7 @@ abbrev mutual
   fields_of (One p v l a e) xs rest = PlacedFields.with_field l (term_of e xs) rest
   fields_of (More fs c v l a e) xs rest = fields_of fs xs (PlacedFields.with_field l (term_of e xs) rest)
 
--- a variable without a binder, or a label that stands earlier in the same record; with its place
+-- a variable without a binder, or a label that stands earlier in the same record or record type; with its place
 pub data Wrong : Type 0 where
   Unbound : ℕ → Wrong
   TwiceLabel : ℕ → Wrong
