@@ -55,4 +55,6 @@ fn main(rt: HostRuntime) -> ExitCode {
 #[cfg(test)]
 mod query_tests;
 #[cfg(test)]
+mod runs;
+#[cfg(test)]
 mod tests;

@@ -1,9 +1,7 @@
 // Whole runs that read and type queries.
-use crate::tests::padded;
-use nq_edge::{HeldInputs, HeldSink};
+use crate::runs::{Wanted, check_run, padded};
+use nq_edge::HeldInputs;
 use nq_model::{List, Text};
-use nq_top::nq_main;
-use sql_profile::{ScanServer, SqlServer};
 use std::alloc::Global;
 use std::process::Abort;
 use std::test::Fail;
@@ -327,26 +325,14 @@ fn inputs_of(alloc: Global, row: &Row, query: List<u8>) -> Result<HeldInputs, Fa
 
 // Runs a row, whose query is this text.
 fn run_row(rt: &impl Abort, alloc: Global, row: &Row, query: List<u8>) -> Result<(), Fail> {
-    let mut words = Vec::new(alloc);
-    for word in row.words {
-        words.push(String::from_str(alloc, word)?)?;
-    }
-    let mut inputs = inputs_of(alloc, row, query)?;
-    let mut out = HeldSink::new(alloc, row.room)?;
-    let mut notes = HeldSink::new(alloc, 200)?;
-    let server: Box<dyn SqlServer> = Box::new(alloc, ScanServer::new(alloc))?;
-    let status = nq_main(
-        alloc,
-        words.as_slice(),
-        &mut inputs,
-        &mut out,
-        &mut notes,
-        server,
-    );
-    assert_eq!(rt; status, row.status, "{} {}", row.query, row.note);
-    assert_eq!(rt; out.bytes(), row.out.as_bytes());
-    assert_eq!(rt; notes.bytes(), row.note.as_bytes());
-    Ok(())
+    let wanted = Wanted {
+        words: row.words,
+        room: row.room,
+        status: row.status,
+        out: row.out,
+        note: row.note,
+    };
+    check_run(rt, alloc, inputs_of(alloc, row, query)?, &wanted)
 }
 
 // A text, so many opening brackets, another text, and as many closing ones.

@@ -1,8 +1,7 @@
 // Whole runs over inputs and outputs in memory.
-use nq_edge::{HeldInputs, HeldSink};
+use crate::runs::{Wanted, check_run, padded};
+use nq_edge::HeldInputs;
 use nq_model::{List, Text};
-use nq_top::nq_main;
-use sql_profile::{ScanServer, SqlServer};
 use std::alloc::Global;
 use std::process::Abort;
 use std::test::Fail;
@@ -156,18 +155,6 @@ const CASES: [Case; 18] = [
     },
 ];
 
-// So many spaces, and then a text.
-pub fn padded(alloc: Global, blanks: usize, text: &str) -> Result<List<u8>, Fail> {
-    let mut bytes = List::new(alloc);
-    for _ in 0..blanks {
-        bytes.push(b' ')?;
-    }
-    for byte in text.as_bytes() {
-        bytes.push(*byte)?;
-    }
-    Ok(bytes)
-}
-
 // The inputs of a case, with so many spaces before its query and before the text of `t`.
 fn inputs_of(
     alloc: Global,
@@ -201,26 +188,15 @@ fn check(
     before_query: usize,
     before_t: usize,
 ) -> Result<(), Fail> {
-    let mut words = Vec::new(alloc);
-    for word in case.words {
-        words.push(String::from_str(alloc, word)?)?;
-    }
-    let mut inputs = inputs_of(alloc, case, before_query, before_t)?;
-    let mut out = HeldSink::new(alloc, case.room)?;
-    let mut notes = HeldSink::new(alloc, 200)?;
-    let server: Box<dyn SqlServer> = Box::new(alloc, ScanServer::new(alloc))?;
-    let status = nq_main(
-        alloc,
-        words.as_slice(),
-        &mut inputs,
-        &mut out,
-        &mut notes,
-        server,
-    );
-    assert_eq!(rt; status, case.status, "{}", case.query);
-    assert_eq!(rt; out.bytes(), case.out.as_bytes());
-    assert_eq!(rt; notes.bytes(), case.note.as_bytes());
-    Ok(())
+    let inputs = inputs_of(alloc, case, before_query, before_t)?;
+    let wanted = Wanted {
+        words: case.words,
+        room: case.room,
+        status: case.status,
+        out: case.out,
+        note: case.note,
+    };
+    check_run(rt, alloc, inputs, &wanted)
 }
 
 #[test]
@@ -359,26 +335,14 @@ fn texts_of(alloc: Global, case: &Refusal) -> Result<HeldInputs, Fail> {
 
 // Runs the texts of a refusal.
 fn check_refusal(rt: &impl Abort, alloc: Global, case: &Refusal) -> Result<(), Fail> {
-    let mut words = Vec::new(alloc);
-    for word in RUN {
-        words.push(String::from_str(alloc, word)?)?;
-    }
-    let mut inputs = texts_of(alloc, case)?;
-    let mut out = HeldSink::new(alloc, 10)?;
-    let mut notes = HeldSink::new(alloc, 200)?;
-    let server: Box<dyn SqlServer> = Box::new(alloc, ScanServer::new(alloc))?;
-    let status = nq_main(
-        alloc,
-        words.as_slice(),
-        &mut inputs,
-        &mut out,
-        &mut notes,
-        server,
-    );
-    assert_eq!(rt; status, case.status, "{}", case.note);
-    assert_eq!(rt; out.bytes(), b"".as_slice());
-    assert_eq!(rt; notes.bytes(), case.note.as_bytes());
-    Ok(())
+    let wanted = Wanted {
+        words: RUN,
+        room: 10,
+        status: case.status,
+        out: "",
+        note: case.note,
+    };
+    check_run(rt, alloc, texts_of(alloc, case)?, &wanted)
 }
 
 #[test]

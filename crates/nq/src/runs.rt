@@ -1,0 +1,58 @@
+// Whole runs over inputs and outputs in memory, and what is wanted of them.
+use nq_edge::{HeldInputs, HeldSink};
+use nq_model::List;
+use nq_top::nq_main;
+use sql_profile::{ScanServer, SqlServer};
+use std::alloc::Global;
+use std::process::Abort;
+use std::test::Fail;
+
+/// The words of a run and the room of its output; and the status, the output and the note that are wanted.
+#[derive(Clone, Copy)]
+pub struct Wanted {
+    pub words: &'static [&'static str],
+    pub room: u64,
+    pub status: u8,
+    pub out: &'static str,
+    pub note: &'static str,
+}
+
+/// So many spaces, and then a text.
+pub fn padded(alloc: Global, blanks: usize, text: &str) -> Result<List<u8>, Fail> {
+    let mut bytes = List::new(alloc);
+    for _ in 0..blanks {
+        bytes.push(b' ')?;
+    }
+    for byte in text.as_bytes() {
+        bytes.push(*byte)?;
+    }
+    Ok(bytes)
+}
+
+/// Runs the program over these inputs.
+pub fn check_run(
+    rt: &impl Abort,
+    alloc: Global,
+    mut inputs: HeldInputs,
+    wanted: &Wanted,
+) -> Result<(), Fail> {
+    let mut words = Vec::new(alloc);
+    for word in wanted.words {
+        words.push(String::from_str(alloc, word)?)?;
+    }
+    let mut out = HeldSink::new(alloc, wanted.room)?;
+    let mut notes = HeldSink::new(alloc, 200)?;
+    let server: Box<dyn SqlServer> = Box::new(alloc, ScanServer::new(alloc))?;
+    let status = nq_main(
+        alloc,
+        words.as_slice(),
+        &mut inputs,
+        &mut out,
+        &mut notes,
+        server,
+    );
+    assert_eq!(rt; status, wanted.status, "{} {}", wanted.out, wanted.note);
+    assert_eq!(rt; out.bytes(), wanted.out.as_bytes());
+    assert_eq!(rt; notes.bytes(), wanted.note.as_bytes());
+    Ok(())
+}
