@@ -11,6 +11,10 @@ use nq_model::{Cell, ColumnType, Label, List, Memory, Rows, TableShape};
 use std::alloc::Global;
 use std::collections::BTreeMap;
 
+const SLOTS_PER_LINE: usize = 3;
+
+const BYTES_PER_SLOT: usize = 4;
+
 // A cell of a key.
 #[derive(PartialEq, Eq, PartialOrd, Ord, Drop)]
 pub(crate) enum KeyCell {
@@ -19,7 +23,7 @@ pub(crate) enum KeyCell {
     Text(String),
 }
 
-// The first row of each key, counted from 0. A key that is found by its code takes 8 to 30 bytes, and a
+// The first row of each key, counted from 0. A key that is found by its code takes some 30 bytes, and a
 // copy of its cells more than 100, so a key is copied only where an earlier one has its code.
 #[derive(Drop)]
 pub(crate) struct KeyIndex {
@@ -56,6 +60,14 @@ fn key_places(alloc: Global, shape: &TableShape) -> Result<Vec<usize>, Memory>
     Ok(places)
 }
 
+// How many slots the codes of a text's keys get: some for each line, so that most stay empty, but no more than
+// for so many bytes, so that lines without a row take little.
+fn slots_for(text: &[u8]) -> usize {
+    let lines = text.iter().filter(|byte| **byte == b'\n').count();
+    let wanted = lines.saturating_mul(SLOTS_PER_LINE);
+    wanted.min(text.len() / BYTES_PER_SLOT)
+}
+
 // The number of a row in messages, where rows are counted from 1.
 fn number_of(place: u32) -> u64
     ensures { result ≡ place + 1 }
@@ -64,13 +76,17 @@ fn number_of(place: u32) -> u64
 }
 
 impl KeyIndex {
-    // An index of no row. Where the table has a key, it has so many slots.
+    // An index of no row, with slots for the keys of a table text.
     #[tactic(auto, using(crate::proofs::IndexFacts::indexes_none))]
-    pub(crate) fn new(alloc: Global, shape: &TableShape, slots: usize) -> Result<KeyIndex, Memory>
+    pub(crate) fn new(alloc: Global, shape: &TableShape, text: &[u8]) -> Result<KeyIndex, Memory>
         ensures { IfOk result (Indexes shape.now []) }
     {
         let columns = key_places(alloc, shape)?;
-        let count = if columns.is_empty() { 0 } else { slots };
+        let count = if columns.is_empty() {
+            0
+        } else {
+            slots_for(text)
+        };
         Ok(KeyIndex {
             columns,
             first_rows: CodeMap::new(alloc, count)?,

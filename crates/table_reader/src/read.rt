@@ -15,9 +15,6 @@ use csv::{ByteRecord, Reader};
 use nq_model::{Cell, List, Memory, Rows, Table, TableShape};
 use std::alloc::Global;
 
-// For so many bytes of a text the index of keys has a slot. Rows are mostly longer, so most slots stay empty.
-const BYTES_PER_SLOT: usize = 4;
-
 // Whether a record is the names of the columns.
 #[tactic(auto, using(crate::proofs::ReadFacts::header_rules))]
 fn is_header(shape: &TableShape, fields: &ByteRecord) -> bool
@@ -91,7 +88,7 @@ pub fn read_table(alloc: Global, shape: &TableShape, text: &[u8]) -> Result<Tabl
     if !read_header(shape, &mut reader, &mut fields)? {
         return Err(TableFault::Header);
     }
-    let mut index = KeyIndex::new(alloc, shape, text.len() / BYTES_PER_SLOT)?;
+    let mut index = KeyIndex::new(alloc, shape, text)?;
     let mut rows = Rows::new(alloc);
     for row in 1..u64::MAX {
         if !read_next(&mut reader, &mut fields)? {
