@@ -1,7 +1,6 @@
 -- A text spells one term at a depth, or it has one fault.
 use Rattle.std.proofs.Common.{◌≡◌, ℕ, List, [], ◌∷◌, ◌++◌, refl, sym, ◌∙◌, ap, subst, ◌⊎◌, inl, inr, Result, Ok, Err}
 use Rattle.std.specs.Str.{IsUtf8, IsValidUpTo}
-use Rattle.nq_model.specs.OpenLists.{IsFaultAt}
 use Rattle.nq_model.specs.OpenLists as open_lists
 use Rattle.nq_model.proofs.OpenLists as generic
 use Rattle.nq_model.specs.Terms.{PlacedTerm}

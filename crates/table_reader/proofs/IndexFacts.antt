@@ -1,5 +1,5 @@
 -- What an index of first rows finds, by the codes of keys.
-use Rattle.std.proofs.Common.{◌≡◌, ◌<◌, ◌+◌, ◌-◌, ◌==◌, ℕ, suc, List, [], ◌∷◌, ◌++◌, length, get_or, map, slice_get, option_map, Option, Some, None, Bool, true, false, cond, ap, sym, ◌∙◌, refl, subst, arith, add-one, true≢false}
+use Rattle.std.proofs.Common.{◌≡◌, ◌<◌, ◌+◌, ◌-◌, ◌==◌, ℕ, suc, List, [], ◌∷◌, ◌++◌, length, get_or, map, slice_get, option_map, Option, Some, None, Bool, true, false, cond, ap, sym, ◌∙◌, refl, arith, add-one, true≢false}
 use Rattle.std.specs.List.{filter_map, position_from}
 use Rattle.std.specs.Option.{option_or}
 use Rattle.std.specs.BTreeMap.{get, insert_entry}
@@ -8,7 +8,7 @@ use Rattle.std.proofs.lemmas.Option.{get_or_from_slice_get, slice_get_within}
 use Rattle.nq_model.specs.declared.table.Cell.{Cell}
 use Rattle.nq_model.specs.declared.table.TableShape.{TableShape}
 use Rattle.table_reader.specs.Codes.{key_code}
-use Rattle.table_reader.specs.CodeMaps.{place_under, IsSound}
+use Rattle.table_reader.specs.CodeMaps.{place_under}
 use Rattle.table_reader.specs.Keys.{key_of, first_with}
 use Rattle.table_reader.specs.FirstRows.{cell_of_key, cells_of_key, key_places, place_with, place_coded, other_than, Indexes, Enters}
 use Rattle.table_reader.specs.declared.keys.KeyIndex.{KeyIndex}
@@ -171,8 +171,8 @@ module _ (shape : TableShape) where
         by false other = others_stay key other
 
 -- an index that is empty
-pub indexes_none : (shape : TableShape) (index : KeyIndex) → index.columns.items ≡ key_places shape → IsSound index.first_rows × ((code : ℕ) → place_under index.first_rows code ≡ None) → index.others.entries ≡ [] → Indexes shape [] index
-indexes_none shape index columns first_rows others = record { columns = columns; sound = first_rows.0; finds = first_rows.1; others = λ key. rw others refl }
+pub indexes_none : (shape : TableShape) (index : KeyIndex) → index.columns.items ≡ key_places shape → ((code : ℕ) → place_under index.first_rows code ≡ None) → index.others.entries ≡ [] → Indexes shape [] index
+indexes_none shape index columns first_rows others = record { columns = columns; finds = first_rows; others = λ key. rw others refl }
 
 -- the key of a row, and its code, by the columns of an index
 module _ (shape : TableShape) (rows : List (List Cell)) (old : KeyIndex) (index : Indexes shape rows old) where
@@ -190,14 +190,13 @@ module _ (shape : TableShape) (rows : List (List Cell)) (old : KeyIndex) (index 
     -- a row whose code no row before has
     pub entered_first : (new : KeyIndex) (place : ℕ) → None ≡ place_under old.first_rows code
         → place ≡ length rows → new.columns ≡ old.columns → new.others ≡ old.others
-        → IsSound new.first_rows × ((q : ℕ) → place_under new.first_rows q ≡ cond (code == q) (Some place) (place_under old.first_rows q))
+        → ((q : ℕ) → place_under new.first_rows q ≡ cond (code == q) (Some place) (place_under old.first_rows q))
         → Enters shape rows row new None
     entered_first new place tells counted same others updated = (
       numbered shape (key_of shape row) rows ∙ ap (option_map suc) (no_code shape (key_of shape row) rows none),
       record {
         columns = ap (λ v. v.items) same ∙ index.columns;
-        sound = updated.0;
-        finds = λ q. updated.1 q ∙ rw (tested q, index.finds q, counted) (coded_new shape rows row q none);
+        finds = λ q. updated q ∙ rw (tested q, index.finds q, counted) (coded_new shape rows row q none);
         others = λ q. ap (λ m. found q m.entries) others ∙ index.others q ∙ others_new shape rows row q none;
       },
     )
@@ -247,7 +246,6 @@ module _ (shape : TableShape) (rows : List (List Cell)) (old : KeyIndex) (index 
                 numbered shape (key_of shape row) rows ∙ ap (option_map suc) is,
                 record {
                   columns = ap (λ v. v.items) same ∙ index.columns;
-                  sound = subst (λ m. IsSound m) (sym firsts) index.sound;
                   finds = λ q. ap (λ m. place_under m q) firsts ∙ index.finds q ∙ coded_old shape rows row q first coded;
                   others = λ q. ap (found q) inserted ∙ found_entered q old.others.entries key place
                       ∙ rw (index.others q, own, counted) (others_more shape rows row q first coded is);

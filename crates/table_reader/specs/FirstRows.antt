@@ -15,7 +15,7 @@ use Rattle.table_reader.specs.declared.keys.KeyIndex.{KeyIndex}
 use Rattle.table_reader.specs.declared.keys.KeyCell.{KeyCell}
 use Rattle.table_reader.specs.declared.keys.KeyCell.TheVariants as key_cell
 use Rattle.table_reader.specs.Codes.{key_code}
-use Rattle.table_reader.specs.CodeMaps.{place_under, IsSound}
+use Rattle.table_reader.specs.CodeMaps.{place_under}
 use Rattle.table_reader.specs.Keys.{key_of, first_with}
 
 -- the cell that a cell of a key is a copy of
@@ -54,7 +54,6 @@ other_than (Some first) (Some place) = if first == place then None else Some pla
 -- and for all key cells the first row that has them, where that is not the first with their code
 pub record Indexes (shape : TableShape) (rows : List (List Cell)) (index : KeyIndex) : Type 0 where
   pub columns : index.columns.items ≡ key_places shape
-  pub sound : IsSound index.first_rows
   pub finds : (code : ℕ) → place_under index.first_rows code ≡ place_coded shape code rows
   pub others : (key : List Cell) → lookup (λ k. pointwise cell_eq key (cells_of_key k)) index.others.entries
       ≡ other_than (place_coded shape (key_code key) rows) (place_with shape key rows)

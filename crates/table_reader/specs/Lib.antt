@@ -2,6 +2,7 @@ pub mod Records
 pub mod Spelling
 pub mod Keys
 pub mod Codes
+pub mod Slots
 pub mod CodeMaps
 pub mod FirstRows
 pub mod Tables

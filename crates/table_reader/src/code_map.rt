@@ -1,11 +1,15 @@
 // A map from codes to the places of rows. Most codes stand in a slot of their own and are found at once. A
 // code whose slot is taken stands in an ordered map, so that no choice of keys makes the look-ups slow.
 ghost use Rattle.std.specs.Prelude.{◌≡◌, ◌<◌, ◌==◌, ℕ, cond, length, slice_get, IfOk, IsTrue, OnOk, None, Some};
-ghost use Rattle.table_reader.specs.CodeMaps.{is_empty, place_under, slot_of, IsSound};
+ghost use Rattle.table_reader.specs.Slots.{is_empty, slot_of, IsSound};
 
 use nq_model::Memory;
 use std::alloc::Global;
 use std::collections::BTreeMap;
+
+const SLOTS_PER_LINE: usize = 3;
+
+const BYTES_PER_SLOT: usize = 4;
 
 // A code, and the number of its row. Rows are counted from 1, and an empty slot has the number 0.
 #[derive(Clone, Copy)]
@@ -18,12 +22,24 @@ struct Slot {
 pub(crate) struct CodeMap {
     slots: Vec<Slot>,
     crowded: BTreeMap<u32, u32>,
+    // A code stands in the ordered map only where its slot is taken.
+    ghost sound: { IsSound slots.items crowded },
+}
+
+// How many slots the codes of a text's keys get: some for each line, so that most stay empty, but no more than
+// for so many bytes, so that lines without a row take little.
+pub(crate) fn slots_for(text: &[u8]) -> usize {
+    let lines = text.iter().filter(|byte| **byte == b'\n').count();
+    let wanted = lines.saturating_mul(SLOTS_PER_LINE);
+    wanted.min(text.len() / BYTES_PER_SLOT)
 }
 
 impl CodeMap {
+    ghost use Rattle.table_reader.specs.CodeMaps.{place_under};
+
     // No place under any code, with so many slots.
     pub(crate) fn new(alloc: Global, count: usize) -> Result<CodeMap, Memory>
-        ensures { IfOk result (λ map. IsSound map × ((code : ℕ) → place_under map code ≡ None)) }
+        ensures { IfOk result (λ map. (code : ℕ) → place_under map code ≡ None) }
     {
         let mut slots = Vec::new(alloc);
         slots.resize(count, Slot { code: 0, number: 0 })?;
@@ -67,9 +83,10 @@ impl CodeMap {
     }
 
     // Puts a place under a code that has none.
+    #[tactic(auto, using(crate::proofs::CodeMapFacts::slot_rules))]
     pub(crate) fn insert(&mut self, code: u32, place: u32) -> Result<(), Memory>
-        ensures { OnOk result (IsSound self.old → place_under self.old code ≡ None
-            → IsSound self.new × ((other : ℕ) → place_under self.new other ≡ cond (code == other) (Some place) (place_under self.old other))) }
+        ensures { OnOk result (place_under self.old code ≡ None → (other : ℕ)
+            → place_under self.new other ≡ cond (code == other) (Some place) (place_under self.old other)) }
     {
         let number = place.checked_add(1).ok_or(Memory)?;
         let at = self.slot_of(code);

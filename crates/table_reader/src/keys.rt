@@ -5,15 +5,11 @@ ghost use Rattle.std.specs.List.{filter_map};
 ghost use Rattle.table_reader.specs.Codes.{key_code};
 ghost use Rattle.table_reader.specs.FirstRows.{cell_of_key, key_places, place_of, Enters, Indexes};
 
-use crate::code_map::CodeMap;
+use crate::code_map::{CodeMap, slots_for};
 use crate::codes::cell_code;
 use nq_model::{Cell, ColumnType, Label, List, Memory, Rows, TableShape};
 use std::alloc::Global;
 use std::collections::BTreeMap;
-
-const SLOTS_PER_LINE: usize = 3;
-
-const BYTES_PER_SLOT: usize = 4;
 
 // A cell of a key.
 #[derive(PartialEq, Eq, PartialOrd, Ord, Drop)]
@@ -58,14 +54,6 @@ fn key_places(alloc: Global, shape: &TableShape) -> Result<Vec<usize>, Memory>
         .filter_map(|name| column_named(columns, name.as_str()))
         .collect(alloc)?;
     Ok(places)
-}
-
-// How many slots the codes of a text's keys get: some for each line, so that most stay empty, but no more than
-// for so many bytes, so that lines without a row take little.
-fn slots_for(text: &[u8]) -> usize {
-    let lines = text.iter().filter(|byte| **byte == b'\n').count();
-    let wanted = lines.saturating_mul(SLOTS_PER_LINE);
-    wanted.min(text.len() / BYTES_PER_SLOT)
 }
 
 // The number of a row in messages, where rows are counted from 1.

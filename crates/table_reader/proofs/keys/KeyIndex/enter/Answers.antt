@@ -12,7 +12,7 @@ returns-in_default c =
     λ shape index.
     let tells : None ≡ place_under c.args.self.now.first_rows c.code_of-code.result = grind (arith, common_steps) in
     entered_first shape c.args.rows.now c.args.self.now index c.args.row.now c.code_of-code.result c.code_of-code.ensures _ c.in_ok-place.place
-    tells (grind (arith, common_steps)) refl refl (c.in_ok-insert.ensures index.sound (sym tells))
+    tells (grind (arith, common_steps)) refl refl (c.in_ok-insert.ensures (sym tells))
 
 pub returns-then-eq : goal.returns-then-eq
 returns-then-eq c =
