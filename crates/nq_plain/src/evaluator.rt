@@ -6,12 +6,14 @@ ghost use Rattle.nq_model.specs.Terms.{term_tree, term_fields_of, fields_view as
 ghost use Rattle.nq_model.specs.Values.{nested, fields_view};
 ghost use Rattle.nq_plain.specs.Scopes.{values};
 
-use crate::cells::{binary_value, cell_in, is_true, unary_value, value_of};
+use crate::cells::{cell_in, value_of};
 use crate::elements::{append, elements_in};
 use crate::records::{field_in, put_field};
 use crate::scope::Scope;
 use crate::tables::table_meaning;
-use nq_model::{Label, List, Memory, Node, Schema, Table, Term, Value};
+use nq_model::{
+    Label, List, Memory, Node, Schema, Table, Term, Value, binary_value, is_true, unary_value,
+};
 use std::alloc::Global;
 
 /// What a plain term means over the tables of a schema, where the variables have these values. A term

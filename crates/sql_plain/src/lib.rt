@@ -3,8 +3,8 @@
 #![tactic(auto)]
 
 mod answer;
-mod cell;
 mod evaluate;
+mod key_order;
 mod number;
 mod scope;
 mod values;

@@ -4,7 +4,7 @@ ghost use Rattle.std.specs.Prelude.{◌≡◌, ◌++◌, ◌∷◌, [], IfOk, ma
 ghost use Rattle.nq_model.specs.Numberings.{Numbers, key_lt};
 ghost use Rattle.sql_plain.specs.Dealing.{IsPlace, is_earlier, next_place, raise};
 
-use crate::cell::key_below;
+use crate::key_order::key_below;
 use nq_model::{Cell, List, Memory};
 use std::alloc::Global;
 

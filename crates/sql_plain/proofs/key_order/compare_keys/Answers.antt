@@ -1,6 +1,6 @@
 use Rattle.std.proofs.Common.{◌∙◌, sym, arith}
 use Rattle.sql_plain.proofs.Keys.{keys_end}
-use Rattle.sql_plain.proofs.cell.compare_keys.Goals as goal
+use Rattle.sql_plain.proofs.key_order.compare_keys.Goals as goal
 
 pub returns : goal.returns
 returns c =
