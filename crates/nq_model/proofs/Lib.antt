@@ -19,4 +19,5 @@ pub mod Substitution
 pub mod Unfolding
 pub mod StableSorts
 pub mod FieldSorts
-pub mod PackedRows
+pub mod PackedTexts
+pub mod ColumnRows

@@ -2,10 +2,11 @@
 #![tactic(auto)]
 
 mod cell_ref;
-mod cells;
+mod column;
 mod laws;
 mod list;
 mod memory;
+mod numbers;
 mod operators;
 mod order;
 mod rows;

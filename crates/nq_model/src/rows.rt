@@ -1,85 +1,82 @@
-// Rows of cells that take little memory: their cells stand in one list.
-ghost use Rattle.std.specs.Prelude.{◌≡◌, ◌↔◌, ◌<◌, ◌++◌, [], ◌∷◌, IsTrue, IfOk, IsOk, OnOk, OnErr, length, map, take, pos, slice_index_or};
+// Rows of cells that take little memory: they stand column by column.
+ghost use Rattle.std.specs.Prelude.{◌≡◌, ◌↔◌, ◌+◌, ◌<◌, ◌++◌, ℕ, [], ◌∷◌, IsTrue, IsFalse, IfOk, OnOk, OnErr, length, map, pos, slice_index_or};
 ghost use Rattle.nq_model.specs.CellRefs.{cell_seen};
+ghost use Rattle.nq_model.specs.Columns.{rows_over, HaveRows, widened};
 ghost use Rattle.nq_model.specs.declared.table.Cell.TheVariants as cell;
 
 use crate::cell_ref::CellRef;
-use crate::cells::Cells;
+use crate::column::Column;
 use crate::list::List;
 use crate::memory::Memory;
 use crate::table::Cell;
-use crate::texts::{place, start_of};
 use std::alloc::Global;
 use std::marker::Model;
 
-/// Rows of cells, which contracts see as the list of them. A cell takes 8 bytes, a row and a text 4 each
-/// beside them, and an integer beyond 32 bits 8 more.
+/// Rows of cells, which contracts see as the list of them. Where the rows have one width and each column
+/// one type, an integer takes one, four or eight bytes, a truth value one, and a text four beside its own.
 #[derive(Drop)]
 pub struct Rows {
-    cells: Cells,
-    ends: Vec<u32>,
+    alloc: Global,
+    // The cells of the first rows.
+    columns: Vec<Column>,
+    // How many rows stand in the columns.
+    in_columns: usize,
+    // Whether the next row may stand there: all rows do, and no column goes on behind the last.
+    is_open: bool,
+    // The rows behind those: all from the first of another width.
+    behind: List<List<Cell>>,
+    len: usize,
 }
 
 impl Model for Rows {
-    ghost use Rattle.std.specs.Prelude.{List, length};
+    ghost use Rattle.std.specs.Prelude.{◌≡◌, ◌+◌, ◌++◌, [], List, IsTrue, length};
     ghost use Rattle.nq_model.specs.declared.table.Cell.{Cell};
 
     ghost Value = { List (List Cell) };
 
-    ghost use Rattle.nq_model.specs.Packed.{pieces, AreEnds};
+    ghost use Rattle.nq_model.specs.Columns.{rows_over, HaveRows, EndBehind};
 
-    ghost view = { λ rows. pieces 0 rows.ends.items rows.cells };
+    ghost view = { λ rows. rows_over rows.columns.items rows.in_columns ++ rows.behind };
 
-    ghost invariant = { λ rows. AreEnds 0 rows.ends.items (length rows.cells) };
+    ghost invariant = { λ rows. HaveRows rows.columns.items rows.in_columns
+        × (rows.len ≡ rows.in_columns + length rows.behind)
+        × (IsTrue rows.is_open → EndBehind rows.columns.items rows.in_columns × (rows.behind ≡ [])) };
 }
 
-// Puts the cells of a row at the end; where memory wants, those before stay.
-fn push_cells(cells: &mut Cells, row: &[Cell]) -> Result<(), Memory>
-    ensures ok { OnOk result (cells.new ≡ cells.old ++ row.now) }
-    ensures err { OnErr result (take (length cells.old) cells.new ≡ cells.old) }
+// Columns without cells, one for each cell of a row.
+fn columns_for(alloc: Global, row: &[CellRef<'_>]) -> Result<Vec<Column>, Memory>
+    ensures { IfOk result (λ columns. columns.items ≡ map (λ _. []) row.now) }
 {
+    let mut columns = Vec::with_capacity(alloc, row.len())?;
+    for _ in row {
+        columns.push(Column::new(alloc))?;
+    }
+    Ok(columns)
+}
+
+// Puts each cell of a row at the end of its column. Where memory wants, some cells may be put; the rows
+// that stand in the columns stay.
+fn push_each(columns: &mut Vec<Column>, row: &[CellRef<'_>]) -> Result<(), Memory>
+    requires { length columns.old.items ≡ length row.now }
+    ensures ok { OnOk result (columns.new.items ≡ widened columns.old.items (map cell_seen row.now)) }
+    ensures rows { (count : ℕ) → HaveRows columns.old.items count
+        → HaveRows columns.new.items count × (rows_over columns.new.items count ≡ rows_over columns.old.items count) }
+{
+    for at in 0..row.len() {
+        columns[at].push(&row[at])?;
+    }
+    Ok(())
+}
+
+// A copy of a row.
+fn copy_of(alloc: Global, row: &[CellRef<'_>]) -> Result<List<Cell>, Memory>
+    ensures { IfOk result (λ copy. copy ≡ map cell_seen row.now) }
+{
+    let mut copy = List::with_capacity(alloc, row.len())?;
     for cell in row {
-        cells.push(&cell.as_ref())?;
+        copy.push(cell.copy(alloc)?)?;
     }
-    Ok(())
-}
-
-// Puts lent cells of a row at the end; where memory wants, those before stay.
-fn push_lent(cells: &mut Cells, row: &[CellRef<'_>]) -> Result<(), Memory>
-    ensures ok { OnOk result (cells.new ≡ cells.old ++ map cell_seen row.now) }
-    ensures err { OnErr result (take (length cells.old) cells.new ≡ cells.old) }
-{
-    for cell in row {
-        cells.push(cell)?;
-    }
-    Ok(())
-}
-
-// Ends a row behind the last cell, if its cells were put. Otherwise no cell stays but the first so many.
-fn end_row(
-    cells: &mut Cells,
-    ends: &mut Vec<u32>,
-    count: usize,
-    put: Result<(), Memory>,
-) -> Result<(), Memory>
-    ensures put { OnOk result (IsOk put) }
-    ensures ok { OnOk result ((cells.new ≡ cells.old) × (ends.new.items ≡ ends.old.items ++ length cells.old ∷ [])) }
-    ensures err { OnErr result ((cells.new ≡ take count cells.old) × (ends.new.items ≡ ends.old.items)) }
-{
-    if put.is_ok() && ends_here(cells, ends).is_ok() {
-        return Ok(());
-    }
-    cells.truncate(count);
-    Err(Memory)
-}
-
-// Ends a row behind the last cell.
-fn ends_here(cells: &Cells, ends: &mut Vec<u32>) -> Result<(), Memory>
-    ensures ok { OnOk result (ends.new.items ≡ ends.old.items ++ length cells.now ∷ []) }
-    ensures err { OnErr result (ends.new.items ≡ ends.old.items) }
-{
-    ends.push(place(cells.len())?)?;
-    Ok(())
+    Ok(copy)
 }
 
 impl Rows {
@@ -88,28 +85,20 @@ impl Rows {
         ensures { result ≡ [] }
     {
         Rows {
-            cells: Cells::new(alloc),
-            ends: Vec::new(alloc),
+            alloc,
+            columns: Vec::new(alloc),
+            in_columns: 0,
+            is_open: true,
+            behind: List::new(alloc),
+            len: 0,
         }
-    }
-
-    /// No rows, with room for so many, and for so many cells.
-    pub fn with_capacity(alloc: Global, rows: usize, cells: usize) -> Result<Rows, Memory>
-        ensures { IfOk result (λ rows. rows ≡ []) }
-    {
-        let mut held = Cells::new(alloc);
-        held.reserve(cells)?;
-        Ok(Rows {
-            cells: held,
-            ends: Vec::with_capacity(alloc, rows)?,
-        })
     }
 
     /// How many rows there are.
     pub fn len(&self) -> usize
         ensures { result ≡ length self.now }
     {
-        self.ends.len()
+        self.len
     }
 
     /// Whether there is none.
@@ -123,10 +112,14 @@ impl Rows {
     pub fn width(&self, row: usize) -> usize
         ensures { result ≡ length (slice_index_or self.now row []) }
     {
-        if row >= self.ends.len() {
+        if row < self.in_columns {
+            return self.columns.len();
+        }
+        let at = row - self.in_columns;
+        if at >= self.behind.len() {
             return 0;
         }
-        self.ends[row] as usize - start_of(self.ends.as_slice(), row)
+        self.behind.as_slice()[at].len()
     }
 
     /// The cell at a row and a column, both counted from 0.
@@ -134,9 +127,10 @@ impl Rows {
         requires { column < length (slice_index_or self.now row []) }
         ensures { cell_seen result ≡ slice_index_or (slice_index_or self.now row []) column (cell.Int (pos 0)) }
     {
-        // The place is below the number of cells, and so fits its type.
-        let _count = self.cells.len();
-        self.cells.get(start_of(self.ends.as_slice(), row) + column)
+        if row < self.in_columns {
+            return self.columns[column].get(row);
+        }
+        self.behind.as_slice()[row - self.in_columns].as_slice()[column].as_ref()
     }
 
     /// A copy of a row, and an empty one past the last row.
@@ -150,14 +144,47 @@ impl Rows {
         Ok(copy)
     }
 
-    /// Puts a row at the end. Where memory wants, the rows stay.
-    pub fn push(&mut self, row: &[Cell]) -> Result<(), Memory>
-        ensures ok { OnOk result (self.new ≡ self.old ++ row.now ∷ []) }
+    // Makes the columns for rows like this one, where there is no row yet. The rows stay.
+    fn make_columns(&mut self, row: &[CellRef<'_>]) -> Result<(), Memory>
+        ensures { self.new ≡ self.old }
+    {
+        if self.len > 0 {
+            return Ok(());
+        }
+        self.columns = columns_for(self.alloc, row)?;
+        self.is_open = true;
+        Ok(())
+    }
+
+    // Puts a row in the columns, so that there are so many, if it may stand there. Where memory wants, the
+    // rows stay.
+    fn push_in_columns(&mut self, row: &[CellRef<'_>], len: usize) -> Result<bool, Memory>
+        requires { len ≡ length self.old + 1 }
+        ensures put { IfOk result (λ put. IsTrue put → (self.new ≡ self.old ++ map cell_seen row.now ∷ [])) }
+        ensures stays { IfOk result (λ put. IsFalse put → (self.new ≡ self.old)) }
         ensures err { OnErr result (self.new ≡ self.old) }
     {
-        let count = self.cells.len();
-        let put = push_cells(&mut self.cells, row);
-        end_row(&mut self.cells, &mut self.ends, count, put)
+        if !self.is_open || row.len() != self.columns.len() {
+            return Ok(false);
+        }
+        self.is_open = false;
+        push_each(&mut self.columns, row)?;
+        self.is_open = true;
+        self.in_columns = len;
+        self.len = len;
+        Ok(true)
+    }
+
+    // Puts a row behind those in the columns, so that there are so many. Where memory wants, the rows stay.
+    fn push_behind(&mut self, row: &[CellRef<'_>], len: usize) -> Result<(), Memory>
+        requires { len ≡ length self.old + 1 }
+        ensures ok { OnOk result (self.new ≡ self.old ++ map cell_seen row.now ∷ []) }
+        ensures err { OnErr result (self.new ≡ self.old) }
+    {
+        self.behind.push(copy_of(self.alloc, row)?)?;
+        self.is_open = false;
+        self.len = len;
+        Ok(())
     }
 
     /// Puts a row of lent cells at the end. Where memory wants, the rows stay.
@@ -165,8 +192,25 @@ impl Rows {
         ensures ok { OnOk result (self.new ≡ self.old ++ map cell_seen row.now ∷ []) }
         ensures err { OnErr result (self.new ≡ self.old) }
     {
-        let count = self.cells.len();
-        let put = push_lent(&mut self.cells, row);
-        end_row(&mut self.cells, &mut self.ends, count, put)
+        let Some(len) = self.len().checked_add(1) else {
+            return Err(Memory);
+        };
+        self.make_columns(row)?;
+        if self.push_in_columns(row, len)? {
+            return Ok(());
+        }
+        self.push_behind(row, len)
+    }
+
+    /// Puts a row at the end. Where memory wants, the rows stay.
+    pub fn push(&mut self, row: &[Cell]) -> Result<(), Memory>
+        ensures ok { OnOk result (self.new ≡ self.old ++ row.now ∷ []) }
+        ensures err { OnErr result (self.new ≡ self.old) }
+    {
+        let mut lent = Vec::with_capacity(self.alloc, row.len())?;
+        for cell in row {
+            lent.push(cell.as_ref())?;
+        }
+        self.push_lent(lent.as_slice())
     }
 }

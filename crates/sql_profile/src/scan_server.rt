@@ -57,21 +57,13 @@ fn scan_row<'a>(
     Ok(made)
 }
 
-// How many cells the answer to the table's scan text has.
-fn scan_size(table: &Loaded) -> usize {
-    table
-        .rows
-        .len()
-        .saturating_mul(table.columns.len().saturating_add(2))
-}
-
 // The rows of the answer to the table's scan text.
 fn scan_rows(alloc: Global, table: &Loaded) -> Result<Rows, Memory>
     requires { HasFullRows table.now }
     ensures { IfOk result (λ rows. rows ≡ map (scan_row (names_of table.now.columns)) table.now.rows) }
 {
     let order = label_order(alloc, table.columns.as_slice())?;
-    let mut rows = Rows::with_capacity(alloc, table.rows.len(), scan_size(table))?;
+    let mut rows = Rows::new(alloc);
     for row in 0..table.rows.len() {
         let cells = scan_row(alloc, order.as_slice(), table, row)?;
         rows.push_lent(cells.as_slice())?;

@@ -1,26 +1,25 @@
-use Rattle.std.proofs.Common.{◌≡◌, ◌<◌, ◌≤◌, [], sym, ap, arith, length}
-use Rattle.std.proofs.lemmas.List.{get_or_past}
-use Rattle.nq_model.specs.Packed.{start_of}
-use Rattle.nq_model.proofs.PackedRows.{ends_length, read_order, read_width}
+use Rattle.std.proofs.Common.{◌<◌, ◌≤◌, ◌-◌, ◌∙◌, List, [], sym, ap, length, get_or, arith}
+use Rattle.std.proofs.lemmas.List.{get_or_past, get_or_read}
+use Rattle.nq_model.specs.declared.table.Cell.{Cell}
+use Rattle.nq_model.proofs.ColumnRows.{row_in_columns, row_behind, row_width}
 use Rattle.nq_model.proofs.rows.Rows.width.Goals as goal
 
-pub returns-then-row-len : goal.returns-then-row-len
-returns-then-row-len c =
-    let past : length c.args.self.now ≤ c.args.row = omega (arith, ends_length c.self.inside.ends.items c.self.inside.cells c.args.self.now c.self.view_is, c.len.ensures) in
-    sym (ap length (get_or_past c.args.self.now c.args.row [] past))
+pub returns-then-row-self : goal.returns-then-row-self
+returns-then-row-self c =
+    let width = ap length (row_in_columns c.self.inside.columns.items c.self.inside.in_columns c.self.inside.behind c.args.self.now c.self.view_is c.args.row (omega arith))
+    ∙ row_width c.self.inside.columns.items c.args.row in
+    omega (arith, c.len.ensures, width)
 
-within : (c : goal.After-start_of) → c.args.row < length c.self.inside.ends.items
-within c = omega (arith, c.len.ensures)
-
-begins : (c : goal.After-start_of) → c.start_of.result ≡ start_of c.self.inside.ends.items c.args.row
-begins c = rw c.as_slice.ensures.value at c.start_of.ensures
-
-pub overflow_sub-result : goal.overflow_sub-result
-overflow_sub-result c =
-    read_order c.self.inside.ends.items c.self.inside.cells c.args.self.now c.args.row c.start_of.result c.index.result.now
-    c.self.view_is c.self.invariant (within c) (begins c) c.index.ensures
+pub returns-then-at-len : goal.returns-then-at-len
+returns-then-at-len c =
+    let past : length c.self.inside.behind ≤ c.args.row - c.self.inside.in_columns = omega (arith, c.len-2.ensures) in
+    sym (ap length (row_behind c.self.inside.columns.items c.self.inside.in_columns c.self.inside.behind c.args.self.now c.self.view_is c.args.row (omega arith)
+    ∙ get_or_past c.self.inside.behind (c.args.row - c.self.inside.in_columns) [] past))
 
 pub returns : goal.returns
 returns c =
-    read_width c.self.inside.ends.items c.self.inside.cells c.args.self.now c.args.row c.start_of.result c.index.result.now
-    c.self.view_is c.self.invariant (within c) (begins c) c.index.ensures
+    let there : c.args.row - c.self.inside.in_columns < length c.self.inside.behind = omega (arith, c.len-2.ensures) in
+    c.len-3.ensures
+    ∙ ap length (get_or_read c.self.inside.behind (c.args.row - c.self.inside.in_columns) c.index-as_slice-at.result there
+    (c.index-as_slice-at.is ∙ ap (λ (rows : List (List Cell)). get_or rows (c.args.row - c.self.inside.in_columns) c.index-as_slice-at.result) c.as_slice.ensures) []
+    ∙ sym (row_behind c.self.inside.columns.items c.self.inside.in_columns c.self.inside.behind c.args.self.now c.self.view_is c.args.row (omega arith)))

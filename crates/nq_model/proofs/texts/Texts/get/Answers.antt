@@ -1,7 +1,7 @@
 use Rattle.std.proofs.Common.{◌≡◌, ◌<◌, ◌≤◌, ◌∙◌, ℕ, List, [], All, sym, ap, subst, arith, length, get_or, slice_range}
 use Rattle.std.specs.Str.{IsUtf8}
 use Rattle.nq_model.specs.Packed.{start_of}
-use Rattle.nq_model.proofs.PackedRows.{piece_there, read_order, read_within, read_piece}
+use Rattle.nq_model.proofs.PackedTexts.{piece_there, read_order, read_within, read_piece}
 use Rattle.nq_model.proofs.texts.Texts.get.Goals as goal
 
 pub start_of-start-requires : goal.start_of-start-requires

@@ -1,5 +1,5 @@
 use Rattle.std.proofs.Common.{arith}
-use Rattle.nq_model.proofs.PackedRows.{ends_length}
+use Rattle.nq_model.proofs.PackedTexts.{ends_length}
 use Rattle.nq_model.proofs.texts.Texts.len.Goals as goal
 
 pub returns : goal.returns

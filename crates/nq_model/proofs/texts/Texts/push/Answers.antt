@@ -1,5 +1,5 @@
 use Rattle.std.proofs.Common.{◌≡◌, ◌+◌, ◌++◌, ◌∷◌, [], length, arith, rules}
-use Rattle.nq_model.proofs.PackedRows.{texts_stay, texts_more, texts_pushed}
+use Rattle.nq_model.proofs.PackedTexts.{texts_stay, texts_more, texts_pushed}
 use Rattle.nq_model.proofs.texts.Texts.push.Goals as goal
 
 pub invariant_of-self : goal.invariant_of-self
