@@ -1,4 +1,4 @@
-use Rattle.std.proofs.Common.{rules, get_or, [], arith}
+use Rattle.std.proofs.Common.{rules, get_or, []}
 use Rattle.std.proofs.lemmas.List.{take_all}
 use Rattle.std.proofs.lemmas.List.Elements.{All-more}
 use Rattle.nq_model.specs.Cells.{RowFits}
