@@ -1,34 +1,34 @@
 -- Rows over columns, and columns that grow.
-use Rattle.std.proofs.Common.{◌≡◌, ℕ, zero, suc, ℤ, pos, Bool, ◌+◌, ◌-◌, ◌<◌, ◌≤◌, List, [], ◌∷◌, ◌++◌, map, take, set, length, get_or, refl, sym, ap, ap₂, ◌∙◌, subst, arith}
+use Rattle.std.proofs.Common.{◌≡◌, ℕ, zero, suc, pos, ◌+◌, ◌-◌, ◌<◌, ◌≤◌, List, [], ◌∷◌, ◌++◌, map, take, set, length, get_or, refl, sym, ap, ap₂, ◌∙◌, subst, arith}
 use Rattle.std.proofs.lemmas.List.{append-nil, get_or-map, get_or_append_left, get_or-append_right, get_or_push, get_or_read, set-get_or, length-map, length-append}
 use Rattle.std.proofs.lemmas.List.Elements.{All-weaker, All-nil, All-cons, All-head, All-tail}
 use Rattle.nq_model.specs.declared.table.Cell.{Cell}
 use Rattle.nq_model.specs.declared.table.Cell.TheVariants as cell
 use Rattle.nq_model.specs.declared.cell_ref.CellRef.{CellRef}
 use Rattle.nq_model.specs.CellRefs.{cell_seen}
-use Rattle.nq_model.specs.Columns.{column_of, row_over, rows_over, HaveRows, EndBehind, widened}
+use Rattle.nq_model.specs.Columns.{row_over, rows_over, HaveRows, EndBehind, widened}
 
 abbrev Column : Type 0
 Column = List Cell
 
 -- how many rows stand over columns
-pub rows_length : (columns : List Column) (count : ℕ) → length (rows_over columns count) ≡ count
+rows_length : (columns : List Column) (count : ℕ) → length (rows_over columns count) ≡ count
 rows_length columns zero = refl
 rows_length columns (suc count) =
     length-append (rows_over columns count) (row_over columns count ∷ [])
     ∙ omega (arith, rows_length columns count)
 
 -- the row at a place
-pub row_at : (columns : List Column) (count at : ℕ) → at < count → get_or (rows_over columns count) at [] ≡ row_over columns at
+row_at : (columns : List Column) (count at : ℕ) → at < count → get_or (rows_over columns count) at [] ≡ row_over columns at
 row_at columns zero at h = absurd (omega (arith, h))
 row_at columns (suc count) at h = grind (arith, rows_length columns count, row_at columns count at, get_or_append_left (rows_over columns count) (row_over columns count ∷ []) [] at, get_or_push (rows_over columns count) (row_over columns count) [] at)
 
-pub row_width : (columns : List Column) (at : ℕ) → length (row_over columns at) ≡ length columns
+row_width : (columns : List Column) (at : ℕ) → length (row_over columns at) ≡ length columns
 row_width [] at = refl
 row_width (column ∷ columns) at = ap suc (row_width columns at)
 
 -- one more cell each takes none away
-pub have_more : (columns : List Column) (cells : List Cell) (count : ℕ) → HaveRows columns count → HaveRows (widened columns cells) count
+have_more : (columns : List Column) (cells : List Cell) (count : ℕ) → HaveRows columns count → HaveRows (widened columns cells) count
 have_more [] cells count h = h
 have_more (column ∷ columns) [] count h = h
 have_more (column ∷ columns) (c ∷ cells) count h =
@@ -51,7 +51,7 @@ rows_below columns cells count (suc n) h k =
     ap₂ (λ (rows : List Column) (row : Column). rows ++ row ∷ []) (rows_below columns cells count n h (omega (arith, k))) (row_stays columns cells count n h (omega (arith, k)))
 
 -- the rows stay when columns get one more cell each
-pub rows_stay : (columns : List Column) (cells : List Cell) (count : ℕ) → HaveRows columns count → rows_over (widened columns cells) count ≡ rows_over columns count
+rows_stay : (columns : List Column) (cells : List Cell) (count : ℕ) → HaveRows columns count → rows_over (widened columns cells) count ≡ rows_over columns count
 rows_stay columns cells count h = rows_below columns cells count count h (omega arith)
 
 pub widened_length : (columns : List Column) (cells : List Cell) → length (widened columns cells) ≡ length columns
@@ -123,7 +123,7 @@ put_none columns now cells at column pushed is within read stays =
     (ap (set now at) (stays ∙ get_or_read now at column within read []) ∙ set-get_or now at [] ∙ is)
 
 -- the rows with the next
-pub rows_pushed : (columns : List Column) (cells : List Cell) (count : ℕ) → HaveRows columns count → EndBehind columns count → length columns ≡ length cells
+rows_pushed : (columns : List Column) (cells : List Cell) (count : ℕ) → HaveRows columns count → EndBehind columns count → length columns ≡ length cells
     → rows_over (widened columns cells) (suc count) ≡ rows_over columns count ++ cells ∷ []
 rows_pushed columns cells count h ends same =
     ap₂ (λ (rows : List Column) (row : Column). rows ++ row ∷ []) (rows_stay columns cells count h) (next_row columns cells count ends same)
@@ -141,6 +141,9 @@ module _ (columns : List Column) (count : ℕ) (behind seen : List (List Cell)) 
       ∙ get_or_append_left (rows_over columns count) behind [] at (omega (arith, h, rows_length columns count))
       ∙ row_at columns count at h
 
+  pub width_in_columns : (at : ℕ) → at < count → length (get_or seen at []) ≡ length columns
+  width_in_columns at h = ap length (row_in_columns at h) ∙ row_width columns at
+
   pub row_behind : (at : ℕ) → count ≤ at → get_or seen at [] ≡ get_or behind (at - count) []
   row_behind at h =
       ap (λ (rows : List (List Cell)). get_or rows at []) (sym view)
@@ -148,38 +151,6 @@ module _ (columns : List Column) (count : ℕ) (behind seen : List (List Cell)) 
 
   pub seen_length : length seen ≡ count + length behind
   seen_length = ap length (sym view) ∙ length-append (rows_over columns count) behind ∙ omega (arith, rows_length columns count)
-
--- the cells of a column behind its numbers
-module _ (numbers : List ℤ) (truths : List Bool) (texts : List (List ℕ)) (rest seen : List Cell) (at : ℕ) (view : column_of numbers truths texts rest ≡ seen) (past : length numbers ≤ at) where
-  behind_numbers : (d : Cell) → get_or seen at d ≡ get_or (map cell.Bool truths ++ (map cell.Text texts ++ rest)) (at - length numbers) d
-  behind_numbers d =
-      ap (λ (cells : List Cell). get_or cells at d) (sym view)
-      ∙ get_or-append_right (map cell.Int numbers) (map cell.Bool truths ++ (map cell.Text texts ++ rest)) (length numbers) at d (length-map numbers cell.Int) past
-
-  behind_truths : (d : Cell) → length truths ≤ at - length numbers → get_or seen at d ≡ get_or (map cell.Text texts ++ rest) (at - length numbers - length truths) d
-  behind_truths d h =
-      behind_numbers d
-      ∙ get_or-append_right (map cell.Bool truths) (map cell.Text texts ++ rest) (length truths) (at - length numbers) d (length-map truths cell.Bool) h
-
-  pub text_there : (d : Cell) → length truths ≤ at - length numbers → at - length numbers - length truths < length texts
-      → get_or seen at d ≡ cell.Text (get_or texts (at - length numbers - length truths) [])
-  text_there d h k =
-      behind_truths d h
-      ∙ get_or_append_left (map cell.Text texts) rest d (at - length numbers - length truths) (omega (arith, k, length-map texts cell.Text))
-      ∙ get_or-map cell.Text texts (at - length numbers - length truths) [] d k
-
-  pub rest_there : (d : Cell) → length truths ≤ at - length numbers → length texts ≤ at - length numbers - length truths
-      → get_or seen at d ≡ get_or rest (at - length numbers - length truths - length texts) d
-  rest_there d h k =
-      behind_truths d h
-      ∙ get_or-append_right (map cell.Text texts) rest (length texts) (at - length numbers - length truths) d (length-map texts cell.Text) k
-
-  size : length seen ≡ length numbers + (length truths + (length texts + length rest))
-  size = ap length (sym view) ∙ rw (length-append, length-map, length-append, length-map, length-append, length-map) refl
-
-  pub rest_within : at < length seen → length truths ≤ at - length numbers → length texts ≤ at - length numbers - length truths
-      → at - length numbers - length truths - length texts < length rest
-  rest_within h k l = omega (arith, h, k, l, size, past)
 
 -- a row that has a cell is there
 pub row_there : (rows : List (List Cell)) (row column : ℕ) → column < length (get_or rows row []) → row < length rows

@@ -19,5 +19,7 @@ pub mod Substitution
 pub mod Unfolding
 pub mod StableSorts
 pub mod FieldSorts
+pub mod Blocks
 pub mod PackedTexts
+pub mod ColumnCells
 pub mod ColumnRows

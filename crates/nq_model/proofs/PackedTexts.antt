@@ -1,6 +1,6 @@
 -- Pieces of a list, which end at places.
 use Rattle.std.proofs.Common.{◌≡◌, ℕ, zero, suc, ◌+◌, ◌-◌, ◌<◌, ◌≤◌, List, [], ◌∷◌, ◌++◌, take, drop, length, get_or, slice_range, All, refl, sym, ap, ap₂, ◌∙◌, subst, arith, length-append, length-drop}
-use Rattle.std.proofs.lemmas.List.{drop_all, take_all, take-append-le, drop-append-le, get_or_read}
+use Rattle.std.proofs.lemmas.List.{drop_all, take_all, take-append-le, drop-append-le}
 use Rattle.std.proofs.lemmas.List.Elements.{All-push}
 use Rattle.std.specs.Str.{IsUtf8}
 use Rattle.nq_model.specs.Packed.{pieces, AreEnds, start_of}
@@ -22,15 +22,11 @@ place_at from [] size at h k = absurd (omega (arith, k))
 place_at from (end ∷ ends) size zero h k = (h.0, ends_within end ends size h.1)
 place_at from (end ∷ ends) size (suc at) h k = place_at end ends size at h.1 (omega (arith, k))
 
-pub piece_begins : (ends : List ℕ) (size at : ℕ) → AreEnds 0 ends size → at < length ends → start_of ends at ≤ get_or ends at 0
+piece_begins : (ends : List ℕ) (size at : ℕ) → AreEnds 0 ends size → at < length ends → start_of ends at ≤ get_or ends at 0
 piece_begins ends size at h k = (place_at 0 ends size at h k).0
 
-pub piece_ends : (ends : List ℕ) (size at : ℕ) → AreEnds 0 ends size → at < length ends → get_or ends at 0 ≤ size
+piece_ends : (ends : List ℕ) (size at : ℕ) → AreEnds 0 ends size → at < length ends → get_or ends at 0 ≤ size
 piece_ends ends size at h k = (place_at 0 ends size at h k).1
-
-pub start_behind : (ends : List ℕ) (at : ℕ) → 0 < at → start_of ends at ≡ get_or ends (at - 1) 0
-start_behind ends zero h = absurd (omega (arith, h))
-start_behind ends (suc at) h = ap (λ (n : ℕ). get_or ends n 0) (omega arith)
 
 module _ {A : Type 0} where
   -- a range of a list, before more comes
@@ -81,21 +77,18 @@ module _ {A : Type 0} where
   pub piece_there : (ends : List ℕ) (xs : List A) (seen : List (List A)) (at : ℕ) → pieces 0 ends xs ≡ seen → at < length seen → at < length ends
   piece_there ends xs seen at view h = omega (arith, ends_length ends xs seen view)
 
--- where a piece begins and ends, as they are read
+-- where a piece begins and ends
 module _ {A : Type 0} (ends : List ℕ) (xs : List A) (seen : List (List A)) (at start end : ℕ) (view : pieces 0 ends xs ≡ seen) (known : AreEnds 0 ends (length xs))
-    (within : at < length ends) (begins : start ≡ start_of ends at) (is_end : end ≡ get_or ends at end) where
-  read_end : end ≡ get_or ends at 0
-  read_end = get_or_read ends at end within is_end 0
-
+    (within : at < length ends) (begins : start ≡ start_of ends at) (is_end : end ≡ get_or ends at 0) where
   pub read_order : start ≤ end
-  read_order = rw (begins, read_end) (piece_begins ends (length xs) at known within)
+  read_order = rw (begins, is_end) (piece_begins ends (length xs) at known within)
 
   pub read_within : end ≤ length xs
-  read_within = rw read_end (piece_ends ends (length xs) at known within)
+  read_within = rw is_end (piece_ends ends (length xs) at known within)
 
   pub read_piece : slice_range xs start end ≡ get_or seen at []
   read_piece =
-      ap₂ (slice_range xs) begins read_end ∙ sym (piece_at ends xs at [] within) ∙ ap (λ (ls : List (List A)). get_or ls at []) view
+      ap₂ (slice_range xs) begins is_end ∙ sym (piece_at ends xs at [] within) ∙ ap (λ (ls : List (List A)). get_or ls at []) view
 
 -- bytes that are texts, which end at these places
 abbrev pub AreTexts : List ℕ → List ℕ → Type 0

@@ -3,9 +3,9 @@ use Rattle.std.specs.Prelude.{◌≤◌, ◌≡◌, ◌++◌, ℕ, zero, suc, �
 use Rattle.nq_model.specs.declared.table.Cell.{Cell}
 use Rattle.nq_model.specs.declared.table.Cell.TheVariants as cell
 
--- the cells of a column: first its numbers, then its truth values, its texts, and cells of any kind
+-- the cells of a column: first its integers, then its truth values, its texts, and cells of any kind
 abbrev pub column_of : List ℤ → List Bool → List (List ℕ) → List Cell → List Cell
-column_of numbers truths texts rest = map cell.Int numbers ++ (map cell.Bool truths ++ (map cell.Text texts ++ rest))
+column_of integers truths texts rest = map cell.Int integers ++ (map cell.Bool truths ++ (map cell.Text texts ++ rest))
 
 -- the row at a place: the cell of each column at that place
 abbrev pub row_over : List (List Cell) → ℕ → List Cell

@@ -5,6 +5,7 @@ pub mod Types
 pub mod Cells
 pub mod CellRefs
 pub mod Packed
+pub mod Blocks
 pub mod Columns
 pub mod Values
 pub mod Canonical

@@ -4,9 +4,9 @@ ghost use Rattle.nq_model.specs.CellRefs.{cell_seen};
 ghost use Rattle.nq_model.specs.declared.table.Cell.TheVariants as cell;
 
 use crate::cell_ref::CellRef;
+use crate::integers::Integers;
 use crate::list::List;
 use crate::memory::Memory;
-use crate::numbers::Numbers;
 use crate::table::Cell;
 use crate::texts::Texts;
 use std::alloc::Global;
@@ -17,7 +17,7 @@ use std::marker::Model;
 #[derive(Drop)]
 pub(crate) struct Column {
     alloc: Global,
-    numbers: Numbers,
+    integers: Integers,
     truths: Vec<bool>,
     texts: Texts,
     rest: List<Cell>,
@@ -31,7 +31,7 @@ impl Model for Column {
 
     ghost use Rattle.nq_model.specs.Columns.{column_of};
 
-    ghost view = { λ column. column_of column.numbers column.truths.items column.texts column.rest };
+    ghost view = { λ column. column_of column.integers column.truths.items column.texts column.rest };
 }
 
 impl Column {
@@ -41,7 +41,7 @@ impl Column {
     {
         Column {
             alloc,
-            numbers: Numbers::new(alloc),
+            integers: Integers::new(alloc),
             truths: Vec::new(alloc),
             texts: Texts::new(alloc),
             rest: List::new(alloc),
@@ -53,10 +53,10 @@ impl Column {
         requires { at < length self.now }
         ensures { cell_seen result ≡ slice_index_or self.now at (cell.Int (pos 0)) }
     {
-        if let Some(number) = self.numbers.get(at) {
-            return CellRef::Int(number);
+        if let Some(integer) = self.integers.get(at) {
+            return CellRef::Int(integer);
         }
-        let at = self.numbers.behind(at);
+        let at = self.integers.behind(at);
         if at < self.truths.len() {
             return CellRef::Bool(self.truths[at]);
         }
@@ -76,7 +76,7 @@ impl Column {
         let no_texts = no_rest && self.texts.len() == 0;
         let no_truths = no_texts && self.truths.is_empty();
         match cell {
-            CellRef::Int(number) if no_truths => self.numbers.push(*number),
+            CellRef::Int(integer) if no_truths => self.integers.push(*integer),
             CellRef::Bool(truth) if no_texts => Ok(self.truths.push(*truth)?),
             CellRef::Text(text) if no_rest => self.texts.push(text),
             _ => self.rest.push(cell.copy(self.alloc)?),

@@ -3,10 +3,11 @@
 
 mod cell_ref;
 mod column;
+mod ends;
+mod integers;
 mod laws;
 mod list;
 mod memory;
-mod numbers;
 mod operators;
 mod order;
 mod rows;

@@ -3,24 +3,25 @@ ghost use Rattle.std.specs.Prelude.{◌≡◌, ◌≤◌, ◌<◌, ◌++◌, [],
 ghost use Rattle.std.specs.Str.{IsUtf8};
 ghost use Rattle.nq_model.specs.Packed.{start_of};
 
+use crate::ends::Ends;
 use crate::memory::Memory;
 use std::alloc::Global;
 use std::marker::Model;
 use std::str;
 
-// Where the piece of this number begins, of pieces that end at these places.
-pub(crate) fn start_of(ends: &[u32], at: usize) -> usize
+// Where the piece of this number begins.
+fn start_of(ends: &Ends, at: usize) -> usize
     requires { at ≤ length ends.now }
     ensures { result ≡ start_of ends.now at }
 {
     if at == 0 {
         return 0;
     }
-    ends[at - 1] as usize
+    ends.get(at - 1)
 }
 
 // A place as it is held. Where it is past the greatest that can be held, memory wants.
-pub(crate) fn place(at: usize) -> Result<u32, Memory>
+fn place(at: usize) -> Result<u32, Memory>
     ensures { IfOk result (λ held. held ≡ at) }
 {
     if at > u32::MAX as usize {
@@ -50,7 +51,7 @@ fn text_of(bytes: &[u8]) -> &str
 #[derive(Drop)]
 pub(crate) struct Texts {
     bytes: Vec<u8>,
-    ends: Vec<u32>,
+    ends: Ends,
 }
 
 impl Model for Texts {
@@ -61,10 +62,10 @@ impl Model for Texts {
 
     ghost use Rattle.nq_model.specs.Packed.{pieces, AreEnds};
 
-    ghost view = { λ texts. pieces 0 texts.ends.items texts.bytes.items };
+    ghost view = { λ texts. pieces 0 texts.ends texts.bytes.items };
 
-    ghost invariant = { λ texts. AreEnds 0 texts.ends.items (length texts.bytes.items)
-        × All IsUtf8 (pieces 0 texts.ends.items texts.bytes.items) };
+    ghost invariant = { λ texts. AreEnds 0 texts.ends (length texts.bytes.items)
+        × All IsUtf8 (pieces 0 texts.ends texts.bytes.items) };
 }
 
 impl Texts {
@@ -73,7 +74,7 @@ impl Texts {
     {
         Texts {
             bytes: Vec::new(alloc),
-            ends: Vec::new(alloc),
+            ends: Ends::new(alloc),
         }
     }
 
@@ -88,8 +89,8 @@ impl Texts {
         requires { at < length self.now }
         ensures { result.now ≡ slice_index_or self.now at [] }
     {
-        let start = start_of(self.ends.as_slice(), at);
-        let end = self.ends[at] as usize;
+        let start = start_of(&self.ends, at);
+        let end = self.ends.get(at);
         text_of(part(self.bytes.as_slice(), start, end))
     }
 
@@ -99,9 +100,9 @@ impl Texts {
         ensures err { OnErr result (self.new ≡ self.old) }
     {
         let end = place(self.bytes.len().saturating_add(text.len()))?;
-        self.ends.reserve(1)?;
+        self.bytes.reserve(text.len())?;
+        self.ends.push(end)?;
         self.bytes.extend_from_slice(text.as_bytes())?;
-        self.ends.push_reserved(end);
         Ok(())
     }
 }

@@ -2,19 +2,17 @@ use Rattle.std.proofs.Common.{◌≡◌, ◌<◌, ◌≤◌, ◌-◌, ◌∙◌,
 use Rattle.std.proofs.lemmas.List.{get_or_read}
 use Rattle.nq_model.specs.declared.table.Cell.{Cell}
 use Rattle.nq_model.specs.declared.table.Cell.TheVariants as cell
-use Rattle.nq_model.proofs.ColumnRows.{row_in_columns, row_behind, row_width, row_there, seen_length, cell_over}
+use Rattle.nq_model.proofs.ColumnRows.{width_in_columns, row_in_columns, row_behind, row_there, seen_length, cell_over}
 use Rattle.nq_model.proofs.rows.Rows.cell.Goals as goal
 
 pub index-requires : goal.index-requires
 index-requires c =
-    let width : length (get_or c.args.self.now c.args.row []) ≡ length c.self.inside.columns.items =
-    ap length (row_in_columns c.self.inside.columns.items c.self.inside.in_columns c.self.inside.behind c.args.self.now c.self.view_is c.args.row (omega arith)) ∙ row_width c.self.inside.columns.items c.args.row in
+    let width = width_in_columns c.self.inside.columns.items c.self.inside.in_columns c.self.inside.behind c.args.self.now c.self.view_is c.args.row (omega arith) in
     omega (arith, width, c.requires)
 
 within : (c : goal.After-index) → c.args.column < length c.self.inside.columns.items
 within c =
-    let width : length (get_or c.args.self.now c.args.row []) ≡ length c.self.inside.columns.items =
-    ap length (row_in_columns c.self.inside.columns.items c.self.inside.in_columns c.self.inside.behind c.args.self.now c.self.view_is c.args.row (omega arith)) ∙ row_width c.self.inside.columns.items c.args.row in
+    let width = width_in_columns c.self.inside.columns.items c.self.inside.in_columns c.self.inside.behind c.args.self.now c.self.view_is c.args.row (omega arith) in
     omega (arith, width, c.requires)
 
 column : (c : goal.After-index) → c.index.result.now ≡ get_or c.self.inside.columns.items c.args.column []

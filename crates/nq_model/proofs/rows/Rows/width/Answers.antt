@@ -1,13 +1,12 @@
 use Rattle.std.proofs.Common.{◌<◌, ◌≤◌, ◌-◌, ◌∙◌, List, [], sym, ap, length, get_or, arith}
 use Rattle.std.proofs.lemmas.List.{get_or_past, get_or_read}
 use Rattle.nq_model.specs.declared.table.Cell.{Cell}
-use Rattle.nq_model.proofs.ColumnRows.{row_in_columns, row_behind, row_width}
+use Rattle.nq_model.proofs.ColumnRows.{width_in_columns, row_behind}
 use Rattle.nq_model.proofs.rows.Rows.width.Goals as goal
 
 pub returns-then-row-self : goal.returns-then-row-self
 returns-then-row-self c =
-    let width = ap length (row_in_columns c.self.inside.columns.items c.self.inside.in_columns c.self.inside.behind c.args.self.now c.self.view_is c.args.row (omega arith))
-    ∙ row_width c.self.inside.columns.items c.args.row in
+    let width = width_in_columns c.self.inside.columns.items c.self.inside.in_columns c.self.inside.behind c.args.self.now c.self.view_is c.args.row (omega arith) in
     omega (arith, c.len.ensures, width)
 
 pub returns-then-at-len : goal.returns-then-at-len
