@@ -16,7 +16,7 @@ use Rattle.nq_model.specs.declared.table.Cell.{Cell}
 use Rattle.nq_model.specs.declared.table.Cell.TheVariants.{Int}
 use Rattle.nq_model.proofs.Canonical.{label_order}
 use Rattle.canon.specs.Rows.{cells_cmp, record_of, row_at, row_record, rows_at, rows_value}
-use Rattle.canon.specs.Texts.{separator}
+use Rattle.nq_model.specs.Separators.{separator}
 use Rattle.canon.proofs.Canonical.{canonical_record, canonical_bag}
 use Rattle.canon.proofs.Writing.{field_text, elements_push, fields_push}
 

@@ -5,7 +5,7 @@ use Rattle.std.proofs.lemmas.Bool.Decides.{eqb_tells}
 use Rattle.nq_model.specs.Values.{Nested, nested, fields_of, elements_of, fields_view}
 use Rattle.nq_model.specs.Canonical.{doubled_quotes, written, written_fields, written_elements}
 use Rattle.nq_model.specs.declared.value.Value.{Value}
-use Rattle.canon.specs.Texts.{separator}
+use Rattle.nq_model.specs.Separators.{separator}
 
 -- the text after start grows by a separator and an item
 pub appended : (start old mid new done sep item all : List ℕ) → old ≡ start ++ done → mid ≡ old ++ sep → new ≡ mid ++ item → all ≡ done ++ (sep ++ item) → new ≡ start ++ all

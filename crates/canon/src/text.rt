@@ -4,7 +4,7 @@ ghost use Rattle.nq_model.specs.Values.{nested, rec_of, bag_of, fields_view};
 ghost use Rattle.nq_model.specs.Canonical.{canonical_text, cell_text, written};
 ghost use Rattle.nq_model.specs.declared.table.Cell.TheVariants as cell;
 ghost use Rattle.canon.specs.Sorted.{IsSortedDeep};
-ghost use Rattle.canon.specs.Texts.{separator};
+ghost use Rattle.nq_model.specs.Separators.{separator};
 
 use itoa::Buffer;
 use nq_model::{Label, List, Memory, Value};

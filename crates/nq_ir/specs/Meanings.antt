@@ -4,6 +4,7 @@
 use Rattle.std.specs.Prelude.{◌≡◌, ℕ, List, [], ◌∷◌, ◌++◌, map, zip, filter, flat_map, find, Bool, true, false, cond, ◌&&◌, nat_eq, Option, Some, None}
 use Rattle.std.specs.Str.{bytes_eq}
 use Rattle.nq_model.specs.Databases.{FilledTable}
+use Rattle.nq_model.specs.Meaning.{is_none}
 use Rattle.nq_model.specs.Operators.{is_true, unary_value, binary_value}
 use Rattle.nq_model.specs.Tables.{names_of}
 use Rattle.nq_model.specs.Values.{Nested, base, rec, Fields, bag_of}
@@ -55,10 +56,6 @@ cell_under l (c ∷ cs) = cond (bytes_eq l c.0) c.1 (cell_under l cs)
 abbrev pub row_of : ℕ → Env → Row
 row_of g [] = []
 row_of g (b ∷ bs) = cond (nat_eq g b.0) b.1 (row_of g bs)
-
-abbrev pub is_none : {A : Type 0} → List A → Bool
-is_none [] = true
-is_none (x ∷ xs) = false
 
 -- all choices of one row for each generator, the first outermost
 abbrev pub choices : Tables → List Gen → List Env

@@ -30,3 +30,4 @@ pub mod QueryGrammar
 pub mod QueryScope
 pub mod QueryTexts
 pub mod TypeTexts
+pub mod Separators

@@ -38,9 +38,9 @@ field_in label (bag vs) = base (cell.Bool false)
 abbrev pub put_field : List ℕ → Nested → List (List ℕ × Nested) → List (List ℕ × Nested)
 put_field label value fields = put_by (λ f g. label_cmp f.0 g.0) (label, value) fields
 
-abbrev pub is_none : List Nested → Bool
+abbrev pub is_none : {A : Type 0} → List A → Bool
 is_none [] = true
-is_none (v ∷ vs) = false
+is_none (x ∷ xs) = false
 
 -- The meaning over tables, where the variables have these values, the innermost first.
 module _ (tables : List FilledTable) where

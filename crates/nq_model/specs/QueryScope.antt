@@ -5,6 +5,7 @@ use Rattle.std.specs.Prelude.{ℕ, suc, pos, Bool, true, false, ◌||◌, if◌t
 use Rattle.std.specs.Str.{bytes_eq}
 use Rattle.nq_model.specs.Orders.{by_label}
 use Rattle.nq_model.specs.Types.{TypeTree, field_types_of}
+use Rattle.nq_model.specs.Tables.{base_type}
 use Rattle.nq_model.specs.Terms.{PlacedTerm, PlacedNode, PlacedFields, at}
 use Rattle.nq_model.specs.QueryTokens.{is_quote, Operator, Union, Of, Constant, Number, Literal}
 use Rattle.nq_model.specs.QueryGrammar.{TypeSyntax, TBase, TBag, TParen, TNoFields, TRec, TFun, TypeFields, TOne, TMore, Syntax, Const, Truth, Var, Table, Empty, Paren, NoFields, Rec, Bag, Nil, For, Where, If, Fun, Let, Prefix, Infix, Apply, Field, Fields, One, More}
@@ -30,15 +31,10 @@ undoubled kept [] = []
 undoubled false (b ∷ bs) = b ∷ undoubled (is_quote b) bs
 undoubled true (b ∷ bs) = undoubled false bs
 
-abbrev pub base_tree : ColumnType → TypeTree
-base_tree column.Int = TypeTree.int
-base_tree column.Bool = TypeTree.bool
-base_tree column.Text = TypeTree.text
-
 -- the type that is written, in which the fields of a record stand in the byte order of their labels
 abbrev mutual
   pub type_of : TypeSyntax → TypeTree
-  type_of (TBase p c) = base_tree c
+  type_of (TBase p c) = base_type c
   type_of (TBag p t q) = TypeTree.bag (type_of t)
   type_of (TParen p t q) = type_of t
   type_of (TNoFields p q) = TypeTree.rec (field_types_of [])

@@ -28,7 +28,7 @@ pub use laws::{canonical_laws, sameness_laws};
 pub use list::List;
 pub use memory::{Memory, boxed};
 pub use operators::{binary_value, is_true, unary_value};
-pub use order::label_order;
+pub use order::{in_label_order, label_order};
 pub use rows::Rows;
 pub use step_laws::{substitution_laws, unfolding_laws};
 pub use table::{Cell, ColumnType, Schema, Table, TableShape};

@@ -1,10 +1,12 @@
 // The byte order of labels.
 ghost use Rattle.std.specs.Prelude.{◌≡◌, ◌<◌, ◌≤◌, All, IfOk, length, map, insert};
-ghost use Rattle.nq_model.specs.Orders.{label_at, place_cmp, label_order, put_by};
+ghost use Rattle.nq_model.specs.Orders.{by_label, label_at, place_cmp, label_order, put_by};
+ghost use Rattle.nq_model.specs.Types.{fields_view};
 
 use crate::list::List;
 use crate::memory::Memory;
 use crate::text::Label;
+use crate::ty::Ty;
 use std::alloc::Global;
 use std::cmp::Ordering;
 
@@ -47,4 +49,14 @@ pub fn label_order<T>(alloc: Global, fields: &[(Label, T)]) -> Result<List<usize
         order.insert(at, place)?;
     }
     Ok(List::from_vec(order))
+}
+
+/// The fields in the byte order of their labels; of equal labels the earlier field first. The only error is that
+/// memory wants.
+pub fn in_label_order(fields: List<(Label, Ty)>) -> Result<List<(Label, Ty)>, Memory>
+    ensures { IfOk result (λ sorted. fields_view sorted ≡ by_label (fields_view fields)) }
+{
+    let mut sorted = fields.into_vec();
+    sorted.sort_by(|left, right| left.0.as_str().cmp(right.0.as_str()))?;
+    Ok(List::from_vec(sorted))
 }

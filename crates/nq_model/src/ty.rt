@@ -1,9 +1,11 @@
 // Types.
 ghost use Rattle.std.specs.Prelude.{◌≡◌, IfOk};
+ghost use Rattle.nq_model.specs.Tables.{base_type};
 ghost use Rattle.nq_model.specs.Types.{type_tree, is_plain, are_plain, type_eq, field_types_eq, field_types_of, fields_view};
 
 use crate::list::List;
 use crate::memory::{Memory, boxed};
+use crate::table::ColumnType;
 use crate::text::Label;
 use std::alloc::Global;
 
@@ -22,6 +24,17 @@ pub enum Ty {
 }
 
 impl Ty {
+    /// The type that a base type is.
+    pub fn of_base(base: ColumnType) -> Ty
+        ensures { type_tree result ≡ base_type base }
+    {
+        match base {
+            ColumnType::Int => Ty::Int,
+            ColumnType::Bool => Ty::Bool,
+            ColumnType::Text => Ty::Text,
+        }
+    }
+
     /// Whether no function stands in the type.
     #[cycle(plain)]
     pub fn is_plain(&self) -> bool

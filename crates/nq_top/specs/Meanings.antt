@@ -1,11 +1,12 @@
 -- What a query of a table means over tables, and the value that an answer stands for.
-use Rattle.std.specs.Prelude.{ℕ, Bool, false, ◌&&◌, List, [], ◌∷◌, map, filter, drop, zip, pos, slice_get, Option, Some, None}
+use Rattle.std.specs.Prelude.{ℕ, Bool, false, ◌&&◌, List, [], ◌∷◌, map, filter, pos, slice_get, Option, Some, None}
 use Rattle.std.specs.Ordering.{int_eq}
 use Rattle.nq_model.specs.Databases.{FilledTable}
 use Rattle.nq_model.specs.Tables.{table_value}
-use Rattle.nq_model.specs.Values.{Nested, base, bag_of, rec_of}
+use Rattle.nq_model.specs.Values.{Nested, bag_of}
 use Rattle.nq_model.specs.declared.table.Cell.{Cell}
 use Rattle.nq_model.specs.declared.table.Cell.TheVariants.{Int}
+use Rattle.canon.specs.Rows.{row_record}
 use Rattle.sql_profile.specs.declared.server.Loaded.{Loaded}
 
 -- the meaning of `table t`, where t is the table at a place: the bag of its rows
@@ -25,9 +26,9 @@ abbrev pub is_top : List Cell → Bool
 is_top (Int tag ∷ Int number ∷ cells) = int_eq tag (pos 0) && int_eq number (pos 1)
 is_top _ = false
 
--- the element that a row stands for: its cells beside their labels
+-- the element that a row stands for: its cells behind the indexes, beside their labels
 abbrev pub element_of : List (List ℕ) → List Cell → Nested
-element_of labels row = rec_of (zip labels (map base (drop 2 row)))
+element_of labels row = row_record labels 2 row
 
 -- the bag that an answer stands for; rows of another index are not used
 unfoldable pub answer_value : List (List ℕ) → List (List Cell) → Nested

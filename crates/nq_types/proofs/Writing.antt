@@ -4,7 +4,7 @@ use Rattle.std.proofs.lemmas.List.{take_more, map-append}
 use Rattle.nq_model.specs.Types.{TypeTree, type_tree, field_types_of, fields_view}
 use Rattle.nq_model.specs.TypeTexts.{written_type, written_types}
 use Rattle.nq_model.specs.declared.ty.Ty.{Ty}
-use Rattle.nq_types.specs.Separators.{separator}
+use Rattle.nq_model.specs.Separators.{separator}
 
 -- the text after start grows by a separator and an item
 pub appended : (start old mid new done sep item all : List ℕ) → old ≡ start ++ done → mid ≡ old ++ sep → new ≡ mid ++ item → all ≡ done ++ (sep ++ item) → new ≡ start ++ all

@@ -2,4 +2,3 @@ pub mod Answers
 pub mod Scopes
 pub mod Indexes
 pub mod Steps
-pub mod Separators

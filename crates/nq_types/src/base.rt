@@ -1,7 +1,6 @@
 // Base types, and what operators give on them.
 ghost use Rattle.std.specs.Prelude.{◌≡◌};
 ghost use Rattle.nq_model.specs.Types.{type_tree};
-ghost use Rattle.nq_model.specs.Tables.{base_type};
 ghost use Rattle.nq_model.specs.Operators.{unary_type, binary_type};
 ghost use Rattle.nq_model.specs.TypeOf.{base_of};
 
@@ -16,17 +15,6 @@ pub(crate) fn base_of(ty: &Ty) -> Option<ColumnType>
         Ty::Bool => Some(ColumnType::Bool),
         Ty::Text => Some(ColumnType::Text),
         Ty::Rec(_) | Ty::Bag(_) | Ty::Fun(_, _) => None,
-    }
-}
-
-// The type that a base type is.
-pub(crate) fn of_base(base: ColumnType) -> Ty
-    ensures { type_tree result ≡ base_type base }
-{
-    match base {
-        ColumnType::Int => Ty::Int,
-        ColumnType::Bool => Ty::Bool,
-        ColumnType::Text => Ty::Text,
     }
 }
 

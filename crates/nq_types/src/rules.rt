@@ -5,7 +5,7 @@ ghost use Rattle.nq_model.specs.TypeOf.{unary_given, binary_given, choice_given,
 ghost use Rattle.nq_model.specs.Judging.{by_rule, unary_rule, binary_rule};
 ghost use Rattle.nq_types.specs.Steps.{Gives, Faults};
 
-use crate::base::{base_of, binary_type, of_base, unary_type};
+use crate::base::{base_of, binary_type, unary_type};
 use crate::fault::CheckFault;
 use crate::fields::field_type;
 use nq_model::{Binary, Label, Ty, Unary, boxed};
@@ -40,7 +40,7 @@ pub(crate) fn unary(op: Unary, place: u64, of: &Ty) -> Result<Ty, CheckFault>
         None => None,
     };
     match given {
-        Some(base) => Ok(of_base(base)),
+        Some(base) => Ok(Ty::of_base(base)),
         None => Err(CheckFault::Ill {
             rule: unary_rule(op),
             place,
@@ -54,7 +54,7 @@ fn operated(op: Binary, left: &Ty, right: &Ty) -> Option<Ty>
 {
     match (base_of(left), base_of(right)) {
         (Some(left), Some(right)) => match binary_type(op, left, right) {
-            Some(base) => Some(of_base(base)),
+            Some(base) => Some(Ty::of_base(base)),
             None => None,
         },
         _ => None,

@@ -5,8 +5,6 @@ ghost use Rattle.nq_model.specs.Types.{type_tree};
 ghost use Rattle.nq_model.specs.Typing.{shape_named};
 ghost use Rattle.nq_types.specs.Indexes.{TellsPlaces};
 
-use crate::base::of_base;
-use crate::fields::in_label_order;
 use nq_model::{ColumnType, Label, List, Memory, Schema, TableShape, Ty, boxed};
 use std::alloc::Global;
 use std::collections::BTreeMap;
@@ -59,7 +57,7 @@ pub(crate) fn table_type(alloc: Global, columns: &[(Label, ColumnType)]) -> Resu
 {
     let mut fields = List::with_capacity(alloc, columns.len())?;
     for column in columns {
-        fields.push((column.0.copy(alloc)?, of_base(column.1)))?;
+        fields.push((column.0.copy(alloc)?, Ty::of_base(column.1)))?;
     }
     let row = Ty::Rec(in_label_order(fields)?);
     Ok(Ty::Bag(boxed(alloc, row)?))

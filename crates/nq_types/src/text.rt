@@ -2,7 +2,7 @@
 ghost use Rattle.std.specs.Prelude.{◌≡◌, ◌++◌, IfOk, OnOk, string_bytes};
 ghost use Rattle.nq_model.specs.Types.{type_tree, rec, bag, field_types_of, fields_view};
 ghost use Rattle.nq_model.specs.TypeTexts.{written_type, is_function, in_parentheses};
-ghost use Rattle.nq_types.specs.Separators.{separator};
+ghost use Rattle.nq_model.specs.Separators.{separator};
 
 use nq_model::{Label, List, Memory, Ty};
 use std::alloc::Global;

@@ -8,7 +8,6 @@ ghost use Rattle.nq_types.specs.Scopes.{types_in};
 ghost use Rattle.nq_types.specs.Steps.{Gives, Faults, listed};
 
 use crate::fault::CheckFault;
-use crate::fields::in_label_order;
 use crate::rules;
 use crate::scope::Scope;
 use crate::tables::{Tables, table_type};

@@ -4,10 +4,11 @@ use Rattle.std.specs.BTreeSet.{BTreeSet, contains_text}
 use Rattle.std.specs.declared.string.String.{String}
 use Rattle.std.specs.declared.alloc.Global.{Global}
 use Rattle.nq_model.specs.Orders.{by_label}
+use Rattle.nq_model.specs.Tables.{base_type}
 use Rattle.nq_model.specs.Types.{TypeTree, field_types_of}
 use Rattle.nq_model.specs.Terms.{PlacedTerm, PlacedNode, PlacedFields, at, placed, placed_fields_of}
 use Rattle.nq_model.specs.QueryGrammar.{TypeSyntax, TBase, TBag, TParen, TNoFields, TRec, TFun, TypeFields, TOne, TMore, Syntax, Const, Truth, Var, Table, Empty, Paren, NoFields, Rec, Bag, Nil, For, Where, If, Fun, Let, Prefix, Infix, Apply, Field, Fields, One, More}
-use Rattle.nq_model.specs.QueryScope.{Name, among, number_of, base_tree, constant_node, operator_node, fields_place, type_labels, labels, Wrong, Unbound, TwiceLabel, wrongs, term_of}
+use Rattle.nq_model.specs.QueryScope.{Name, among, number_of, constant_node, operator_node, fields_place, type_labels, labels, Wrong, Unbound, TwiceLabel, wrongs, term_of}
 use Rattle.nq_model.specs.declared.term.Term.{Term}
 use Rattle.query_syntax.specs.declared.fault.SyntaxFault.{SyntaxFault}
 use Rattle.query_syntax.specs.declared.fault.SyntaxFault.TheVariants as code
@@ -25,7 +26,7 @@ new_label false v = Ok tt
 
 abbrev mutual
   pub type_lowered : TypeSyntax → Result TypeTree SyntaxFault
-  type_lowered (TBase p c) = Ok (base_tree c)
+  type_lowered (TBase p c) = Ok (base_type c)
   type_lowered (TBag p t q) = do
     a ← type_lowered t
     Ok (TypeTree.bag a)

@@ -1,7 +1,5 @@
 // Types as they are written become types.
 ghost use Rattle.std.specs.Prelude.{◌≡◌, IfOk};
-ghost use Rattle.nq_model.specs.Orders.{by_label};
-ghost use Rattle.nq_model.specs.QueryScope.{base_tree};
 ghost use Rattle.nq_model.specs.Types.{type_tree, fields_view};
 ghost use Rattle.query_syntax.specs.Lowering.{Gives, type_lowered, type_fields_lowered};
 ghost use Rattle.query_syntax.specs.Trees.{type_view, type_fields, typed};
@@ -9,7 +7,7 @@ ghost use Rattle.query_syntax.specs.Trees.{type_view, type_fields, typed};
 use crate::fault::SyntaxFault;
 use crate::lower_labels;
 use crate::syntax::{FieldName, TypeSyntax};
-use nq_model::{ColumnType, Label, List, Memory, Ty, boxed};
+use nq_model::{Label, List, Memory, Ty, boxed, in_label_order};
 use std::alloc::Global;
 use std::collections::BTreeSet;
 
@@ -22,7 +20,7 @@ pub fn lower_type(alloc: Global, syntax: TypeSyntax) -> Result<Ty, SyntaxFault>
     ensures { Gives type_tree result (type_lowered (type_view syntax)) }
 {
     match syntax {
-        TypeSyntax::Base { base, .. } => Ok(base_type(base)),
+        TypeSyntax::Base { base, .. } => Ok(Ty::of_base(base)),
         TypeSyntax::Bag { element, .. } => {
             let element = lower_type_box(alloc, element)?;
             Ok(Ty::Bag(element))
@@ -70,23 +68,4 @@ fn lower_type_fields(
         lowered.push((name.label, ty))?;
     }
     Ok(lowered)
-}
-
-fn base_type(base: ColumnType) -> Ty
-    ensures { type_tree result ≡ base_tree base }
-{
-    match base {
-        ColumnType::Int => Ty::Int,
-        ColumnType::Bool => Ty::Bool,
-        ColumnType::Text => Ty::Text,
-    }
-}
-
-// The fields in the byte order of their labels; of equal labels the earlier field first.
-fn in_label_order(fields: List<(Label, Ty)>) -> Result<List<(Label, Ty)>, Memory>
-    ensures { IfOk result (λ sorted. fields_view sorted ≡ by_label (fields_view fields)) }
-{
-    let mut sorted = fields.into_vec();
-    sorted.sort_by(|left, right| left.0.as_str().cmp(right.0.as_str()))?;
-    Ok(List::from_vec(sorted))
 }

@@ -3,7 +3,7 @@ use Rattle.std.proofs.lemmas.List.Sorted.{ranks_by, answers_always}
 use Rattle.nq_model.proofs.Canonical.{label_order}
 use Rattle.nq_model.specs.declared.ty.Ty.{Ty}
 use Rattle.nq_model.proofs.FieldSorts.{labels_sorted}
-use Rattle.nq_types.proofs.fields.in_label_order.Goals as goal
+use Rattle.nq_model.proofs.order.in_label_order.Goals as goal
 
 pub returns : goal.returns
 returns c =
