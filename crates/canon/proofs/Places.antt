@@ -10,7 +10,6 @@ use Rattle.nq_model.specs.Orders.{sorted_by}
 use Rattle.nq_model.specs.Values.{Nested}
 use Rattle.nq_model.specs.declared.table.Cell.{Cell}
 use Rattle.nq_model.proofs.Canonical.{value_order}
-use Rattle.canon.specs.declared.ranks.Kind.TheVariants.{Truth}
 use Rattle.canon.specs.declared.ranks.Ranked.{Ranked}
 use Rattle.canon.specs.Rows.{cells_cmp, row_at, row_record, rows_at}
 use Rattle.canon.specs.Runs.{AreInOrder, places_of}
@@ -27,7 +26,7 @@ pub places_in_order : (rows : List (List Cell)) (first end : ℕ) (ranks : List 
     → IsSortedByKey (λ place. slice_range (row_at rows place) first end) cells_cmp (places_of ranks)
 places_in_order rows first end ranks up k d low h =
     let place : Ranked → ℕ = λ ranked. ranked.place in
-    let any : Ranked = record { head = 0; place = d; kind = Truth } in
+    let any : Ranked = record { head = 0; place = d } in
     let many = length-map ranks place in
     let cells : ℕ → List Cell = λ p. slice_range (row_at rows p) first end in
     ap₂ (λ (q p : ℕ). is_lt (cells_cmp (cells q) (cells p))) (get_or-map place ranks (k + 1) any d (omega arith)) (get_or-map place ranks k any d (omega arith))

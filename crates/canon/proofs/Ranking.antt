@@ -1,18 +1,22 @@
--- What cells begin with stands in the cells' order.
-use Rattle.std.proofs.Common.{◌≡◌, ℕ, zero, suc, ◌+◌, ◌-◌, ◌*◌, ◌^◌, ◌<◌, ◌≤◌, min, Bool, true, false, cond, List, [], ◌∷◌, drop, length, get_or, ℤ, pos, negsuc, int_lt, refl, sym, ap, ap₂, ◌∙◌, subst, arith, add-one, drop-cons}
+-- Heads stand in the cells' order.
+use Rattle.std.proofs.Common.{◌≡◌, ℕ, zero, suc, ◌+◌, ◌-◌, ◌*◌, ◌/◌, ◌^◌, ◌<◌, ◌≤◌, min, ltb, Bool, true, false, cond, List, [], ◌∷◌, drop, length, get_or, ℤ, pos, negsuc, int_lt, refl, sym, ap, ap₂, inl, inr, ◌∙◌, subst, arith, add-one, drop-cons}
 use Rattle.std.proofs.Math.Nat.{pow-suc, mul_assoc, mul-le-mul_right, min-eq_left, pow-le-pow_right}
-use Rattle.std.proofs.lemmas.Bool.{lt-ltb}
+use Rattle.std.proofs.Math.Pow.{pow_mono, shr_mono}
+use Rattle.std.proofs.lemmas.Bool.{cases_lt, cond_above, cond_below, lt-ltb}
 use Rattle.std.proofs.lemmas.List.{drop_all}
+use Rattle.std.proofs.lemmas.Nat.{div_below, pow_pos}
 use Rattle.std.specs.declared.cmp.Ordering.{Ordering}
 use Rattle.std.specs.declared.cmp.Ordering.TheVariants.{Less, Equal, Greater}
-use Rattle.std.specs.Ordering.{nat_cmp, int_cmp, ordering_then, then_cmp, on}
-use Rattle.std.specs.Cmp.{ranked, nat_cmp_is, nat_cmp_total, on_total, then_total}
+use Rattle.std.specs.Ordering.{nat_cmp, int_cmp, ordering_then}
+use Rattle.std.specs.Cmp.{ranked, nat_cmp_is, nat_cmp_total}
 use Rattle.std.specs.Cmp.Lexicographic.{slice_cmp}
 use Rattle.nq_model.specs.declared.table.Cell.{Cell}
 use Rattle.nq_model.specs.declared.table.Cell.TheVariants.{Int, Bool as Truth, Text}
 use Rattle.nq_model.specs.Cells.{cell_cmp}
 use Rattle.nq_model.proofs.Orders.{IsStrictOrder}
-use Rattle.canon.specs.Ranks.{head_by, head_past, head_of_text, head_of_int, kind_of, head_of, kind_number}
+use Rattle.canon.specs.declared.heads.Frame.{Frame}
+use Rattle.canon.specs.declared.heads.Frame.TheVariants.{Truths, Numbers, Texts}
+use Rattle.canon.specs.Heads.{head_by, head_past, head_of_text, head_of_int, height_of, head_of}
 
 -- ---- the heads of texts
 
@@ -86,23 +90,23 @@ head_next (suc n) (b ∷ bs) h =
 pub head_more : (n : ℕ) (bs : List ℕ) → ((k : ℕ) → get_or bs k 0 < 256) → head_of_text (n + 1) bs ≡ head_of_text n bs * 256 + get_or bs n 0
 head_more n bs h = rw add-one (head_next n bs h)
 
--- and it fits 64 bits
-pub head_fits : (n : ℕ) (bs : List ℕ) → n < 8 → (b : ℕ) → b < 256 → head_of_text n bs * 256 + b < 2 ^ 64
+-- and it fits 32 bits
+pub head_fits : (n : ℕ) (bs : List ℕ) → n < 4 → (b : ℕ) → b < 256 → head_of_text n bs * 256 + b < 2 ^ 32
 head_fits n bs h b k =
-    let last : n ≤ 7 = omega (arith, h) in
+    let last : n ≤ 3 = omega (arith, h) in
     let base : 0 < 256 = omega arith in
-    let most : 256 ^ n ≤ 256 ^ 7 = pow-le-pow_right base last in
+    let most : 256 ^ n ≤ 256 ^ 3 = pow-le-pow_right base last in
     let below = head_below n bs in
     omega (arith, most, below)
 
 -- ---- the heads of texts behind a prefix
 
-past_below : (prefix text : List ℕ) → head_past prefix text < 2 ^ 64
-past_below [] text = head_below 8 text
+past_below : (prefix text : List ℕ) → head_past prefix text < 2 ^ 32
+past_below [] text = head_below 4 text
 past_below (p ∷ ps) [] = omega arith
 past_below (p ∷ ps) (b ∷ bs) = by_order (nat_cmp b p) (past_below ps bs)
   where
-    by_order : (o : Ordering) → head_past ps bs < 2 ^ 64 → head_by o (head_past ps bs) < 2 ^ 64
+    by_order : (o : Ordering) → head_past ps bs < 2 ^ 32 → head_by o (head_past ps bs) < 2 ^ 32
     by_order Less h = omega arith
     by_order Equal h = h
     by_order Greater h = omega arith
@@ -112,7 +116,7 @@ less_then x y o h = ap (λ (r : Ordering). ordering_then r o) (sym (nat_cmp_is x
 
 -- whatever the prefix is, the heads behind it stand in the order of the texts
 past_follow : (prefix xs ys : List ℕ) → head_past prefix xs < head_past prefix ys → slice_cmp nat_cmp xs ys ≡ Less
-past_follow [] xs ys h = texts_follow 8 xs ys h
+past_follow [] xs ys h = texts_follow 4 xs ys h
 past_follow (p ∷ ps) [] [] h = absurd (omega (arith, h))
 past_follow (p ∷ ps) [] (y ∷ ys) h = refl
 past_follow (p ∷ ps) (x ∷ xs) [] h = absurd (omega (arith, h))
@@ -151,50 +155,89 @@ past_end prefix text i h k = ap₂ head_past (drop-cons prefix i 0 h) (drop_all 
 int_less : (m n : ℤ) → int_lt m n ≡ true → int_cmp m n ≡ Less
 int_less m n e = ap (λ (b : Bool). cond b Less (cond (int_lt n m) Greater Equal)) e
 
-ints_follow : (m n : ℤ) → head_of_int m < head_of_int n → int_cmp m n ≡ Less
-ints_follow (pos a) (pos b) h = int_less (pos a) (pos b) (lt-ltb a b (omega (arith, h)))
-ints_follow (pos a) (negsuc b) h = absurd (omega (arith, h))
-ints_follow (negsuc a) (pos b) h = refl
-ints_follow (negsuc a) (negsuc b) h = int_less (negsuc a) (negsuc b) (lt-ltb b a (omega (arith, h)))
+heights_follow : (m n : ℤ) → height_of m < height_of n → int_cmp m n ≡ Less
+heights_follow (pos a) (pos b) h = int_less (pos a) (pos b) (lt-ltb a b (omega (arith, h)))
+heights_follow (pos a) (negsuc b) h = absurd (omega (arith, h))
+heights_follow (negsuc a) (pos b) h = refl
+heights_follow (negsuc a) (negsuc b) h = int_less (negsuc a) (negsuc b) (lt-ltb b a (omega (arith, h)))
+
+-- more steps are taken only to what is higher
+steps_follow : (least shift x y : ℕ) → min ((x - least) / 2 ^ shift) (2 ^ 32 - 1) < min ((y - least) / 2 ^ shift) (2 ^ 32 - 1) → x < y
+steps_follow least shift x y h =
+    elim (cases_lt x y) [
+      | inl below ↦ below
+      | inr above ↦
+          let fewer : y - least ≤ x - least = omega arith in
+          let steps : (y - least) / 2 ^ shift ≤ (x - least) / 2 ^ shift = shr_mono shift fewer in
+          absurd (omega (arith, steps, h))
+    ]
+
+ints_follow : (least shift : ℕ) (m n : ℤ) → head_of_int least shift m < head_of_int least shift n → int_cmp m n ≡ Less
+ints_follow least shift m n h = heights_follow m n (steps_follow least shift (height_of m) (height_of n) h)
+
+-- a number of 64 bits takes no step that is longer
+no_step : (x shift : ℕ) → x < 2 ^ 64 → 64 ≤ shift → x / 2 ^ shift ≡ 0
+no_step x shift h k =
+    let most : 2 ^ 64 ≤ 2 ^ shift = pow_mono k in
+    let none : x / 2 ^ shift < 1 = div_below x (2 ^ shift) 1 (pow_pos shift) (omega (arith, most, h)) in
+    omega (arith, none)
+
+-- so none is lost where a shift of 64 bits or more gives 0
+pub steps_taken : (x shift : ℕ) → x < 2 ^ 64 → cond (ltb shift 64) (x / 2 ^ shift) 0 ≡ x / 2 ^ shift
+steps_taken x shift h =
+    elim (cases_lt shift 64) [
+      | inl below ↦ sym (cond_below shift 64 (x / 2 ^ shift) 0 below)
+      | inr above ↦ sym (cond_above shift 64 (x / 2 ^ shift) 0 (x / 2 ^ shift) above (no_step x shift h above))
+    ]
 
 -- ---- cells
 
--- the rank of a cell: the number of its kind, and its head
-abbrev pub Rank : Type 0
-Rank = ℕ × ℕ
+-- no head is above the greatest
+head_most : (frame : Frame) (c : Cell) → head_of frame c < 2 ^ 32
+head_most Truths (Truth true) = omega arith
+head_most Truths (Truth false) = omega arith
+head_most Truths (Int n) = omega arith
+head_most Truths (Text t) = omega arith
+head_most (Numbers least shift) (Truth b) = omega arith
+head_most (Numbers least shift) (Int n) = below_cap ((height_of n - least) / 2 ^ shift) (2 ^ 32) (omega arith)
+head_most (Numbers least shift) (Text t) = omega arith
+head_most (Texts prefix) (Truth b) = omega arith
+head_most (Texts prefix) (Int n) = omega arith
+head_most (Texts prefix) (Text t) = past_below prefix.now t
 
-abbrev pub rank_of : List ℕ → Cell → Rank
-rank_of prefix c = (kind_number (kind_of c), head_of prefix c)
+none_above : (h : ℕ) → h < 2 ^ 32 → 2 ^ 32 - 1 < h → ⊥
+none_above h b k = omega arith
 
-abbrev pub by_rank : Rank → Rank → Ordering
-by_rank = then_cmp (on (λ (r : Rank). r.0) nat_cmp) (on (λ (r : Rank). r.1) nat_cmp)
+none_below : (h : ℕ) → h < 0 → ⊥
+none_below h k = omega arith
 
-then_ties : (r s : Ordering) → ordering_then r s ≡ Equal → (r ≡ Equal) × (s ≡ Equal)
-then_ties Less s e = absurd (cc)
-then_ties Equal s e = (refl, e)
-then_ties Greater s e = absurd (cc)
+-- whatever the frame is, a cell with the lower head stands before the other
+pub cells_follow : (frame : Frame) (c d : Cell) → head_of frame c < head_of frame d → cell_cmp c d ≡ Less
+cells_follow frame (Truth b) (Int n) h = refl
+cells_follow frame (Truth b) (Text t) h = refl
+cells_follow frame (Int m) (Text t) h = refl
+cells_follow Truths (Truth true) (Truth true) h = absurd (omega (arith, h))
+cells_follow Truths (Truth true) (Truth false) h = absurd (omega (arith, h))
+cells_follow Truths (Truth false) (Truth true) h = refl
+cells_follow Truths (Truth false) (Truth false) h = absurd (omega (arith, h))
+cells_follow (Numbers least shift) (Truth b) (Truth c) h = absurd (omega (arith, h))
+cells_follow (Texts prefix) (Truth b) (Truth c) h = absurd (omega (arith, h))
+cells_follow Truths (Int m) (Int n) h = absurd (omega (arith, h))
+cells_follow (Numbers least shift) (Int m) (Int n) h = ints_follow least shift m n h
+cells_follow (Texts prefix) (Int m) (Int n) h = absurd (omega (arith, h))
+cells_follow Truths (Text s) (Text t) h = absurd (omega (arith, h))
+cells_follow (Numbers least shift) (Text s) (Text t) h = absurd (omega (arith, h))
+cells_follow (Texts prefix) (Text s) (Text t) h = past_follow prefix.now s t h
+cells_follow Truths (Int m) (Truth b) h = absurd (none_above (head_of Truths (Truth b)) (head_most Truths (Truth b)) h)
+cells_follow (Numbers least shift) (Int m) (Truth b) h = absurd (omega (arith, h))
+cells_follow (Texts prefix) (Int m) (Truth b) h = absurd (omega (arith, h))
+cells_follow Truths (Text s) (Truth b) h = absurd (none_above (head_of Truths (Truth b)) (head_most Truths (Truth b)) h)
+cells_follow (Numbers least shift) (Text s) (Truth b) h = absurd (omega (arith, h))
+cells_follow (Texts prefix) (Text s) (Truth b) h = absurd (omega (arith, h))
+cells_follow Truths (Text s) (Int n) h = absurd (omega (arith, h))
+cells_follow (Numbers least shift) (Text s) (Int n) h = absurd (none_above (head_of_int least shift n) (head_most (Numbers least shift) (Int n)) h)
+cells_follow (Texts prefix) (Text s) (Int n) h = absurd (omega (arith, h))
 
-ranks_tie : (q r : Rank) → by_rank q r ≡ Equal → q ≡ r
-ranks_tie q r e =
-    let parts = then_ties (nat_cmp q.0 r.0) (nat_cmp q.1 r.1) e in
-    let kinds : q.0 ≡ r.0 = ranked q.0 r.0 Equal (sym parts.0) in
-    let heads : q.1 ≡ r.1 = ranked q.1 r.1 Equal (sym parts.1) in
-    λ i. (kinds i, heads i)
-
-pub rank_order : IsStrictOrder by_rank
-rank_order = record { total = then_total (on_total (λ (r : Rank). r.0) nat_cmp_total) (on_total (λ (r : Rank). r.1) nat_cmp_total); ties = ranks_tie }
-
--- cells of which one has the lower rank stand in that order
-pub cells_follow : (prefix : List ℕ) (c d : Cell) → by_rank (rank_of prefix c) (rank_of prefix d) ≡ Less → cell_cmp c d ≡ Less
-cells_follow prefix (Truth true) (Truth true) e = absurd (cc)
-cells_follow prefix (Truth true) (Truth false) e = absurd (cc)
-cells_follow prefix (Truth false) (Truth true) e = refl
-cells_follow prefix (Truth false) (Truth false) e = absurd (cc)
-cells_follow prefix (Truth b) (Int n) e = refl
-cells_follow prefix (Truth b) (Text t) e = refl
-cells_follow prefix (Int m) (Truth b) e = absurd (cc)
-cells_follow prefix (Int m) (Int n) e = ints_follow m n (ranked (head_of_int m) (head_of_int n) Less (sym e))
-cells_follow prefix (Int m) (Text t) e = refl
-cells_follow prefix (Text s) (Truth b) e = absurd (cc)
-cells_follow prefix (Text s) (Int n) e = absurd (cc)
-cells_follow prefix (Text s) (Text t) e = past_follow prefix s t (ranked (head_past prefix s) (head_past prefix t) Less (sym e))
+-- heads stand in a strict order
+pub head_order : IsStrictOrder nat_cmp
+head_order = record { total = nat_cmp_total; ties = λ x y e. ranked x y Equal (sym e) }

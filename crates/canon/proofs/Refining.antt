@@ -10,18 +10,20 @@ use Rattle.std.specs.List.{All}
 use Rattle.std.specs.List.Sorted.{IsSorted, IsSortedBy, IsSortedWithin}
 use Rattle.std.specs.declared.cmp.Ordering.{Ordering}
 use Rattle.std.specs.declared.cmp.Ordering.TheVariants.{Less, Equal, Greater}
-use Rattle.std.specs.Ordering.{is_lt, ordering_then, ordering_reverse}
-use Rattle.std.specs.Cmp.{IsTotalOrder, then_total, on_total, nat_cmp_total, nat_cmp_is}
+use Rattle.std.specs.Ordering.{is_lt, nat_cmp, ordering_then, ordering_reverse}
+use Rattle.std.specs.Cmp.{IsTotalOrder, ranked as compared, then_total, on_total, nat_cmp_total, nat_cmp_is}
 use Rattle.std.specs.Cmp.Lexicographic.{slice_cmp, lists_total}
 use Rattle.nq_model.specs.Cells.{cell_cmp}
 use Rattle.nq_model.specs.declared.table.Cell.{Cell}
 use Rattle.nq_model.proofs.Canonical.{cell_order}
 use Rattle.canon.specs.declared.ranks.Ranked.{Ranked}
-use Rattle.canon.specs.Ranks.{cell_at, kind_number, rank_cmp, ranked_at}
+use Rattle.canon.specs.declared.heads.Frame.{Frame}
+use Rattle.canon.specs.Heads.{head_of}
+use Rattle.canon.specs.Ranks.{cell_at, rank_cmp, ranked_at}
 use Rattle.canon.specs.Rows.{cells_cmp, row_at}
 use Rattle.canon.specs.Runs.{AreInOrder, HaveCells, HaveOneCell, HaveOneRank, places_of}
 use Rattle.canon.proofs.FlatRows.{cells_step, not_turned, then_equal}
-use Rattle.canon.proofs.Ranking.{Rank, rank_of, by_rank, rank_order, cells_follow}
+use Rattle.canon.proofs.Ranking.{head_order, cells_follow}
 
 -- a fact of each image is one of each element
 pub unmapped : {X Y : Type 0} (P : Y → Type 0) (f : X → Y) (xs : List X) → All P (map f xs) → All (λ x. P (f x)) xs
@@ -204,29 +206,29 @@ module _ (rows : List (List Cell)) (column end : ℕ) where
       ∙ then_equal (cell_cmp (cell_at rows column next.place) (cell_at rows column this.place)) (cells_cmp (slice_range (row_at rows next.place) (column + 1) end) (slice_range (row_at rows this.place) (column + 1) end)) same)
       ∙ up k d low h
 
-  module _ (prefix : List ℕ) where
-    abbrev rank_at : ℕ → Rank
-    rank_at place = rank_of prefix (cell_at rows column place)
+  module _ (frame : Frame) where
+    abbrev head_at : ℕ → ℕ
+    head_at place = head_of frame (cell_at rows column place)
 
     abbrev IsRanked : Ranked → Type 0
-    IsRanked r = r ≡ ranked_at rows column prefix r.place
+    IsRanked r = r ≡ ranked_at rows column frame r.place
 
-    column_follows : column < end → (l r : Ranked) → IsFull l.place → IsFull r.place → by_rank (rank_at l.place) (rank_at r.place) ≡ Less → by_cells r l ≡ false
+    column_follows : column < end → (l r : Ranked) → IsFull l.place → IsFull r.place → nat_cmp (head_at l.place) (head_at r.place) ≡ Less → by_cells r l ≡ false
     column_follows below l r left right e =
-        let first : cell_cmp (cell_at rows column l.place) (cell_at rows column r.place) ≡ Less = cells_follow prefix (cell_at rows column l.place) (cell_at rows column r.place) e in
+        let first : cell_cmp (cell_at rows column l.place) (cell_at rows column r.place) ≡ Less = cells_follow frame (cell_at rows column l.place) (cell_at rows column r.place) (compared (head_at l.place) (head_at r.place) Less (sym e)) in
         let less : cells_cmp (slice_range (row_at rows l.place) column end) (slice_range (row_at rows r.place) column end) ≡ Less =
         column_step rows column end l.place r.place below left right
         ∙ ap (λ (o : Ordering). ordering_then o (cells_cmp (slice_range (row_at rows l.place) (column + 1) end) (slice_range (row_at rows r.place) (column + 1) end))) first in
         ap is_lt (cells_total.antisymm (slice_range (row_at rows r.place) column end) (slice_range (row_at rows l.place) column end) ∙ ap ordering_reverse less)
 
-    ranks_compare : (l r : Ranked) → IsRanked l → IsRanked r → by_rank (rank_at l.place) (rank_at r.place) ≡ rank_cmp l r
+    ranks_compare : (l r : Ranked) → IsRanked l → IsRanked r → nat_cmp (head_at l.place) (head_at r.place) ≡ rank_cmp l r
     ranks_compare l r l_is r_is = ap₂ rank_cmp (sym l_is) (sym r_is)
 
   -- of rows that stood in order by rank, those before a place are in order by their cells
   pub record Refined (before now : List Ranked) (start : ℕ) : Type 0 where
-    pub prefix : List ℕ
-    pub ranked : All (IsRanked prefix) before
-    pub state : RefinedBy (λ (r : Ranked). r.place) (rank_at prefix) by_rank by_cells before now start
+    pub frame : Frame
+    pub ranked : All (IsRanked frame) before
+    pub state : RefinedBy (λ (r : Ranked). r.place) (head_at frame) nat_cmp by_cells before now start
 
   above_only : (q r : Ordering) → r ≡ ordering_reverse q → is_lt r ≡ false → (q ≡ Equal → ⊥) → q ≡ Less
   above_only Less r e low apart = refl
@@ -238,11 +240,11 @@ module _ (rows : List (List Cell)) (column end : ℕ) where
       (some : start < next) (within : next ≤ length now) (ties : HaveOneRank now start next)
       (apart : next < length now → (d : Ranked) → rank_cmp (get_or now start d) (get_or now next d) ≡ Equal → ⊥)
       (p : IsPermutation (places_of (mid_of start (next - start) now)) (places_of run)) (up : AreInOrder rows column end run) where
-    abbrev key : Ranked → Rank
-    key ranked = rank_at r.prefix ranked.place
+    abbrev key : Ranked → ℕ
+    key ranked = head_at r.frame ranked.place
 
     abbrev any : Ranked
-    any = ranked_at rows column r.prefix 0
+    any = ranked_at rows column r.frame 0
 
     as_before : (k : ℕ) (d : Ranked) → start ≤ k → get_or now k d ≡ get_or before k d
     as_before k d from =
@@ -251,9 +253,9 @@ module _ (rows : List (List Cell)) (column end : ℕ) where
         ∙ ap (λ (l : List Ranked). get_or l (k - start) d) r.state.ahead
         ∙ get_or-drop start before (k - start) d ∙ ap (λ (j : ℕ). get_or before j d) place_is
 
-    compares : (k : ℕ) (d : Ranked) → start ≤ k → k < length before → by_rank (key (get_or before start d)) (key (get_or before k d)) ≡ rank_cmp (get_or now start d) (get_or now k d)
+    compares : (k : ℕ) (d : Ranked) → start ≤ k → k < length before → nat_cmp (key (get_or before start d)) (key (get_or before k d)) ≡ rank_cmp (get_or now start d) (get_or now k d)
     compares k d from h =
-        ranks_compare r.prefix (get_or before start d) (get_or before k d) (r.ranked start d (omega arith)) (r.ranked k d h)
+        ranks_compare r.frame (get_or before start d) (get_or before k d) (r.ranked start d (omega arith)) (r.ranked k d h)
         ∙ ap₂ rank_cmp (sym (as_before start d (omega arith))) (sym (as_before k d from))
 
     leader : (d : Ranked) → key (get_or before start d) ≡ key (get_or before start any)
@@ -261,25 +263,25 @@ module _ (rows : List (List Cell)) (column end : ℕ) where
 
     all_tie : (k : ℕ) (d : Ranked) → start ≤ k → k < next → key (get_or before k d) ≡ key (get_or before start any)
     all_tie k d from h =
-        sym (rank_order.ties (key (get_or before start d)) (key (get_or before k d)) (compares k d from (omega (arith, r.state.long)) ∙ ties k d from h)) ∙ leader d
+        sym (head_order.ties (key (get_or before start d)) (key (get_or before k d)) (compares k d from (omega (arith, r.state.long)) ∙ ties k d from h)) ∙ leader d
 
-    next_above : (d : Ranked) → next < length before → by_rank (key (get_or before start any)) (key (get_or before next d)) ≡ Less
+    next_above : (d : Ranked) → next < length before → nat_cmp (key (get_or before start any)) (key (get_or before next d)) ≡ Less
     next_above d h =
         let this : Ranked = get_or before start d in
         let that : Ranked = get_or before next d in
-        let stored : Ranked → Rank = λ ranked. (kind_number ranked.kind, ranked.head) in
-        let low : is_lt (rank_cmp that this) ≡ false = sorted_far (λ x y. is_lt (rank_cmp x y)) (ranks_by rank_order.total stored) before sorted start next d (omega arith) h in
+        let stored : Ranked → ℕ = λ ranked. ranked.head in
+        let low : is_lt (rank_cmp that this) ≡ false = sorted_far (λ x y. is_lt (rank_cmp x y)) (ranks_by head_order.total stored) before sorted start next d (omega arith) h in
         let less : rank_cmp this that ≡ Less =
-        above_only (rank_cmp this that) (rank_cmp that this) (rank_order.total.antisymm (stored that) (stored this)) low
+        above_only (rank_cmp this that) (rank_cmp that this) (head_order.total.antisymm (stored that) (stored this)) low
         (λ e. apart (omega (arith, r.state.long)) d (ap₂ rank_cmp (as_before start d (omega arith)) (as_before next d (omega arith)) ∙ e)) in
-        ap (λ (q : Rank). by_rank q (key that)) (sym (leader d))
-        ∙ ranks_compare r.prefix this that (r.ranked start d (omega arith)) (r.ranked next d h) ∙ less
+        ap (λ (q : ℕ). nat_cmp q (key that)) (sym (leader d))
+        ∙ ranks_compare r.frame this that (r.ranked start d (omega arith)) (r.ranked next d h) ∙ less
 
     -- the next run is in order too
     pub refined_next : Refined before (put_mid start (next - start) now run) next
     refined_next = record {
-      prefix = r.prefix;
+      frame = r.frame;
       ranked = r.ranked;
-      state = refined_more (λ (ranked : Ranked). ranked.place) (rank_at r.prefix) by_rank by_cells IsFull (column_follows r.prefix below)
+      state = refined_more (λ (ranked : Ranked). ranked.place) (head_at r.frame) nat_cmp by_cells IsFull (column_follows r.frame below)
           before now run start next (key (get_or before start any)) full r.state some within all_tie next_above p up;
     }

@@ -1,6 +1,8 @@
 //! The canonical order of values, their canonical form and its text.
 #![tactic(auto)]
 
+mod frames;
+mod heads;
 mod laws;
 mod order;
 mod ranks;

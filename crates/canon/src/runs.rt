@@ -8,7 +8,8 @@ ghost use Rattle.canon.specs.Ranks.{AreRanked, rank_cmp};
 ghost use Rattle.canon.specs.Rows.{row_at};
 ghost use Rattle.canon.specs.Runs.{AreInOrder, HaveCells, HaveOneCell, HaveOneRank, places_of};
 
-use crate::ranks::{Ranked, common_prefix, rank_rows};
+use crate::frames::frame_of;
+use crate::ranks::{Ranked, rank_rows};
 use crate::row_order::compare_rows;
 use nq_model::Rows;
 use std::cmp::Ordering;
@@ -17,7 +18,7 @@ use std::cmp::Ordering;
 const FEW: usize = 4;
 
 // How often rows that tie in a column are ranked there again, before they are compared.
-const RANKINGS: u32 = 4;
+const RANKINGS: u32 = 8;
 
 // Puts rows in order by what their cells in a column begin with.
 fn sort_by_rank(rows: &Rows, column: usize, ranks: &mut [Ranked])
@@ -26,8 +27,8 @@ fn sort_by_rank(rows: &Rows, column: usize, ranks: &mut [Ranked])
     ensures ranked { AreRanked rows.now column ranks.new }
     ensures sorted { IsSorted rank_cmp ranks.new }
 {
-    let prefix = common_prefix(rows, column, ranks);
-    rank_rows(rows, column, prefix, ranks);
+    let frame = frame_of(rows, column, ranks);
+    rank_rows(rows, column, &frame, ranks);
     ranks.sort_unstable_by(Ranked::compare);
 }
 
@@ -123,7 +124,7 @@ fn sort_ties(rows: &Rows, column: usize, end: usize, more: u32, ranks: &mut [Ran
 }
 
 // The same for rows of one rank. Mostly they have one cell in the column, and go on to the next. Where their
-// texts differ behind the heads, they begin with more alike than before, and are ranked behind that.
+// cells differ, these have more alike than those of all rows had, and are ranked by what tells them apart.
 #[cycle(runs)]
 fn sort_tied(rows: &Rows, column: usize, end: usize, more: u32, ranks: &mut [Ranked])
     requires below { column < end }

@@ -1,7 +1,6 @@
 use Rattle.std.proofs.Common.{◌<◌, length, arith, get_or, set, ap, ◌∙◌}
 use Rattle.std.proofs.lemmas.List.{get_or_default}
 use Rattle.std.proofs.lemmas.List.Edits.{map_over_more}
-use Rattle.canon.specs.declared.ranks.Kind.TheVariants.{Truth}
 use Rattle.canon.specs.declared.ranks.Ranked.{Ranked}
 use Rattle.canon.specs.Ranks.{ranked_at}
 use Rattle.canon.proofs.ranks.rank_rows.Goals as goal
@@ -10,8 +9,8 @@ pub loop-i-preserved : goal.loop-i-preserved
 loop-i-preserved c =
     let i = c.loop-i.i in
     let ranks = c.loop-i.ranks in
-    let rank : Ranked → Ranked = λ ranked. ranked_at c.args.rows.now c.args.column c.args.prefix.now ranked.place in
-    let any : Ranked = record { head = 0; place = 0; kind = Truth } in
+    let rank : Ranked → Ranked = λ ranked. ranked_at c.args.rows.now c.args.column c.args.frame.now ranked.place in
+    let any : Ranked = record { head = 0; place = 0 } in
     let this : Ranked = get_or ranks i any in
     let below : i < length ranks = omega arith in
     ap (set ranks i) c.rank_row.ensures

@@ -3,16 +3,16 @@ use Rattle.canon.proofs.Refining.{Refined}
 use Rattle.canon.proofs.runs.+runs.Given as goal
 
 abbrev pub decreases-sort_run : goal.decreases-sort_run
-decreases-sort_run l = 4 * (5 * (l.end - l.column) + 4) + 3
+decreases-sort_run l = 4 * (9 * (l.end - l.column) + 8) + 3
 
 abbrev pub decreases-sort_column : goal.decreases-sort_column
-decreases-sort_column l = 4 * (5 * (l.end - l.column) + l.more) + 2
+decreases-sort_column l = 4 * (9 * (l.end - l.column) + l.more) + 2
 
 abbrev pub decreases-sort_ties : goal.decreases-sort_ties
-decreases-sort_ties l = 4 * (5 * (l.end - l.column) + l.more) + 1
+decreases-sort_ties l = 4 * (9 * (l.end - l.column) + l.more) + 1
 
 abbrev pub decreases-sort_tied : goal.decreases-sort_tied
-decreases-sort_tied l = 4 * (5 * (l.end - l.column) + l.more)
+decreases-sort_tied l = 4 * (9 * (l.end - l.column) + l.more)
 
 abbrev pub invariant-sort_ties-loop-start : goal.invariant-sort_ties-loop-start
 invariant-sort_ties-loop-start l = Refined l.rows l.column l.end l.initial.ranks l.ranks l.start

@@ -1,7 +1,7 @@
 use Rattle.std.proofs.Common.{◌≡◌, ◌+◌, ◌*◌, ℕ, get_or, arith, ap₂, ◌∙◌, sym}
-use Rattle.canon.specs.Ranks.{head_of_text}
+use Rattle.canon.specs.Heads.{head_of_text}
 use Rattle.canon.proofs.Ranking.{head_more, head_fits}
-use Rattle.canon.proofs.ranks.text_head.Goals as goal
+use Rattle.canon.proofs.heads.text_head.Goals as goal
 
 pub overflow_mul-head : goal.overflow_mul-head
 overflow_mul-head c =

@@ -1,0 +1,98 @@
+// What the cells of a column are told apart by is chosen by some of them, so that few heads tie. No clause
+// depends on the choice.
+ghost use Rattle.std.specs.Prelude.{◌≤◌, length};
+
+use crate::heads::{Frame, height};
+use crate::ranks::Ranked;
+use nq_model::{CellRef, Rows};
+
+// By how many rows a frame is chosen, at most.
+const SAMPLE_SIZE: usize = 256;
+
+// Numbers that were looked at get heads below half of what a head holds, and a quarter more stands free on
+// both sides of them.
+const SPREAD_BITS: u32 = 31;
+
+const FREE_STEPS: u64 = 1 << 30;
+
+// How many bytes two texts begin with alike.
+fn common_size(text: &[u8], other: &[u8]) -> usize
+    ensures { result ≤ length text.now }
+{
+    for (i, byte) in text.iter().enumerate() {
+        if i >= other.len() || other[i] != *byte {
+            return i;
+        }
+    }
+    text.len()
+}
+
+// The cell in a column of a row, if the row has that many.
+fn cell_of<'a>(rows: &'a Rows, column: usize, ranked: &Ranked) -> Option<CellRef<'a>> {
+    let row = ranked.place() as usize;
+    if column >= rows.width(row) {
+        return None;
+    }
+    Some(rows.cell(row, column))
+}
+
+// The text in a column of a row, and none where something else stands there.
+fn text_at<'a>(rows: &'a Rows, column: usize, ranked: &Ranked) -> &'a [u8] {
+    match cell_of(rows, column, ranked) {
+        Some(CellRef::Text(text)) => text.as_bytes(),
+        _ => &[],
+    }
+}
+
+// What the texts of rows here and there begin with alike, and so most others too. Behind it they are told
+// apart by their heads.
+fn common_prefix<'a>(rows: &'a Rows, column: usize, ranks: &[Ranked]) -> &'a [u8] {
+    if ranks.is_empty() {
+        return &[];
+    }
+    let mut prefix = text_at(rows, column, &ranks[0]);
+    for ranked in ranks.iter().step_by(ranks.len() / SAMPLE_SIZE + 1) {
+        let text = text_at(rows, column, ranked);
+        prefix = &prefix[..common_size(prefix, text)];
+    }
+    prefix
+}
+
+// The least and the greatest height of the numbers of rows here and there.
+fn common_heights(rows: &Rows, column: usize, ranks: &[Ranked]) -> (u64, u64) {
+    let mut least = u64::MAX;
+    let mut greatest = 0u64;
+    for ranked in ranks.iter().step_by(ranks.len() / SAMPLE_SIZE + 1) {
+        if let Some(CellRef::Int(number)) = cell_of(rows, column, ranked) {
+            least = least.min(height(number));
+            greatest = greatest.max(height(number));
+        }
+    }
+    (least, greatest)
+}
+
+// Steps are no longer than they need be for the heads of these numbers to stand amid all heads.
+fn frame_round(least: u64, greatest: u64) -> Frame<'static> {
+    let zeros = greatest.saturating_sub(least).leading_zeros();
+    let shift = (u64::BITS - SPREAD_BITS).saturating_sub(zeros);
+    let free = FREE_STEPS.unbounded_shl(shift);
+    Frame::Numbers {
+        least: least.saturating_sub(free),
+        shift,
+    }
+}
+
+// A frame for cells of the kind that stands in the first of these rows.
+pub(crate) fn frame_of<'a>(rows: &'a Rows, column: usize, ranks: &[Ranked]) -> Frame<'a> {
+    if ranks.is_empty() {
+        return Frame::Truths;
+    }
+    match cell_of(rows, column, &ranks[0]) {
+        Some(CellRef::Int(_)) => {
+            let (least, greatest) = common_heights(rows, column, ranks);
+            frame_round(least, greatest)
+        }
+        Some(CellRef::Text(_)) => Frame::Texts(common_prefix(rows, column, ranks)),
+        Some(CellRef::Bool(_)) | None => Frame::Truths,
+    }
+}
