@@ -1,6 +1,6 @@
 -- Heads stand in the cells' order.
-use Rattle.std.proofs.Common.{◌≡◌, ℕ, zero, suc, ◌+◌, ◌-◌, ◌*◌, ◌/◌, ◌^◌, ◌<◌, ◌≤◌, min, ltb, Bool, true, false, cond, List, [], ◌∷◌, drop, length, get_or, ℤ, pos, negsuc, int_lt, refl, sym, ap, ap₂, inl, inr, ◌∙◌, subst, arith, add-one, drop-cons}
-use Rattle.std.proofs.Math.Nat.{pow-suc, mul_assoc, mul-le-mul_right, min-eq_left, pow-le-pow_right}
+use Rattle.std.proofs.Common.{◌≡◌, ℕ, zero, suc, ◌+◌, ◌-◌, ◌*◌, ◌/◌, ◌^◌, ◌<◌, ◌≤◌, min, ltb, Bool, true, false, cond, List, [], ◌∷◌, drop, length, ℤ, pos, negsuc, int_lt, refl, sym, ap, ap₂, inl, inr, ◌∙◌, subst, arith, drop-cons}
+use Rattle.std.proofs.Math.Nat.{mul-le-mul_right, mul-div-le}
 use Rattle.std.proofs.Math.Pow.{pow_mono, shr_mono}
 use Rattle.std.proofs.lemmas.Bool.{cases_lt, cond_above, cond_below, lt-ltb}
 use Rattle.std.proofs.lemmas.List.{drop_all}
@@ -16,97 +16,118 @@ use Rattle.nq_model.specs.Cells.{cell_cmp}
 use Rattle.nq_model.proofs.Orders.{IsStrictOrder}
 use Rattle.canon.specs.declared.heads.Frame.{Frame}
 use Rattle.canon.specs.declared.heads.Frame.TheVariants.{Truths, Numbers, Texts}
-use Rattle.canon.specs.Heads.{head_by, head_past, head_of_text, head_of_int, height_of, head_of}
+use Rattle.canon.specs.Heads.{share, head_by, head_past, head_of_text, head_of_int, height_of, head_of}
 
 -- ---- the heads of texts
-
-power_above : (n : ℕ) → 0 < 256 ^ n
-power_above zero = omega arith
-power_above (suc n) = let more = power_above n in let e = pow-suc 256 n in omega (arith, more, e)
-
-below_cap : (x p : ℕ) → 0 < p → min x (p - 1) < p
-below_cap x p h = omega arith
-
--- a head is below what so many bytes can hold
-head_below : (n : ℕ) (bs : List ℕ) → head_of_text n bs < 256 ^ n
-head_below zero bs = omega arith
-head_below (suc n) [] = power_above (suc n)
-head_below (suc n) (b ∷ bs) = below_cap (b * 256 ^ n + head_of_text n bs) (256 ^ suc n) (power_above (suc n))
 
 one_more_of : (x p : ℕ) → suc x * p ≡ x * p + p
 one_more_of x p = omega arith
 
-capped_tie : (w l r cap : ℕ) → min (w + l) cap < min (w + r) cap → l < r
-capped_tie w l r cap h = omega arith
+in_room : (d s h room : ℕ) → d * s + s ≤ room → h ≤ s - 1 → d * s + h ≤ room - 1
+in_room d zero h room k l = omega (arith, k, l)
+in_room d (suc s) h room k l = omega (arith, k, l)
 
-capped_above : (v w l r p cap : ℕ) → w + p ≤ v → r < p → min (v + l) cap < min (w + r) cap → ⊥
-capped_above v w l r p cap h k m = omega arith
+module _ (floor last : ℕ) where
+  -- a letter's share stands within the room
+  share_within : (b room : ℕ) → floor < b → b ≤ last → (b - floor) * share floor last room + share floor last room ≤ room
+  share_within b room h k =
+      let s = share floor last room in
+      let all : (last - floor + 1) * s ≤ room = mul-div-le room (last - floor + 1) in
+      let some : suc (b - floor) * s ≤ (last - floor + 1) * s = mul-le-mul_right s (omega (arith, h, k)) in
+      let one : suc (b - floor) * s ≡ (b - floor) * s + s = one_more_of (b - floor) s in
+      omega (arith, all, some, one)
 
--- texts whose heads differ stand in the order of the heads
-pub texts_follow : (n : ℕ) (xs ys : List ℕ) → head_of_text n xs < head_of_text n ys → slice_cmp nat_cmp xs ys ≡ Less
-texts_follow zero xs ys h = absurd (omega (arith, h))
-texts_follow (suc n) [] [] h = absurd (omega (arith, h))
-texts_follow (suc n) [] (y ∷ ys) h = refl
-texts_follow (suc n) (x ∷ xs) [] h = absurd (omega (arith, h))
-texts_follow (suc n) (x ∷ xs) (y ∷ ys) h = by_first (nat_cmp x y) refl (texts_follow n xs ys)
-  where
-    by_first : (r : Ordering) → r ≡ nat_cmp x y → (head_of_text n xs < head_of_text n ys → slice_cmp nat_cmp xs ys ≡ Less) → ordering_then r (slice_cmp nat_cmp xs ys) ≡ Less
-    by_first Less e later = refl
-    by_first Equal e later =
-        let same : x ≡ y = ranked x y Equal e in
-        let cap = 256 ^ suc n - 1 in
-        let P : ℕ → Type 0 = λ z. min (z * 256 ^ n + head_of_text n xs) cap < min (y * 256 ^ n + head_of_text n ys) cap in
-        later (capped_tie (y * 256 ^ n) (head_of_text n xs) (head_of_text n ys) cap (subst P same h))
-    by_first Greater e later =
-        let above : y < x = ranked x y Greater e in
-        let least : suc y * 256 ^ n ≤ x * 256 ^ n = mul-le-mul_right (256 ^ n) (omega (arith, above)) in
-        let gap : y * 256 ^ n + 256 ^ n ≤ x * 256 ^ n = rw (← one_more_of y (256 ^ n)) least in
-        absurd (capped_above (x * 256 ^ n) (y * 256 ^ n) (head_of_text n xs) (head_of_text n ys) (256 ^ n) (256 ^ suc n - 1) gap (head_below n ys) h)
+  pub at_end : (b room : ℕ) (bs : List ℕ) → b ≤ floor → head_of_text floor last room (b ∷ bs) ≡ 0
+  at_end b room bs h = sym (cond_above floor b _ 0 0 h refl)
 
-within_cap : (v h p cap : ℕ) → v + p ≤ 256 * p → cap ≡ p * 256 → h < p → v + h ≤ cap - 1
-within_cap v h p cap b e k = omega arith
+  pub at_letter : (b room : ℕ) (bs : List ℕ) → floor < b → b ≤ last
+      → head_of_text floor last room (b ∷ bs) ≡ (b - floor) * share floor last room + head_of_text floor last (share floor last room) bs
+  at_letter b room bs h k =
+      let here : ℕ = (b - floor) * share floor last room + head_of_text floor last (share floor last room) bs in
+      sym (cond_above last b (room - 1) here here k refl ∙ cond_below floor b (cond (ltb last b) (room - 1) here) 0 h)
 
--- a byte is below the cap
-head_uncapped : (n b : ℕ) (bs : List ℕ) → b < 256 → head_of_text (suc n) (b ∷ bs) ≡ b * 256 ^ n + head_of_text n bs
-head_uncapped n b bs h =
-    let least : suc b * 256 ^ n ≤ 256 * 256 ^ n = mul-le-mul_right (256 ^ n) (omega (arith, h)) in
-    let gap : b * 256 ^ n + 256 ^ n ≤ 256 * 256 ^ n = rw (← one_more_of b (256 ^ n)) least in
-    min-eq_left (within_cap (b * 256 ^ n) (head_of_text n bs) (256 ^ n) (256 ^ suc n) gap (pow-suc 256 n) (head_below n bs))
+  pub past_last : (b room : ℕ) (bs : List ℕ) → floor < b → last < b → head_of_text floor last room (b ∷ bs) ≡ room - 1
+  past_last b room bs h k =
+      let here : ℕ = (b - floor) * share floor last room + head_of_text floor last (share floor last room) bs in
+      sym (cond_below last b (room - 1) here k ∙ cond_below floor b (cond (ltb last b) (room - 1) here) 0 h)
 
-shifted : (b p q h g k : ℕ) → q ≡ p * 256 → g ≡ h * 256 + k → b * q + g ≡ (b * p + h) * 256 + k
-shifted b p q h g k e f =
-    let whole : b * (p * 256) ≡ b * p * 256 = sym (mul_assoc b p 256) in rw (e, f, whole) (omega arith)
+  -- and so does a head
+  pub head_within : (room : ℕ) (bs : List ℕ) → head_of_text floor last room bs ≤ room - 1
+  head_within room [] = omega arith
+  head_within room (b ∷ bs) =
+      elim (cases_lt floor b) [
+        | inr none ↦ let e = at_end b room bs none in omega (arith, e)
+        | inl some ↦ elim (cases_lt last b) [
+          | inl past ↦ let e = past_last b room bs some past in omega (arith, e)
+          | inr letter ↦
+              let e = at_letter b room bs some letter in
+              let most = in_room (b - floor) (share floor last room) (head_of_text floor last (share floor last room) bs) room (share_within b room some letter) (head_within (share floor last room) bs) in
+              omega (arith, e, most)
+        ]
+      ]
 
-head_next : (n : ℕ) (bs : List ℕ) → ((k : ℕ) → get_or bs k 0 < 256) → head_of_text (suc n) bs ≡ head_of_text n bs * 256 + get_or bs n 0
-head_next zero [] h = refl
-head_next zero (b ∷ bs) h = head_uncapped zero b bs (h 0) ∙ omega arith
-head_next (suc n) [] h = refl
-head_next (suc n) (b ∷ bs) h =
-    head_uncapped (suc n) b bs (h 0)
-    ∙ shifted b (256 ^ n) (256 ^ suc n) (head_of_text n bs) (head_of_text (suc n) bs) (get_or bs n 0) (pow-suc 256 n) (head_next n bs (λ k. h (suc k)))
-    ∙ ap (λ (w : ℕ). w * 256 + get_or bs n 0) (sym (head_uncapped n b bs (h 0)))
+  -- texts whose heads differ stand in the order of the heads
+  pub texts_follow : (room : ℕ) (xs ys : List ℕ) → head_of_text floor last room xs < head_of_text floor last room ys → slice_cmp nat_cmp xs ys ≡ Less
+  texts_follow room [] [] h = absurd (omega (arith, h))
+  texts_follow room [] (y ∷ ys) h = refl
+  texts_follow room (x ∷ xs) [] h = absurd (omega (arith, h))
+  texts_follow room (x ∷ xs) (y ∷ ys) h = by_first (nat_cmp x y) refl (texts_follow (share floor last room) xs ys)
+    where
+      s : ℕ
+      s = share floor last room
 
--- the head of one more byte
-pub head_more : (n : ℕ) (bs : List ℕ) → ((k : ℕ) → get_or bs k 0 < 256) → head_of_text (n + 1) bs ≡ head_of_text n bs * 256 + get_or bs n 0
-head_more n bs h = rw add-one (head_next n bs h)
+      tied : floor < y → head_of_text floor last room (y ∷ xs) < head_of_text floor last room (y ∷ ys) → head_of_text floor last s xs < head_of_text floor last s ys
+      tied some k =
+          elim (cases_lt last y) [
+            | inl past ↦
+                let e = past_last y room xs some past in
+                let f = past_last y room ys some past in
+                absurd (omega (arith, e, f, k))
+            | inr letter ↦
+                let e = at_letter y room xs some letter in
+                let f = at_letter y room ys some letter in
+                omega (arith, e, f, k)
+          ]
 
--- and it fits 32 bits
-pub head_fits : (n : ℕ) (bs : List ℕ) → n < 4 → (b : ℕ) → b < 256 → head_of_text n bs * 256 + b < 2 ^ 32
-head_fits n bs h b k =
-    let last : n ≤ 3 = omega (arith, h) in
-    let base : 0 < 256 = omega arith in
-    let most : 256 ^ n ≤ 256 ^ 3 = pow-le-pow_right base last in
-    let below = head_below n bs in
-    omega (arith, most, below)
+      apart : y < x → floor < y → ⊥
+      apart above some =
+          elim (cases_lt last x) [
+            | inl past ↦
+                let e = past_last x room xs (omega (arith, above, some)) past in
+                let most = head_within room (y ∷ ys) in
+                omega (arith, e, most, h)
+            | inr letter ↦
+                let e = at_letter x room xs (omega (arith, above, some)) letter in
+                let f = at_letter y room ys some (omega (arith, above, letter)) in
+                let most = head_within s ys in
+                let more : suc (y - floor) * s ≤ (x - floor) * s = mul-le-mul_right s (omega (arith, above, some)) in
+                let one : suc (y - floor) * s ≡ (y - floor) * s + s = one_more_of (y - floor) s in
+                omega (arith, e, f, most, more, one, h)
+          ]
+
+      by_first : (r : Ordering) → r ≡ nat_cmp x y → (head_of_text floor last s xs < head_of_text floor last s ys → slice_cmp nat_cmp xs ys ≡ Less) → ordering_then r (slice_cmp nat_cmp xs ys) ≡ Less
+      by_first Less e later = refl
+      by_first Equal e later =
+          elim (cases_lt floor y) [
+            | inr none ↦ let f = at_end y room ys none in absurd (omega (arith, f, h))
+            | inl some ↦
+                let P : ℕ → Type 0 = λ z. head_of_text floor last room (z ∷ xs) < head_of_text floor last room (y ∷ ys) in
+                later (tied some (subst P (ranked x y Equal e) h))
+          ]
+      by_first Greater e later =
+          elim (cases_lt floor y) [
+            | inr none ↦ let f = at_end y room ys none in absurd (omega (arith, f, h))
+            | inl some ↦ absurd (apart (ranked x y Greater e) some)
+          ]
 
 -- ---- the heads of texts behind a prefix
 
-past_below : (prefix text : List ℕ) → head_past prefix text < 2 ^ 32
-past_below [] text = head_below 4 text
-past_below (p ∷ ps) [] = omega arith
-past_below (p ∷ ps) (b ∷ bs) = by_order (nat_cmp b p) (past_below ps bs)
+past_below : (floor last : ℕ) (prefix text : List ℕ) → head_past floor last prefix text < 2 ^ 32
+past_below floor last [] text = let most = head_within floor last (2 ^ 32 - 2) text in omega (arith, most)
+past_below floor last (p ∷ ps) [] = omega arith
+past_below floor last (p ∷ ps) (b ∷ bs) = by_order (nat_cmp b p) (past_below floor last ps bs)
   where
-    by_order : (o : Ordering) → head_past ps bs < 2 ^ 32 → head_by o (head_past ps bs) < 2 ^ 32
+    by_order : (o : Ordering) → head_past floor last ps bs < 2 ^ 32 → head_by o (head_past floor last ps bs) < 2 ^ 32
     by_order Less h = omega arith
     by_order Equal h = h
     by_order Greater h = omega arith
@@ -115,15 +136,15 @@ less_then : (x y : ℕ) (o : Ordering) → x < y → ordering_then (nat_cmp x y)
 less_then x y o h = ap (λ (r : Ordering). ordering_then r o) (sym (nat_cmp_is x y Less h))
 
 -- whatever the prefix is, the heads behind it stand in the order of the texts
-past_follow : (prefix xs ys : List ℕ) → head_past prefix xs < head_past prefix ys → slice_cmp nat_cmp xs ys ≡ Less
-past_follow [] xs ys h = texts_follow 4 xs ys h
-past_follow (p ∷ ps) [] [] h = absurd (omega (arith, h))
-past_follow (p ∷ ps) [] (y ∷ ys) h = refl
-past_follow (p ∷ ps) (x ∷ xs) [] h = absurd (omega (arith, h))
-past_follow (p ∷ ps) (x ∷ xs) (y ∷ ys) h = by_orders (nat_cmp x p) (nat_cmp y p) refl refl h (past_follow ps xs ys)
+past_follow : (floor last : ℕ) (prefix xs ys : List ℕ) → head_past floor last prefix xs < head_past floor last prefix ys → slice_cmp nat_cmp xs ys ≡ Less
+past_follow floor last [] xs ys h = texts_follow floor last (2 ^ 32 - 2) xs ys (omega (arith, h))
+past_follow floor last (p ∷ ps) [] [] h = absurd (omega (arith, h))
+past_follow floor last (p ∷ ps) [] (y ∷ ys) h = refl
+past_follow floor last (p ∷ ps) (x ∷ xs) [] h = absurd (omega (arith, h))
+past_follow floor last (p ∷ ps) (x ∷ xs) (y ∷ ys) h = by_orders (nat_cmp x p) (nat_cmp y p) refl refl h (past_follow floor last ps xs ys)
   where
-    by_orders : (l r : Ordering) → l ≡ nat_cmp x p → r ≡ nat_cmp y p → head_by l (head_past ps xs) < head_by r (head_past ps ys)
-        → (head_past ps xs < head_past ps ys → slice_cmp nat_cmp xs ys ≡ Less) → ordering_then (nat_cmp x y) (slice_cmp nat_cmp xs ys) ≡ Less
+    by_orders : (l r : Ordering) → l ≡ nat_cmp x p → r ≡ nat_cmp y p → head_by l (head_past floor last ps xs) < head_by r (head_past floor last ps ys)
+        → (head_past floor last ps xs < head_past floor last ps ys → slice_cmp nat_cmp xs ys ≡ Less) → ordering_then (nat_cmp x y) (slice_cmp nat_cmp xs ys) ≡ Less
     by_orders Less Less e f h later = absurd (omega (arith, h))
     by_orders Less Equal e f h later =
         let below : x < p = ranked x p Less e in
@@ -143,12 +164,12 @@ past_follow (p ∷ ps) (x ∷ xs) (y ∷ ys) h = by_orders (nat_cmp x p) (nat_cm
         let above : p < y = ranked y p Greater f in
         less_then x y (slice_cmp nat_cmp xs ys) (omega (arith, same, above))
     by_orders Greater Less e f h later = absurd (omega (arith, h))
-    by_orders Greater Equal e f h later = let most = past_below ps ys in absurd (omega (arith, h, most))
+    by_orders Greater Equal e f h later = let most = past_below floor last ps ys in absurd (omega (arith, h, most))
     by_orders Greater Greater e f h later = absurd (omega (arith, h))
 
 -- a text that ends before the prefix does
-pub past_end : (prefix text : List ℕ) (i : ℕ) → i < length prefix → length text ≤ i → head_past (drop i prefix) (drop i text) ≡ 0
-past_end prefix text i h k = ap₂ head_past (drop-cons prefix i 0 h) (drop_all i text k)
+pub past_end : (floor last : ℕ) (prefix text : List ℕ) (i : ℕ) → i < length prefix → length text ≤ i → head_past floor last (drop i prefix) (drop i text) ≡ 0
+past_end floor last prefix text i h k = ap₂ (head_past floor last) (drop-cons prefix i 0 h) (drop_all i text k)
 
 -- ---- the heads of numbers
 
@@ -192,6 +213,9 @@ steps_taken x shift h =
 
 -- ---- cells
 
+below_cap : (x p : ℕ) → 0 < p → min x (p - 1) < p
+below_cap x p h = omega arith
+
 -- no head is above the greatest
 head_most : (frame : Frame) (c : Cell) → head_of frame c < 2 ^ 32
 head_most Truths (Truth true) = omega arith
@@ -201,15 +225,12 @@ head_most Truths (Text t) = omega arith
 head_most (Numbers least shift) (Truth b) = omega arith
 head_most (Numbers least shift) (Int n) = below_cap ((height_of n - least) / 2 ^ shift) (2 ^ 32) (omega arith)
 head_most (Numbers least shift) (Text t) = omega arith
-head_most (Texts prefix) (Truth b) = omega arith
-head_most (Texts prefix) (Int n) = omega arith
-head_most (Texts prefix) (Text t) = past_below prefix.now t
+head_most (Texts prefix floor last) (Truth b) = omega arith
+head_most (Texts prefix floor last) (Int n) = omega arith
+head_most (Texts prefix floor last) (Text t) = past_below floor last prefix.now t
 
 none_above : (h : ℕ) → h < 2 ^ 32 → 2 ^ 32 - 1 < h → ⊥
 none_above h b k = omega arith
-
-none_below : (h : ℕ) → h < 0 → ⊥
-none_below h k = omega arith
 
 -- whatever the frame is, a cell with the lower head stands before the other
 pub cells_follow : (frame : Frame) (c d : Cell) → head_of frame c < head_of frame d → cell_cmp c d ≡ Less
@@ -221,22 +242,22 @@ cells_follow Truths (Truth true) (Truth false) h = absurd (omega (arith, h))
 cells_follow Truths (Truth false) (Truth true) h = refl
 cells_follow Truths (Truth false) (Truth false) h = absurd (omega (arith, h))
 cells_follow (Numbers least shift) (Truth b) (Truth c) h = absurd (omega (arith, h))
-cells_follow (Texts prefix) (Truth b) (Truth c) h = absurd (omega (arith, h))
+cells_follow (Texts prefix floor last) (Truth b) (Truth c) h = absurd (omega (arith, h))
 cells_follow Truths (Int m) (Int n) h = absurd (omega (arith, h))
 cells_follow (Numbers least shift) (Int m) (Int n) h = ints_follow least shift m n h
-cells_follow (Texts prefix) (Int m) (Int n) h = absurd (omega (arith, h))
+cells_follow (Texts prefix floor last) (Int m) (Int n) h = absurd (omega (arith, h))
 cells_follow Truths (Text s) (Text t) h = absurd (omega (arith, h))
 cells_follow (Numbers least shift) (Text s) (Text t) h = absurd (omega (arith, h))
-cells_follow (Texts prefix) (Text s) (Text t) h = past_follow prefix.now s t h
+cells_follow (Texts prefix floor last) (Text s) (Text t) h = past_follow floor last prefix.now s t h
 cells_follow Truths (Int m) (Truth b) h = absurd (none_above (head_of Truths (Truth b)) (head_most Truths (Truth b)) h)
 cells_follow (Numbers least shift) (Int m) (Truth b) h = absurd (omega (arith, h))
-cells_follow (Texts prefix) (Int m) (Truth b) h = absurd (omega (arith, h))
+cells_follow (Texts prefix floor last) (Int m) (Truth b) h = absurd (omega (arith, h))
 cells_follow Truths (Text s) (Truth b) h = absurd (none_above (head_of Truths (Truth b)) (head_most Truths (Truth b)) h)
 cells_follow (Numbers least shift) (Text s) (Truth b) h = absurd (omega (arith, h))
-cells_follow (Texts prefix) (Text s) (Truth b) h = absurd (omega (arith, h))
+cells_follow (Texts prefix floor last) (Text s) (Truth b) h = absurd (omega (arith, h))
 cells_follow Truths (Text s) (Int n) h = absurd (omega (arith, h))
 cells_follow (Numbers least shift) (Text s) (Int n) h = absurd (none_above (head_of_int least shift n) (head_most (Numbers least shift) (Int n)) h)
-cells_follow (Texts prefix) (Text s) (Int n) h = absurd (omega (arith, h))
+cells_follow (Texts prefix floor last) (Text s) (Int n) h = absurd (omega (arith, h))
 
 -- heads stand in a strict order
 pub head_order : IsStrictOrder nat_cmp

@@ -1,6 +1,6 @@
 // What the cells of a column are told apart by is chosen by some of them, so that few heads tie. No clause
 // depends on the choice.
-ghost use Rattle.std.specs.Prelude.{◌≤◌, length};
+ghost use Rattle.std.specs.Prelude.{◌<◌, ◌≤◌, length};
 
 use crate::heads::{Frame, height};
 use crate::ranks::Ranked;
@@ -9,11 +9,23 @@ use nq_model::{CellRef, Rows};
 // By how many rows a frame is chosen, at most.
 const SAMPLE_SIZE: usize = 256;
 
-// Numbers that were looked at get heads below half of what a head holds, and a quarter more stands free on
-// both sides of them.
+// How many bytes of a text are looked at behind the prefix.
+const LETTERS: usize = 10;
+
+// The bytes up to this are never letters, so that a head holds four of the others, whichever they are.
+const MIN_FLOOR: u8 = 1;
+
+// The numbers looked at have at most half of all heads, with a quarter or more free on either side of them.
 const SPREAD_BITS: u32 = 31;
 
 const FREE_STEPS: u64 = 1 << 30;
+
+// How far apart the rows stand by which a frame is chosen.
+fn stride(ranks: &[Ranked]) -> usize
+    ensures { 0 < result }
+{
+    ranks.len() / SAMPLE_SIZE + 1
+}
 
 // How many bytes two texts begin with alike.
 fn common_size(text: &[u8], other: &[u8]) -> usize
@@ -28,7 +40,7 @@ fn common_size(text: &[u8], other: &[u8]) -> usize
 }
 
 // The cell in a column of a row, if the row has that many.
-fn cell_of<'a>(rows: &'a Rows, column: usize, ranked: &Ranked) -> Option<CellRef<'a>> {
+fn cell_at<'a>(rows: &'a Rows, column: usize, ranked: &Ranked) -> Option<CellRef<'a>> {
     let row = ranked.place() as usize;
     if column >= rows.width(row) {
         return None;
@@ -38,7 +50,7 @@ fn cell_of<'a>(rows: &'a Rows, column: usize, ranked: &Ranked) -> Option<CellRef
 
 // The text in a column of a row, and none where something else stands there.
 fn text_at<'a>(rows: &'a Rows, column: usize, ranked: &Ranked) -> &'a [u8] {
-    match cell_of(rows, column, ranked) {
+    match cell_at(rows, column, ranked) {
         Some(CellRef::Text(text)) => text.as_bytes(),
         _ => &[],
     }
@@ -51,19 +63,56 @@ fn common_prefix<'a>(rows: &'a Rows, column: usize, ranks: &[Ranked]) -> &'a [u8
         return &[];
     }
     let mut prefix = text_at(rows, column, &ranks[0]);
-    for ranked in ranks.iter().step_by(ranks.len() / SAMPLE_SIZE + 1) {
+    for ranked in ranks.iter().step_by(stride(ranks)) {
         let text = text_at(rows, column, ranked);
         prefix = &prefix[..common_size(prefix, text)];
     }
     prefix
 }
 
+// The least and the greatest byte, of these and of a text's first ones from a place on.
+fn with_letters(letters: (u8, u8), text: &[u8], first: usize) -> (u8, u8) {
+    let (mut least, mut greatest) = letters;
+    for byte in text.iter().skip(first).take(LETTERS) {
+        least = least.min(*byte);
+        greatest = greatest.max(*byte);
+    }
+    (least, greatest)
+}
+
+// The least and the greatest byte that stands behind the prefix in the texts of rows here and there.
+fn common_letters(rows: &Rows, column: usize, ranks: &[Ranked], prefix: &[u8]) -> (u8, u8) {
+    let mut letters = (u8::MAX, 0u8);
+    for ranked in ranks.iter().step_by(stride(ranks)) {
+        letters = with_letters(letters, text_at(rows, column, ranked), prefix.len());
+    }
+    letters
+}
+
+// Where nothing stands behind the prefix, any byte may.
+fn frame_of_texts<'a>(rows: &'a Rows, column: usize, ranks: &[Ranked]) -> Frame<'a> {
+    let prefix = common_prefix(rows, column, ranks);
+    let (least, greatest) = common_letters(rows, column, ranks, prefix);
+    if least > greatest {
+        return Frame::Texts {
+            prefix,
+            floor: MIN_FLOOR,
+            last: u8::MAX,
+        };
+    }
+    Frame::Texts {
+        prefix,
+        floor: least.saturating_sub(1).max(MIN_FLOOR),
+        last: greatest,
+    }
+}
+
 // The least and the greatest height of the numbers of rows here and there.
 fn common_heights(rows: &Rows, column: usize, ranks: &[Ranked]) -> (u64, u64) {
     let mut least = u64::MAX;
     let mut greatest = 0u64;
-    for ranked in ranks.iter().step_by(ranks.len() / SAMPLE_SIZE + 1) {
-        if let Some(CellRef::Int(number)) = cell_of(rows, column, ranked) {
+    for ranked in ranks.iter().step_by(stride(ranks)) {
+        if let Some(CellRef::Int(number)) = cell_at(rows, column, ranked) {
             least = least.min(height(number));
             greatest = greatest.max(height(number));
         }
@@ -72,7 +121,8 @@ fn common_heights(rows: &Rows, column: usize, ranks: &[Ranked]) -> (u64, u64) {
 }
 
 // Steps are no longer than they need be for the heads of these numbers to stand amid all heads.
-fn frame_round(least: u64, greatest: u64) -> Frame<'static> {
+fn frame_of_numbers(rows: &Rows, column: usize, ranks: &[Ranked]) -> Frame<'static> {
+    let (least, greatest) = common_heights(rows, column, ranks);
     let zeros = greatest.saturating_sub(least).leading_zeros();
     let shift = (u64::BITS - SPREAD_BITS).saturating_sub(zeros);
     let free = FREE_STEPS.unbounded_shl(shift);
@@ -87,12 +137,9 @@ pub(crate) fn frame_of<'a>(rows: &'a Rows, column: usize, ranks: &[Ranked]) -> F
     if ranks.is_empty() {
         return Frame::Truths;
     }
-    match cell_of(rows, column, &ranks[0]) {
-        Some(CellRef::Int(_)) => {
-            let (least, greatest) = common_heights(rows, column, ranks);
-            frame_round(least, greatest)
-        }
-        Some(CellRef::Text(_)) => Frame::Texts(common_prefix(rows, column, ranks)),
+    match cell_at(rows, column, &ranks[0]) {
+        Some(CellRef::Int(_)) => frame_of_numbers(rows, column, ranks),
+        Some(CellRef::Text(_)) => frame_of_texts(rows, column, ranks),
         Some(CellRef::Bool(_)) | None => Frame::Truths,
     }
 }

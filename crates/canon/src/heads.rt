@@ -1,13 +1,13 @@
 // What cells begin with, as numbers that stand in the cells' order.
-ghost use Rattle.std.specs.Prelude.{◌≡◌, slice_index};
+ghost use Rattle.std.specs.Prelude.{◌≡◌, ◌+◌, ◌-◌, ◌^◌};
 ghost use Rattle.nq_model.specs.CellRefs.{cell_seen};
 ghost use Rattle.canon.specs.Heads.{head_of, head_of_int, head_of_text, head_past, height_of};
 
 use nq_model::CellRef;
 use std::cmp::Ordering;
 
-// How many bytes of a text its head has.
-const HEAD_SIZE: usize = 4;
+// The texts that begin with a prefix have all heads but the least and the greatest.
+const HEADS: u64 = (1 << 32) - 2;
 
 // What the cells of a column are told apart by. Heads stand in the order of the cells whatever it is, but
 // with a frame that fits the cells few heads tie.
@@ -15,33 +15,43 @@ const HEAD_SIZE: usize = 4;
 pub(crate) enum Frame<'a> {
     Truths,
     // By how many steps of two to the power `shift` a number's height is above the least.
-    Numbers { least: u64, shift: u32 },
-    // By what stands in a text behind a prefix.
-    Texts(&'a [u8]),
+    Numbers {
+        least: u64,
+        shift: u32,
+    },
+    // By what stands in a text behind a prefix. Letters are the bytes above the floor, up to the last.
+    Texts {
+        prefix: &'a [u8],
+        floor: u8,
+        last: u8,
+    },
 }
 
-// A byte of a text, and 0 behind its end.
-fn byte_at(text: &[u8], place: usize) -> u8
-    ensures { result ≡ slice_index text.now place }
+// Each letter has its share of all heads, and so have those behind it of that share. So a head holds as much
+// of a text as it can: four of any bytes, but six of 26 letters and nine of ten digits.
+fn text_head(floor: u8, last: u8, text: &[u8]) -> u32
+    ensures { result ≡ 1 + head_of_text floor last (2 ^ 32 - 2) text.now }
 {
-    text.get(place).copied().unwrap_or(0)
-}
-
-// The first bytes as one number, with zeros behind the last.
-fn text_head(text: &[u8]) -> u32
-    ensures { result ≡ head_of_text 4 text.now }
-{
-    let mut head = 0u32;
-    for i in 0..HEAD_SIZE {
-        head = head * 256 + u32::from(byte_at(text, i));
+    let count = u64::from(last.saturating_sub(floor)) + 1;
+    let mut head = 1u64;
+    let mut room = HEADS;
+    for byte in text {
+        if room <= 1 || *byte <= floor {
+            return head as u32;
+        }
+        if *byte > last {
+            return (head + (room - 1)) as u32;
+        }
+        room /= count;
+        head += u64::from(*byte - floor) * room;
     }
-    head
+    head as u32
 }
 
 // The head of what stands behind a prefix. A text that does not begin with it has the least head or the
 // greatest, so that the heads stand in the order of the texts whatever the prefix is.
-fn head_behind(prefix: &[u8], text: &[u8]) -> u32
-    ensures { result ≡ head_past prefix.now text.now }
+fn head_behind(prefix: &[u8], floor: u8, last: u8, text: &[u8]) -> u32
+    ensures { result ≡ head_past floor last prefix.now text.now }
 {
     for (i, byte) in prefix.iter().enumerate() {
         if i >= text.len() {
@@ -53,7 +63,7 @@ fn head_behind(prefix: &[u8], text: &[u8]) -> u32
             Ordering::Greater => return u32::MAX,
         }
     }
-    text_head(&text[prefix.len()..])
+    text_head(floor, last, &text[prefix.len()..])
 }
 
 // How far a number is above the least of 64 bits.
@@ -85,9 +95,13 @@ pub(crate) fn cell_head(frame: &Frame<'_>, cell: &CellRef<'_>) -> u32
             CellRef::Int(number) => number_head(*least, *shift, *number),
             CellRef::Text(_) => u32::MAX,
         },
-        Frame::Texts(prefix) => match cell {
+        Frame::Texts {
+            prefix,
+            floor,
+            last,
+        } => match cell {
             CellRef::Bool(_) | CellRef::Int(_) => 0,
-            CellRef::Text(text) => head_behind(prefix, text.as_bytes()),
+            CellRef::Text(text) => head_behind(prefix, *floor, *last, text.as_bytes()),
         },
     }
 }

@@ -1,22 +1,33 @@
-use Rattle.std.proofs.Common.{◌≡◌, ◌+◌, ◌*◌, ℕ, get_or, arith, ap₂, ◌∙◌, sym}
+use Rattle.std.proofs.Common.{◌≡◌, ◌-◌, ◌^◌, suc, ◌∷◌, drop, get_or, arith, drop-cons, ap, ◌∙◌}
 use Rattle.canon.specs.Heads.{head_of_text}
-use Rattle.canon.proofs.Ranking.{head_more, head_fits}
+use Rattle.canon.proofs.Ranking.{at_end, head_within}
 use Rattle.canon.proofs.heads.text_head.Goals as goal
+use Rattle.canon.proofs.heads.text_head.Goals.{then-room-le1-via-then-room-le1, then-room-le1-via-else-room-le1+then-byte-floor}
 
-pub overflow_mul-head : goal.overflow_mul-head
-overflow_mul-head c =
-    let head : c.loop-i.head ≡ head_of_text c.loop-i.i c.args.text.now = c.loop-i.invariant in
-    let below = head_fits c.loop-i.i c.args.text.now c.loop-i-test.true 0 (omega arith) in
-    omega (arith, head, below)
+pub overflow_cast-result : goal.overflow_cast-result
+overflow_cast-result c =
+    let most = head_within c.args.floor c.args.last (2 ^ 32 - 2) c.args.text.now in
+    let rest = c.loop-byte.invariant.rest in
+    omega (arith, most, rest)
 
-pub overflow_add-head : goal.overflow_add-head
-overflow_add-head c =
-    let head : c.loop-i.head ≡ head_of_text c.loop-i.i c.args.text.now = c.loop-i.invariant in
-    let below = head_fits c.loop-i.i c.args.text.now c.loop-i-test.true c.byte_at.result c.byte_at.type_inv in
-    omega (arith, head, below)
+pub overflow_cast-result-2 : goal.overflow_cast-result-2
+overflow_cast-result-2 c =
+    let most = head_within c.args.floor c.args.last (2 ^ 32 - 2) c.args.text.now in
+    let rest = c.loop-byte.invariant.rest in
+    omega (arith, most, rest)
 
-pub loop-i-preserved : goal.loop-i-preserved
-loop-i-preserved c =
-    let head : c.loop-i.head ≡ head_of_text c.loop-i.i c.args.text.now = c.loop-i.invariant in
-    let byte : c.from.result ≡ get_or c.args.text.now c.loop-i.i 0 = c.from.ensures ∙ c.byte_at.ensures in
-    ap₂ (λ (h b : ℕ). h * 256 + b) head byte ∙ sym (head_more c.loop-i.i c.args.text.now (λ k. omega (arith, c.type_inv.text k)))
+pub returns-then-room-le1 : goal.returns-then-room-le1
+returns-then-room-le1 c =
+    let floor = c.args.floor in
+    let last = c.args.last in
+    let room = c.loop-byte.room in
+    let i = c.loop-byte.byte-index in
+    let text = c.args.text.now in
+    let rest = c.loop-byte.invariant.rest in
+    elim c.then-room-le1.branch [
+      | then-room-le1-via-then-room-le1 w ↦ let most = head_within floor last room (drop i text) in omega (arith, rest, most, w.if-room-le1)
+      | then-room-le1-via-else-room-le1+then-byte-floor w ↦
+          let here : drop i text ≡ get_or text i 0 ∷ drop (suc i) text = drop-cons text i 0 c.loop-byte-test.true in
+          let end : head_of_text floor last room (drop i text) ≡ 0 = ap (head_of_text floor last room) here ∙ at_end floor last (get_or text i 0) room (drop (suc i) text) (omega (arith, w.if-byte-floor)) in
+          omega (arith, rest, end)
+    ]
