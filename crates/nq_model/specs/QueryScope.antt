@@ -9,8 +9,6 @@ use Rattle.nq_model.specs.Tables.{base_type}
 use Rattle.nq_model.specs.Terms.{PlacedTerm, PlacedNode, PlacedFields, at}
 use Rattle.nq_model.specs.QueryTokens.{is_quote, Operator, Union, Of, Constant, Number, Literal}
 use Rattle.nq_model.specs.QueryGrammar.{TypeSyntax, TBase, TBag, TParen, TNoFields, TRec, TFun, TypeFields, TOne, TMore, Syntax, Const, Truth, Var, Table, Empty, Paren, NoFields, Rec, Bag, Nil, For, Where, If, Fun, Let, Prefix, Infix, Apply, Field, Fields, One, More}
-use Rattle.nq_model.specs.declared.table.ColumnType.{ColumnType}
-use Rattle.nq_model.specs.declared.table.ColumnType.TheVariants as column
 
 abbrev pub Name : Type 0
 Name = List ℕ

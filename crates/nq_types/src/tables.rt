@@ -5,7 +5,7 @@ ghost use Rattle.nq_model.specs.Types.{type_tree};
 ghost use Rattle.nq_model.specs.Typing.{shape_named};
 ghost use Rattle.nq_types.specs.Indexes.{TellsPlaces};
 
-use nq_model::{ColumnType, Label, List, Memory, Schema, TableShape, Ty, boxed};
+use nq_model::{ColumnType, Label, List, Memory, Schema, TableShape, Ty, boxed, in_label_order};
 use std::alloc::Global;
 use std::collections::BTreeMap;
 

@@ -11,7 +11,7 @@ use crate::fault::CheckFault;
 use crate::rules;
 use crate::scope::Scope;
 use crate::tables::{Tables, table_type};
-use nq_model::{Label, List, Node, Term, Ty, boxed};
+use nq_model::{Label, List, Node, Term, Ty, boxed, in_label_order};
 use std::alloc::Global;
 
 // The type of a term, or the first broken rule.

@@ -1,5 +1,4 @@
 // Types as they are written become types.
-ghost use Rattle.std.specs.Prelude.{◌≡◌, IfOk};
 ghost use Rattle.nq_model.specs.Types.{type_tree, fields_view};
 ghost use Rattle.query_syntax.specs.Lowering.{Gives, type_lowered, type_fields_lowered};
 ghost use Rattle.query_syntax.specs.Trees.{type_view, type_fields, typed};
