@@ -14,6 +14,7 @@ pub mod SchemaTokens
 pub mod SchemaTexts
 pub mod Terms
 pub mod Databases
+pub mod NamedRows
 pub mod Meaning
 pub mod Operators
 pub mod Numberings
