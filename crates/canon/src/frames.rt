@@ -4,7 +4,8 @@ ghost use Rattle.std.specs.Prelude.{◌<◌, ◌≤◌, length};
 
 use crate::heads::{Frame, height};
 use crate::ranks::Ranked;
-use nq_model::{CellRef, Rows};
+use nq_model::CellRef;
+use rows::Rows;
 
 // By how many rows a frame is chosen, at most.
 const SAMPLE_SIZE: usize = 256;

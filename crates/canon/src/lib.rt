@@ -7,13 +7,13 @@ mod laws;
 mod order;
 mod ranks;
 mod row_order;
-mod rows;
+mod row_text;
 mod runs;
 mod sort;
 mod text;
 
 pub use laws::{form_laws, text_laws};
 pub use order::compare;
-pub use rows::write_rows;
+pub use row_text::write_rows;
 pub use sort::sort_deep;
 pub use text::write;

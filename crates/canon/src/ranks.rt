@@ -7,7 +7,8 @@ ghost use Rattle.canon.specs.Rows.{row_at};
 ghost use Rattle.canon.specs.Runs.{places_of};
 
 use crate::heads::{Frame, cell_head};
-use nq_model::{Memory, Rows};
+use nq_model::Memory;
+use rows::Rows;
 use std::alloc::Global;
 use std::cmp::Ordering;
 

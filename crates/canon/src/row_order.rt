@@ -4,7 +4,7 @@ ghost use Rattle.std.specs.Cmp.Lexicographic.{slice_cmp};
 ghost use Rattle.nq_model.specs.Cells.{cell_cmp};
 ghost use Rattle.canon.specs.Rows.{cells_cmp, row_at};
 
-use nq_model::Rows;
+use rows::Rows;
 use std::cmp::Ordering;
 
 // Where the cells of a row from a place on end, at most so many.

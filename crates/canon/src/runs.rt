@@ -11,7 +11,7 @@ ghost use Rattle.canon.specs.Runs.{AreInOrder, HaveCells, HaveOneCell, HaveOneRa
 use crate::frames::frame_of;
 use crate::ranks::{Ranked, rank_rows};
 use crate::row_order::compare_rows;
-use nq_model::Rows;
+use rows::Rows;
 use std::cmp::Ordering;
 
 // So few rows are compared rather than ranked again.

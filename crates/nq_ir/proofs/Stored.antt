@@ -13,7 +13,6 @@ use Rattle.nq_model.specs.Typing.{shape_named}
 use Rattle.nq_model.specs.Tables.{Columns, names_of, types_of, IsProperShape, IsProperSchema}
 use Rattle.nq_model.specs.declared.table.Cell.{Cell}
 use Rattle.nq_model.specs.declared.table.Schema.{Schema}
-use Rattle.nq_model.specs.declared.table.Table.{Table}
 use Rattle.nq_model.specs.declared.table.TableShape.{TableShape}
 use Rattle.nq_ir.specs.declared.base.Gen.{Gen}
 use Rattle.nq_ir.specs.Meanings.{Label, Row, Env, named_rows, rows_in, kept}
@@ -44,14 +43,14 @@ bytes_turned a b = go (bytes_eq a b) refl (bytes_eq b a) refl
     go false e false f = refl
 
 -- the rows of a schema's tables have their columns
-pub uniform : (shapes : List TableShape) (tables : List Table) → AreTablesOf shapes tables → Uniform (column_names shapes) (rows_in (database shapes tables))
+pub uniform : (shapes : List TableShape) (tables : List (List (List Cell))) → AreTablesOf shapes tables → Uniform (column_names shapes) (rows_in (database shapes tables))
 uniform [] tables h t = tt
 uniform (shape ∷ shapes) [] h t = absurd h
 uniform (shape ∷ shapes) (table ∷ tables) h t =
     go (bytes_eq shape.name t) (bytes_eq t shape.name) (bytes_turned shape.name t) (uniform shapes tables h.1 t)
   where
-    go : (a b : Bool) → a ≡ b → Each (λ (r : Row). map (λ c. c.0) r ≡ column_names shapes t) (rows_in (database shapes tables) t) → Each (λ (r : Row). map (λ c. c.0) r ≡ names_of (columns_or_none (cond b (Some shape) (shape_named t shapes)))) (named_rows (cond a (Some (filled shape table.rows)) (find (λ (x : FilledTable). bytes_eq x.name t) (database shapes tables))))
-    go true true e i = rows_named shape.columns table.rows h.0.rows
+    go : (a b : Bool) → a ≡ b → Each (λ (r : Row). map (λ c. c.0) r ≡ column_names shapes t) (rows_in (database shapes tables) t) → Each (λ (r : Row). map (λ c. c.0) r ≡ names_of (columns_or_none (cond b (Some shape) (shape_named t shapes)))) (named_rows (cond a (Some (filled shape table)) (find (λ (x : FilledTable). bytes_eq x.name t) (database shapes tables))))
+    go true true e i = rows_named shape.columns table h.0.rows
     go true false e i = absurd (cc)
     go false true e i = absurd (cc)
     go false false e i = i
@@ -107,7 +106,7 @@ each_pair : {A : Type 0} (P : A → Type 0) (R : A → A → Type 0) → ((x y :
 each_pair P R h xs e = each_map P (λ x. Each (λ y. R x y) xs) (λ x p. each_map P (λ y. R x y) (λ y q. h x y p q) xs e) xs e
 
 -- the kept choices of generators are told apart by their rows of cells
-pub cells_tell_spots : (shapes : List TableShape) (tables : List Table) → AreTablesOf shapes tables → (gens : List Gen) (conds : Conds) → TellsApart spot_cells (kept (rows_in (database shapes tables)) gens conds [])
+pub cells_tell_spots : (shapes : List TableShape) (tables : List (List (List Cell))) → AreTablesOf shapes tables → (gens : List Gen) (conds : Conds) → TellsApart spot_cells (kept (rows_in (database shapes tables)) gens conds [])
 cells_tell_spots shapes tables h gens conds =
     let ts = rows_in (database shapes tables) in
     each_pair (RowsOf (column_names shapes) gens) (λ x y. spot_cells x ≡ spot_cells y → x ≡ y) (λ x y p q e. env_from (column_names shapes) gens x y p q e) (kept ts gens conds []) (kept_rows (column_names shapes) ts (uniform shapes tables h) gens conds)

@@ -7,7 +7,7 @@ use Rattle.nq_model.specs.Tables.{IsProperSchema}
 use Rattle.nq_model.specs.Types.{TypeTree, bag}
 use Rattle.nq_model.specs.Values.{Same, bag_of}
 use Rattle.nq_model.specs.declared.table.Schema.{Schema}
-use Rattle.nq_model.specs.declared.table.Table.{Table}
+use Rattle.nq_model.specs.declared.table.Cell.{Cell}
 use Rattle.nq_ir.specs.Building.{built}
 use Rattle.nq_ir.specs.Lets.{FlatRow, flat, AllGive}
 use Rattle.nq_ir.specs.Meanings.{Tables, Env, rows_in, kept, EachBoth, form_meaning}
@@ -68,7 +68,7 @@ module _ (schema : Schema) (form : FormTree) (w : IsWellFormed schema.tables for
     children_kept ts =
         each_level ts (element_types (bag form.element)) (strands form.element form.comps) (levels_ok schema.tables (columns_differ schema proper) form.element form.comps w.typed tags_apart (distinct (comps_numbers form.comps) w.numbers_differ))
 
-    module _ (tables : List Table) (h : AreTablesOf schema.tables tables) where
+    module _ (tables : List (List (List Cell))) (h : AreTablesOf schema.tables tables) where
       pub read_by_number : (rows : List (List FlatRow)) → AllGive (column_names schema.tables) (rows_in (database schema.tables tables)) form rows → Legibly (rows_in (database schema.tables tables)) form.element form.comps rows
       read_by_number rows g =
           legibly schema.tables (columns_differ schema proper) form.element form.comps w.typed tags_apart (distinct (comps_numbers form.comps) w.numbers_differ) (rows_in (database schema.tables tables)) (uniform schema.tables tables h) w.labels_rise rows g

@@ -12,7 +12,6 @@ use Rattle.nq_model.specs.declared.table.Cell.{Cell}
 use Rattle.nq_model.specs.declared.table.Cell.TheVariants as cell
 use Rattle.nq_model.specs.declared.table.ColumnType.{ColumnType}
 use Rattle.nq_model.specs.declared.table.ColumnType.TheVariants as column_type
-use Rattle.nq_model.specs.declared.table.Table.{Table}
 use Rattle.nq_model.specs.declared.table.TableShape.{TableShape}
 use Rattle.nq_ir.specs.declared.base.Gen.{Gen}
 use Rattle.nq_ir.specs.Trees.{BaseTree, literal, column, unary, binary, choose, empty, Conds, no_cond, and_cond, Tests, no_test, test, BodyTree, plain_body, rec_body, bag_body, Bodies, no_body, with_body, Comps, no_comp, comp, FormTree}
@@ -185,10 +184,10 @@ abbrev pub key_cells : TableShape → List Cell → List Cell
 key_cells shape row = map (λ l. cell_under l (zip (names_of shape.columns) row)) shape.key
 
 -- rows that a table of this shape may hold: they fit, and where there is a key, no two have equal key cells
-pub record IsTableOf (shape : TableShape) (table : Table) : Type 0 where
-  pub rows : Each (IsRowOf shape.columns) table.rows
-  pub key : (shape.key ≡ []) ⊎ AreDistinct (map (key_cells shape) table.rows)
+pub record IsTableOf (shape : TableShape) (table : List (List Cell)) : Type 0 where
+  pub rows : Each (IsRowOf shape.columns) table
+  pub key : (shape.key ≡ []) ⊎ AreDistinct (map (key_cells shape) table)
 
--- tables of a schema, one to each shape
-abbrev pub AreTablesOf : List TableShape → List Table → Type 0
+-- tables of a schema, given by the rows of each, one to each shape
+abbrev pub AreTablesOf : List TableShape → List (List (List Cell)) → Type 0
 AreTablesOf shapes tables = EachBoth IsTableOf shapes tables

@@ -7,7 +7,7 @@ ghost use Rattle.nq_model.specs.Tables.{IsProperSchema};
 ghost use Rattle.nq_model.specs.Types.{bag};
 ghost use Rattle.nq_model.specs.Values.{Same, bag_of};
 ghost use Rattle.nq_model.specs.declared.table.Schema.{Schema};
-ghost use Rattle.nq_model.specs.declared.table.Table.{Table};
+ghost use Rattle.nq_model.specs.declared.table.Cell.{Cell};
 ghost use Rattle.nq_ir.specs.declared.base.Gen.{Gen};
 ghost use Rattle.nq_ir.specs.Trees.{FormTree, Conds};
 ghost use Rattle.nq_ir.specs.Meanings.{Tables, rows_in, kept, form_meaning};
@@ -22,7 +22,7 @@ ghost use Rattle.nq_ir.specs.WellFormed.{IsWellFormed, AreTablesOf, column_names
 pub fn spot_laws()
     ensures meaning { (schema : Schema) (form : FormTree) → IsWellFormed schema.tables form → (ts : Tables)
         → bag_of (built (spots ts (strands form.element form.comps)) form.element 0 top_spot) ≡ form_meaning ts form }
-    ensures cells { (schema : Schema) (tables : List Table) → AreTablesOf schema.tables tables → (gens : List Gen) (conds : Conds)
+    ensures cells { (schema : Schema) (tables : List (List (List Cell))) → AreTablesOf schema.tables tables → (gens : List Gen) (conds : Conds)
         → TellsApart spot_cells (kept (rows_in (database schema.tables tables)) gens conds []) }
 {}
 
@@ -38,7 +38,7 @@ pub fn shredding_laws()
 /// Rows that the let forms of a well-formed form allow, however they number ties and in whatever order the
 /// rows come, build the form's meaning: the children of a spot are found by its tag and its number.
 pub fn let_laws()
-    ensures { (schema : Schema) (form : FormTree) (tables : List Table) → IsProperSchema schema → IsWellFormed schema.tables form
+    ensures { (schema : Schema) (form : FormTree) (tables : List (List (List Cell))) → IsProperSchema schema → IsWellFormed schema.tables form
         → AreTablesOf schema.tables tables → (rows : List (List FlatRow))
         → AllGive (column_names schema.tables) (rows_in (database schema.tables tables)) form rows
         → Same (bag_of (built (flat rows) form.element 0 (0, 1))) (form_meaning (rows_in (database schema.tables tables)) form) }

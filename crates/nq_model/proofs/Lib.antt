@@ -19,7 +19,3 @@ pub mod Substitution
 pub mod Unfolding
 pub mod StableSorts
 pub mod FieldSorts
-pub mod Blocks
-pub mod PackedTexts
-pub mod ColumnCells
-pub mod ColumnRows

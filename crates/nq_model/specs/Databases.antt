@@ -4,7 +4,6 @@ use Rattle.std.specs.Str.{bytes_eq}
 use Rattle.nq_model.specs.Tables.{Columns, table_value}
 use Rattle.nq_model.specs.Values.{Nested, bag_of}
 use Rattle.nq_model.specs.declared.table.Cell.{Cell}
-use Rattle.nq_model.specs.declared.table.Table.{Table}
 use Rattle.nq_model.specs.declared.table.TableShape.{TableShape}
 
 -- a table with its rows, each with its cells in the order of the columns
@@ -17,11 +16,11 @@ pub record FilledTable : Type 0 where
 abbrev pub filled : TableShape → List (List Cell) → FilledTable
 filled shape rows = record { name = shape.name; columns = shape.columns; rows = rows }
 
--- the tables of a schema, one to each shape
-abbrev pub database : List TableShape → List Table → List FilledTable
+-- the tables of a schema, given by the rows of each, one to each shape
+abbrev pub database : List TableShape → List (List (List Cell)) → List FilledTable
 database [] tables = []
 database (shape ∷ shapes) [] = []
-database (shape ∷ shapes) (table ∷ tables) = filled shape table.rows ∷ database shapes tables
+database (shape ∷ shapes) (rows ∷ tables) = filled shape rows ∷ database shapes tables
 
 abbrev pub rows_value : Option FilledTable → Nested
 rows_value None = bag_of []

@@ -4,9 +4,6 @@ pub mod Orders
 pub mod Types
 pub mod Cells
 pub mod CellRefs
-pub mod Packed
-pub mod Blocks
-pub mod Columns
 pub mod Values
 pub mod Canonical
 pub mod Tables

@@ -1,16 +1,12 @@
-//! Types, terms, values, schemas and tables, with the definitions that every other crate cites.
+//! Types, terms, values, cells and schemas, with the definitions that every other crate cites.
 #![tactic(auto)]
 
 mod cell_ref;
-mod column;
-mod ends;
-mod integers;
 mod laws;
 mod list;
 mod memory;
 mod operators;
 mod order;
-mod rows;
 mod shift;
 mod step_laws;
 mod subst;
@@ -18,7 +14,6 @@ mod table;
 mod term;
 mod term_copy;
 mod text;
-mod texts;
 mod ty;
 mod type_laws;
 mod value;
@@ -29,9 +24,8 @@ pub use list::List;
 pub use memory::{Memory, boxed};
 pub use operators::{binary_value, is_true, unary_value};
 pub use order::{in_label_order, label_order};
-pub use rows::Rows;
 pub use step_laws::{substitution_laws, unfolding_laws};
-pub use table::{Cell, ColumnType, Schema, Table, TableShape};
+pub use table::{Cell, ColumnType, Schema, TableShape};
 pub use term::{Binary, Node, Term, Unary};
 pub use text::{Label, Text};
 pub use ty::Ty;

@@ -1,9 +1,8 @@
-// Schemas, and tables as lists of rows.
+// Schemas, and cells of rows.
 ghost use Rattle.std.specs.Prelude.{◌≡◌, IfOk};
 
 use crate::list::List;
 use crate::memory::Memory;
-use crate::rows::Rows;
 use crate::text::{Label, Text};
 use std::alloc::Global;
 
@@ -49,10 +48,4 @@ impl Cell {
             Cell::Text(text) => Ok(Cell::Text(text.copy(alloc)?)),
         }
     }
-}
-
-/// The rows of a table, each with its cells in the order of the columns.
-#[derive(Drop)]
-pub struct Table {
-    pub rows: Rows,
 }

@@ -6,8 +6,9 @@ use Rattle.nq_model.specs.Tables.{names_of}
 use Rattle.nq_model.specs.Values.{Nested, base}
 use Rattle.nq_model.specs.declared.table.Cell.{Cell}
 use Rattle.nq_model.specs.declared.table.ColumnType.{ColumnType}
-use Rattle.nq_model.specs.declared.table.Table.{Table}
 use Rattle.nq_model.specs.declared.table.TableShape.{TableShape}
+use Rattle.rows.specs.Tables.{rows_of}
+use Rattle.rows.specs.declared.table.Table.{Table}
 
 pub cells_long : (columns : List (List ℕ × ColumnType)) (row : List Cell) (p : ℕ) → p ≤ length columns → p ≤ length row
     → p ≤ length (zip (names_of columns) (map base row))
@@ -31,19 +32,19 @@ cell_beside (b ∷ columns) (y ∷ row) zero c x d h k e f = rw (e, f) refl
 cell_beside (b ∷ columns) (y ∷ row) (suc i) c x d h k e f = cell_beside columns row i c x d (omega (arith, h)) (omega (arith, k)) e f
 
 pub table_later : (shapes : List TableShape) (tables : List Table) (name : List ℕ) (i : ℕ) (s : TableShape) → i < length shapes → i < length tables → s ≡ get_or shapes i s
-    → bytes_eq s.name name ≡ false → table_meaning (database (drop (suc i) shapes) (drop (suc i) tables)) name ≡ table_meaning (database (drop i shapes) (drop i tables)) name
+    → bytes_eq s.name name ≡ false → table_meaning (database (drop (suc i) shapes) (rows_of (drop (suc i) tables))) name ≡ table_meaning (database (drop i shapes) (rows_of (drop i tables))) name
 table_later [] tables name i s h k e f = absurd (omega (arith, h))
 table_later (x ∷ shapes) [] name i s h k e f = absurd (omega (arith, k))
-table_later (x ∷ shapes) (t ∷ tables) name zero s h k e f = let g : bytes_eq x.name name ≡ false = ap (λ (z : TableShape). bytes_eq z.name name) (sym e) ∙ f in sym (ap (λ b. rows_value (cond b (Some (filled x t.rows)) (find (λ (z : FilledTable). bytes_eq z.name name) (database shapes tables)))) g)
+table_later (x ∷ shapes) (t ∷ tables) name zero s h k e f = let g : bytes_eq x.name name ≡ false = ap (λ (z : TableShape). bytes_eq z.name name) (sym e) ∙ f in sym (ap (λ b. rows_value (cond b (Some (filled x t.rows)) (find (λ (z : FilledTable). bytes_eq z.name name) (database shapes (rows_of tables))))) g)
 table_later (x ∷ shapes) (t ∷ tables) name (suc i) s h k e f = table_later shapes tables name i s (omega (arith, h)) (omega (arith, k)) e f
 
-no_tables : (shapes : List TableShape) (i : ℕ) → database shapes (drop i []) ≡ []
+no_tables : (shapes : List TableShape) (i : ℕ) → database shapes (rows_of (drop i [])) ≡ []
 no_tables [] i = refl
 no_tables (x ∷ shapes) zero = refl
 no_tables (x ∷ shapes) (suc i) = refl
 
 pub table_nowhere : (shapes : List TableShape) (tables : List Table) (name : List ℕ) (i : ℕ) → min (length shapes) (length tables) ≤ i
-    → table_meaning (database (drop i shapes) (drop i tables)) name ≡ table_meaning [] name
+    → table_meaning (database (drop i shapes) (rows_of (drop i tables))) name ≡ table_meaning [] name
 table_nowhere [] tables name zero h = refl
 table_nowhere [] tables name (suc i) h = refl
 table_nowhere (x ∷ shapes) [] name zero h = refl

@@ -4,6 +4,7 @@ ghost use Rattle.nq_model.specs.Databases.{database};
 ghost use Rattle.nq_model.specs.Meaning.{meaning, field_meanings};
 ghost use Rattle.nq_model.specs.Terms.{term_tree, term_fields_of, fields_view as terms_view};
 ghost use Rattle.nq_model.specs.Values.{nested, fields_view};
+ghost use Rattle.rows.specs.Tables.{rows_of};
 ghost use Rattle.nq_plain.specs.Scopes.{values};
 
 use crate::cells::{cell_in, value_of};
@@ -11,9 +12,8 @@ use crate::elements::{append, elements_in};
 use crate::records::{field_in, put_field};
 use crate::scope::Scope;
 use crate::tables::table_meaning;
-use nq_model::{
-    Label, List, Memory, Node, Schema, Table, Term, Value, binary_value, is_true, unary_value,
-};
+use nq_model::{Label, List, Memory, Node, Schema, Term, Value, binary_value, is_true, unary_value};
+use rows::Table;
 use std::alloc::Global;
 
 /// What a plain term means over the tables of a schema, where the variables have these values. A term
@@ -26,7 +26,7 @@ pub fn evaluate(
     scope: &Scope,
     term: &Term,
 ) -> Result<Value, Memory>
-    ensures { IfOk result (λ value. nested value ≡ meaning (database schema.now.tables tables.now) (values scope.now) (term_tree term.now)) }
+    ensures { IfOk result (λ value. nested value ≡ meaning (database schema.now.tables (rows_of tables.now)) (values scope.now) (term_tree term.now)) }
 {
     match &term.node {
         Node::Var(k) => scope.value(alloc, *k),
@@ -110,7 +110,7 @@ fn evaluate_fields(
     scope: &Scope,
     fields: &[(Label, Term)],
 ) -> Result<List<(Label, Value)>, Memory>
-    ensures { IfOk result (λ made. fields_view made ≡ field_meanings (database schema.now.tables tables.now) (values scope.now) (term_fields_of (terms_view fields.now))) }
+    ensures { IfOk result (λ made. fields_view made ≡ field_meanings (database schema.now.tables (rows_of tables.now)) (values scope.now) (term_fields_of (terms_view fields.now))) }
 {
     let mut made = List::new(alloc);
     let mut place = fields.len();

@@ -3,10 +3,12 @@ ghost use Rattle.std.specs.Prelude.{◌≡◌, List, IfOk};
 ghost use Rattle.nq_model.specs.Databases.{database, table_meaning};
 ghost use Rattle.nq_model.specs.Tables.{names_of, row_record, table_value};
 ghost use Rattle.nq_model.specs.Values.{nested};
+ghost use Rattle.rows.specs.Tables.{rows_of};
 
 use crate::cells::value_of;
 use crate::records::put_field;
-use nq_model::{Cell, ColumnType, Label, List, Memory, Rows, Schema, Table, Value};
+use nq_model::{Cell, ColumnType, Label, List, Memory, Schema, Value};
+use rows::{Rows, Table};
 use std::alloc::Global;
 
 // A row as a record.
@@ -44,7 +46,7 @@ pub fn table_meaning(
     tables: &[Table],
     name: &str,
 ) -> Result<Value, Memory>
-    ensures { IfOk result (λ bag. nested bag ≡ table_meaning (database schema.now.tables tables.now) name.now) }
+    ensures { IfOk result (λ bag. nested bag ≡ table_meaning (database schema.now.tables (rows_of tables.now)) name.now) }
 {
     let shapes = schema.tables.as_slice();
     for place in 0..shapes.len().min(tables.len()) {

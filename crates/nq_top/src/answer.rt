@@ -6,7 +6,8 @@ ghost use Rattle.canon.specs.Rows.{rows_at};
 ghost use Rattle.nq_top.specs.Meanings.{is_top, answer_value};
 
 use canon::write_rows;
-use nq_model::{CellRef, Label, List, Memory, Rows};
+use nq_model::{CellRef, Label, List, Memory};
+use rows::Rows;
 use std::alloc::Global;
 
 // Whether the outer index of a row is that of the top.

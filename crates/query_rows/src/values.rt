@@ -1,8 +1,9 @@
 // What queries mean over the tables of an organisation, by the plain evaluator on what single steps reach.
 use crate::asked::{org, read};
 use canon::{sort_deep, write};
-use nq_model::{List, Memory, Schema, Table};
+use nq_model::{List, Memory, Schema};
 use nq_plain::{Scope, evaluate, unfold_by_steps};
+use rows::Table;
 use std::alloc::Global;
 use std::process::Abort;
 use std::str;

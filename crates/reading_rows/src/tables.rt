@@ -1,5 +1,6 @@
 // Table texts with the rows that they give, or with their first fault, worked out by hand.
-use nq_model::{CellRef, ColumnType, Label, List, Table, TableShape};
+use nq_model::{CellRef, ColumnType, Label, List, TableShape};
+use rows::Table;
 use std::alloc::{AllocError, Global};
 use std::test::Fail;
 use table_reader::read_table;

@@ -6,7 +6,8 @@ ghost use Rattle.nq_model.specs.declared.table.ColumnType.{ColumnType};
 ghost use Rattle.sql_profile.specs.declared.answer.Misfit.{Misfit};
 ghost use Rattle.sql_profile.specs.Fits.{DiffersFirstAt, IsFirstMisfit};
 
-use nq_model::{ColumnType, Rows};
+use nq_model::ColumnType;
+use rows::Rows;
 
 /// The rows with which a server answers a text.
 #[derive(Drop)]

@@ -9,7 +9,8 @@ ghost use Rattle.sql_profile.specs.Scans.{IsScan, Allows, HasFullRows, scan_row,
 use crate::answer::Answer;
 use crate::scan::scan_text;
 use crate::server::{Loaded, ServerFault, SqlServer};
-use nq_model::{CellRef, List, Memory, Rows, label_order};
+use nq_model::{CellRef, List, Memory, label_order};
+use rows::Rows;
 use std::alloc::Global;
 
 /// A server that answers the scan text of each table that it holds. It is honest, never fails, and does

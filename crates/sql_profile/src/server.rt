@@ -8,7 +8,8 @@ ghost use Rattle.sql_profile.specs.Servers.{CountsFault, Asks, with_ask, table_n
 ghost use Rattle.sql_profile.specs.declared.server.Loaded.{Loaded};
 
 use crate::answer::Answer;
-use nq_model::{ColumnType, Label, List, Memory, Rows};
+use nq_model::{ColumnType, Label, List, Memory};
+use rows::Rows;
 use std::alloc::Global;
 
 /// A table with its rows, as a server is loaded with it.

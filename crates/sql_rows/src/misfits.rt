@@ -1,5 +1,6 @@
 // Answers, and the first place where each does not fit its columns.
-use nq_model::{Cell, ColumnType, List, Memory, Rows, Text};
+use nq_model::{Cell, ColumnType, List, Memory, Text};
+use rows::Rows;
 use sql_profile::{Answer, fits};
 use std::alloc::Global;
 use std::test::Fail;

@@ -7,7 +7,8 @@ ghost use Rattle.nq_model.specs.Tables.{names_of, types_of};
 ghost use Rattle.nq_model.specs.declared.table.ColumnType.TheVariants as column;
 ghost use Rattle.sql_profile.specs.Scans.{scan_row, scan_text};
 
-use nq_model::{Cell, ColumnType, Label, List, Memory, Rows, Text};
+use nq_model::{Cell, ColumnType, Label, List, Memory, Text};
+use rows::Rows;
 use sql_profile::{
     Answer, Loaded, ScanServer, ServerFault, SqlServer, ask_text, load_table, scan_text,
 };

@@ -5,7 +5,7 @@ use Rattle.nq_model.specs.Tables.{IsProperSchema}
 use Rattle.nq_model.specs.Types.{bag}
 use Rattle.nq_model.specs.Values.{Same}
 use Rattle.nq_model.specs.declared.table.Schema.{Schema}
-use Rattle.nq_model.specs.declared.table.Table.{Table}
+use Rattle.nq_model.specs.declared.table.Cell.{Cell}
 use Rattle.nq_ir.proofs.Building.{follows_same}
 use Rattle.nq_ir.proofs.Whole.{spots_build, read_by_number}
 use Rattle.nq_ir.specs.Lets.{FlatRow, AllGive}
@@ -22,6 +22,6 @@ pub read_is_mean : {I : Type 0} (S : Scheme I) (schema : Schema) (form : FormTre
 read_is_mean S schema form ts ans w r =
     subst (λ v. Same (stitched S form.element ans) v) (spots_build schema form w ts) (follows_same (Entered r.entries) (answers S ans) (spots ts (strands form.element form.comps)) form.element 0 S.top top_spot r.follows r.top)
 
-pub flat_reads : (schema : Schema) (form : FormTree) (tables : List Table) (rows : List (List FlatRow)) (ans : List AnswerRows) → IsProperSchema schema → IsWellFormed schema.tables form → AreTablesOf schema.tables tables → AllGive (column_names schema.tables) (rows_in (database schema.tables tables)) form rows → AreLaidOut (element_types (bag form.element)) rows ans → Reads (flat_numbers (element_types (bag form.element))) ans form (rows_in (database schema.tables tables))
+pub flat_reads : (schema : Schema) (form : FormTree) (tables : List (List (List Cell))) (rows : List (List FlatRow)) (ans : List AnswerRows) → IsProperSchema schema → IsWellFormed schema.tables form → AreTablesOf schema.tables tables → AllGive (column_names schema.tables) (rows_in (database schema.tables tables)) form rows → AreLaidOut (element_types (bag form.element)) rows ans → Reads (flat_numbers (element_types (bag form.element))) ans form (rows_in (database schema.tables tables))
 flat_reads schema form tables rows ans proper w h g laid =
     flat_numbers_read (rows_in (database schema.tables tables)) rows ans form (read_by_number schema form w proper tables h rows g) laid

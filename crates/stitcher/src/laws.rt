@@ -5,7 +5,7 @@ ghost use Rattle.nq_model.specs.Tables.{IsProperSchema};
 ghost use Rattle.nq_model.specs.Types.{bag};
 ghost use Rattle.nq_model.specs.Values.{Same};
 ghost use Rattle.nq_model.specs.declared.table.Schema.{Schema};
-ghost use Rattle.nq_model.specs.declared.table.Table.{Table};
+ghost use Rattle.nq_model.specs.declared.table.Cell.{Cell};
 ghost use Rattle.nq_ir.specs.Trees.{FormTree};
 ghost use Rattle.nq_ir.specs.Meanings.{Tables, rows_in, form_meaning};
 ghost use Rattle.nq_ir.specs.Lets.{FlatRow, AllGive};
@@ -27,12 +27,12 @@ pub fn reading_law<S: IndexScheme>()
 /// Tag and number read all answers that the let forms of a well-formed form allow, in whatever order their
 /// rows come and however each text numbers its ties. So stitching such answers gives the form's meaning.
 pub fn flat_laws()
-    ensures read { (schema : Schema) (form : FormTree) (tables : List Table) (rows : List (List FlatRow)) (ans : List AnswerRows)
+    ensures read { (schema : Schema) (form : FormTree) (tables : List (List (List Cell))) (rows : List (List FlatRow)) (ans : List AnswerRows)
         → IsProperSchema schema → IsWellFormed schema.tables form → AreTablesOf schema.tables tables
         → AllGive (column_names schema.tables) (rows_in (database schema.tables tables)) form rows
         → AreLaidOut (element_types (bag form.element)) rows ans
         → Reads (flat_numbers (element_types (bag form.element))) ans form (rows_in (database schema.tables tables)) }
-    ensures meaning { (schema : Schema) (form : FormTree) (tables : List Table) (rows : List (List FlatRow)) (ans : List AnswerRows)
+    ensures meaning { (schema : Schema) (form : FormTree) (tables : List (List (List Cell))) (rows : List (List FlatRow)) (ans : List AnswerRows)
         → IsProperSchema schema → IsWellFormed schema.tables form → AreTablesOf schema.tables tables
         → AllGive (column_names schema.tables) (rows_in (database schema.tables tables)) form rows
         → AreLaidOut (element_types (bag form.element)) rows ans

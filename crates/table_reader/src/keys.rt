@@ -7,7 +7,8 @@ ghost use Rattle.table_reader.specs.FirstRows.{cell_of_key, key_places, place_of
 
 use crate::code_map::{CodeMap, slots_for};
 use crate::codes::cell_code;
-use nq_model::{Cell, ColumnType, Label, List, Memory, Rows, TableShape};
+use nq_model::{Cell, ColumnType, Label, List, Memory, TableShape};
+use rows::Rows;
 use std::alloc::Global;
 use std::collections::BTreeMap;
 

@@ -12,7 +12,8 @@ use crate::cells::read_row;
 use crate::keys::KeyIndex;
 use crate::records::{field_at, read_next, reader_of};
 use csv::{ByteRecord, Reader};
-use nq_model::{Cell, List, Memory, Rows, Table, TableShape};
+use nq_model::{Cell, List, Memory, TableShape};
+use rows::{Rows, Table};
 use std::alloc::Global;
 
 // Whether a record is the names of the columns.

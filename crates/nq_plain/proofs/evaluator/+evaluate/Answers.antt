@@ -1,6 +1,7 @@
 use Rattle.std.proofs.Common.{◌∙◌, ◌∷◌, ◌++◌, ap, ap₂, sym, map, flat_map, List}
 use Rattle.std.proofs.lemmas.List.{map-append}
 use Rattle.nq_model.specs.Databases.{database}
+use Rattle.rows.specs.Tables.{rows_of}
 use Rattle.nq_model.specs.Meaning.{meaning, field_meanings, elements_in, is_none}
 use Rattle.nq_model.specs.Terms.{bare_node, node_tree, term_tree, term_fields_of, fields_view as terms_view}
 use Rattle.nq_model.specs.Values.{Nested, nested, base, bag_of, rec_of}
@@ -15,7 +16,7 @@ use Rattle.nq_plain.proofs.evaluator.+evaluate.Goals as goal
 pub evaluate-returns-in_ok-evaluate_fields-in-Rec :
     goal.evaluate-returns-in_ok-evaluate_fields-in-Rec
 evaluate-returns-in_ok-evaluate_fields-in-Rec t c =
-    let tables = database c.args.schema.now.tables c.args.tables.now in
+    let tables = database c.args.schema.now.tables (rows_of c.args.tables.now) in
     let env = values c.args.scope.now in
     let tree = term_node c.args.term.now ∙ ap node_tree c.in-Rec.is ∙ node_tree_record c.in-Rec.fields in
     nested_record c.in_ok-evaluate_fields-in-Rec.field-0
@@ -25,7 +26,7 @@ evaluate-returns-in_ok-evaluate_fields-in-Rec t c =
 pub evaluate-returns-in_ok-evaluate-in-Empty :
     goal.evaluate-returns-in_ok-evaluate-in-Empty
 evaluate-returns-in_ok-evaluate-in-Empty t c =
-    let tables = database c.args.schema.now.tables c.args.tables.now in
+    let tables = database c.args.schema.now.tables (rows_of c.args.tables.now) in
     let env = values c.args.scope.now in
     let tree = term_node c.args.term.now ∙ ap node_tree c.in-Empty.is ∙ ap bare_node (node_empty c.in-Empty.of) in
     nested_truth c.is_empty.result
@@ -36,7 +37,7 @@ evaluate-returns-in_ok-evaluate-in-Empty t c =
 pub evaluate-returns-in_ok-append-in-Union :
     goal.evaluate-returns-in_ok-append-in-Union
 evaluate-returns-in_ok-append-in-Union t c =
-    let tables = database c.args.schema.now.tables c.args.tables.now in
+    let tables = database c.args.schema.now.tables (rows_of c.args.tables.now) in
     let env = values c.args.scope.now in
     let tree = term_node c.args.term.now ∙ ap node_tree c.in-Union.is ∙ ap bare_node (node_union c.in-Union.left c.in-Union.right) in
     nested_bag c.append.new.all
@@ -49,7 +50,7 @@ evaluate-returns-in_ok-append-in-Union t c =
 
 pub evaluate-returns-after-loop-value : goal.evaluate-returns-after-loop-value
 evaluate-returns-after-loop-value t c =
-    let tables = database c.args.schema.now.tables c.args.tables.now in
+    let tables = database c.args.schema.now.tables (rows_of c.args.tables.now) in
     let env = values c.args.scope.now in
     let gives : Nested → List Nested = λ v. elements_in (meaning tables (v ∷ env) (term_tree c.in-For.body.value)) in
     let items = c.as_slice-value-items.result.now in

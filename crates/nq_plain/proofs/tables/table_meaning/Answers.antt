@@ -1,5 +1,6 @@
 use Rattle.std.proofs.Common.{◌≡◌, ◌∙◌, ap, sym, add-one, drop, false, arith, bytes_eq, map}
 use Rattle.nq_model.specs.Databases.{database, table_meaning}
+use Rattle.rows.specs.Tables.{rows_of}
 use Rattle.nq_model.specs.Values.{nested, bag_of}
 use Rattle.nq_model.proofs.Trees.{nested_bag}
 use Rattle.nq_plain.proofs.TableRows.{table_later, table_nowhere}
@@ -13,7 +14,7 @@ loop-place-preserved c =
     let shape = c.index-shapes-place.result in
     let other : bytes_eq shape.name name ≡ false =
     ap (λ s. bytes_eq s name) (ap (λ s. s.name) c.index-shapes-place.is ∙ sym c.as_str.ensures.value) ∙ sym c.eq.ensures ∙ c.if-eq.false in
-    ap (λ i. table_meaning (database (drop i shapes) (drop i tables)) name) (add-one c.loop-place.place)
+    ap (λ i. table_meaning (database (drop i shapes) (rows_of (drop i tables))) name) (add-one c.loop-place.place)
     ∙ table_later shapes tables name c.loop-place.place shape (omega arith) (omega arith) c.index-shapes-place.is other
     ∙ c.loop-place.invariant
 
@@ -26,4 +27,4 @@ returns c =
     ∙ ap (λ vs. bag_of (map nested vs)) c.new.ensures
     ∙ sym (table_nowhere shapes tables name c.loop-place.place (omega arith))
     ∙ c.loop-place.invariant
-    ∙ ap (λ ss. table_meaning (database ss tables) name) c.as_slice-shapes.ensures
+    ∙ ap (λ ss. table_meaning (database ss (rows_of tables)) name) c.as_slice-shapes.ensures

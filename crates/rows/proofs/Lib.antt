@@ -1,0 +1,4 @@
+pub mod Blocks
+pub mod PackedTexts
+pub mod ColumnCells
+pub mod ColumnRows

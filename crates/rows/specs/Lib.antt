@@ -1,0 +1,4 @@
+pub mod Packed
+pub mod Blocks
+pub mod Columns
+pub mod Tables

@@ -1,0 +1,12 @@
+//! Rows of cells in little memory, which contracts see as lists, and tables of them.
+#![tactic(auto)]
+
+mod column;
+mod ends;
+mod integers;
+mod rows;
+mod table;
+mod texts;
+
+pub use rows::Rows;
+pub use table::Table;
