@@ -1,8 +1,10 @@
 -- What the let forms of a well-formed form allow is read by tag and number.
 use Rattle.std.proofs.Common.{◌≡◌, ℕ, zero, suc, ◌+◌, ◌<◌, ◌≤◌, List, [], ◌∷◌, ◌++◌, map, refl, sym, ap, ap₂, ◌∙◌, subst, Bool, flat_map, get_or, length, arith, append-nil, append_assoc, length-append}
 use Rattle.std.specs.List.{AllByRecursion as Each}
-use Rattle.nq_model.proofs.Bags.{reordered_refl}
-use Rattle.nq_model.proofs.Numberings.{key_ranks, each_map}
+use Rattle.std.specs.Ordering.{nat_cmp}
+use Rattle.nq_model.proofs.Bags.{reordered_refl, reordered_sym}
+use Rattle.nq_model.proofs.Canonical.{reordered_sorted}
+use Rattle.nq_model.proofs.Numberings.{key_ranks, each_map, each_reordered}
 use Rattle.nq_model.specs.Bags.{Reordered}
 use Rattle.nq_model.specs.Numberings.{Numbers, Ranks, Rises, key_lt, numbered, TellsApart}
 use Rattle.nq_model.specs.Proper.{IsOrdered}
@@ -13,11 +15,13 @@ use Rattle.nq_model.specs.declared.table.TableShape.{TableShape}
 use Rattle.nq_ir.specs.declared.base.Gen.{Gen}
 use Rattle.nq_ir.specs.declared.path.Step.{Step}
 use Rattle.nq_ir.specs.Building.{built}
-use Rattle.nq_ir.specs.Lets.{LetTree, PartTree, LetRow, Side, FlatRow, flat, Deals, PartsGive, LetGives, FormGives, insert_lets, no_let, let_of, let_rows, strand_of, key_of, combos, AllGive}
-use Rattle.nq_ir.specs.Meanings.{Label, Tables, Env, kept, EachBoth, comps_meaning}
+use Rattle.nq_ir.specs.Lets.{LetTree, PartTree, LetRow, Side, FlatRow, flat, Deals, PartsGive, LetGives, FormGives, insert_lets, lets_of, no_let, let_of, let_rows, parts_on, strand_of, key_of, combos, AllGive}
+use Rattle.nq_model.specs.NamedRows.{Label}
+use Rattle.nq_ir.specs.Meanings.{Tables, Env, kept, EachBoth, comps_meaning}
 use Rattle.nq_ir.specs.Parts.{slots, slots_in, bags, bags_in, element_types, element_types_in}
 use Rattle.nq_ir.specs.Paths.{paths, element_at}
-use Rattle.nq_ir.specs.Spots.{PlacedComp, StrandTree, shaped, shape_of, shape_of_fields, shape_slots, shape_slots_in, both, levels, strands, spots, top_spot, shredded, TagsDiffer}
+use Rattle.nq_ir.specs.Spots.{PlacedComp, StrandTree, shaped, shape_of, shape_of_fields, shape_slots, shape_slots_in, both, levels, strands, spots, top_spot, strands_at, by_tag, TagsDiffer}
+use Rattle.nq_ir.specs.Shredded.{shredded}
 use Rattle.nq_ir.specs.Trees.{BodyTree, plain_body, rec_body, bag_body, Bodies, no_body, with_body, Comps, Conds}
 use Rattle.nq_ir.specs.WellFormed.{BodyHas, CompsHave, comps_tags, comps_numbers, numbers, column_names}
 use Rattle.nq_ir.proofs.Building.{follows_same}
@@ -28,7 +32,7 @@ use Rattle.nq_ir.proofs.Legible.{Stands, LegibleIn, LegibleFields, legible_in, P
 use Rattle.nq_ir.proofs.LevelTypes.{StrandsTyped, levels_typed}
 use Rattle.nq_ir.proofs.Levels.{levels_all}
 use Rattle.nq_ir.proofs.Nested.{AvoidsAll, map_of_map, nested_kept}
-use Rattle.nq_ir.proofs.Paths.{LabelsDiffer, proper, elements_are, shredded_strands}
+use Rattle.nq_ir.proofs.Paths.{LabelsDiffer, strands_sorted}
 use Rattle.nq_ir.proofs.Rows.{Uniform, kept_rows}
 use Rattle.nq_ir.proofs.Scopes.{Scoping, look, all_scopes, all_tags, StrandGood, strands_good, scopes_differ}
 use Rattle.nq_ir.proofs.Sorting.{sort_by, sort_reorders, sort_rises}
@@ -170,8 +174,8 @@ module _ (S : List TableShape) (differ : (t : Label) → LabelsDiffer (column_na
   levels_ok =
       both_each (StrandsTyped S) (λ here. Each (StrandGood info tags) here) (map shaped) LevelOk (λ B here t g. each_mapped shaped (λ c. StrandGood info tags c × BodyHas S (c.outer_gens ++ c.gens) c.body B) (StrandOk B) (λ c k. fine info tags B c k.0 (typed_fits S (c.outer_gens ++ c.gens) c.body B k.1)) here (each_two (StrandGood info tags) (λ c. BodyHas S (c.outer_gens ++ c.gens) c.body B) here g t)) (element_types (bag A)) (levels A cs) (levels_typed S A cs typed) (levels_all (StrandGood info tags) A cs (strands_good S A cs typed tags_apart gens_apart))
 
-  again : (B : TypeTree) (here : List StrandTree) → LevelOk B here → map (strand_of (insert_lets B here).lets) (insert_lets B here).parts ≡ here
-  again B here h = strands_again info B here refl (each_map (StrandOk B) (Around info) (λ c k. k.around) here h)
+  again : (B : TypeTree) (here : List StrandTree) → LevelOk B here → map (strand_of (lets_of here)) (parts_on (lets_of here) here) ≡ here
+  again B here h = strands_again info here refl (each_map (StrandOk B) (Around info) (λ c k. k.around) here h)
 
   module _ (ts : Tables) (uniform : Uniform (column_names S) ts) where
     abbrev K : List Gen → Env → List Cell
@@ -231,17 +235,24 @@ module _ (S : List TableShape) (differ : (t : Label) → LabelsDiffer (column_na
         let dealt : Each (λ n. Numbers key_lt (map (λ p. K (d.0.outer_gens ++ d.0.gens) p.1) (combos ts d.1 d.0)) n) one.0 = each_map (λ n. Deals (map (λ p. K (d.0.outer_gens ++ d.0.gens) p.1) (combos ts d.1 d.0)) n) (λ n. Numbers key_lt (map (λ p. K (d.0.outer_gens ++ d.0.gens) p.1) (combos ts d.1 d.0)) n) (λ n k. k.numbers) one.0 one.2 in
         (g.0, g.1, (one.0, one.1, subst (λ (k : Env → List Cell). Each (λ n. Numbers key_lt (map (λ p. k p.1) (combos ts d.1 d.0)) n) one.0) same dealt, one.3), keys_changed B ds g.1 e.1 g.3, g.4)
 
-    -- what the let form at a path allows gives the rows of its strands
-    gives_of : (B : TypeTree) (here : List StrandTree) (rows : List FlatRow) → LevelOk B here → FormGives (column_names S) ts (insert_lets B here) rows → Gives here rows
-    gives_of B here rows h g =
-        let f = insert_lets B here in
+    -- the let form of these strands, in tag order, allows these rows
+    abbrev Gave : List StrandTree → List FlatRow → Type 0
+    Gave here rows = (p : List Step) × (B : TypeTree) × FormGives (column_names S) ts (insert_lets (record { path = p; element = B; parts = here })) rows
+
+    -- what it allows gives the rows of the strands
+    gives_of : (B : TypeTree) (here : List StrandTree) (rows : List FlatRow) → LevelOk B here → Gave (by_tag here) rows → Gives here rows
+    gives_of B here rows h gave =
+        let g = gave.2 in
+        let f = insert_lets (record { path = gave.0; element = gave.1; parts = by_tag here }) in
+        let mixed : Reordered here (by_tag here) = reordered_sorted (λ (d e : StrandTree). nat_cmp d.tag e.tag) here in
+        let fine_here : Each (StrandOk B) (by_tag here) = each_reordered (StrandOk B) here (by_tag here) mixed h in
         let side : PartTree → Side = λ p. (strand_of f.lets p, let_rows g.lists p.from) in
-        let back : Each (StrandOk B) (map (strand_of f.lets) f.parts) = subst (λ (l : List StrandTree). Each (StrandOk B) l) (sym (again B here h)) h in
+        let back : Each (StrandOk B) (map (strand_of f.lets) f.parts) = subst (λ (l : List StrandTree). Each (StrandOk B) l) (sym (again B (by_tag here) fine_here)) fine_here in
         let parts : Each (λ p. StrandOk B (strand_of f.lets p)) f.parts = each_unmapped (strand_of f.lets) (StrandOk B) f.parts back in
-        let two : Each (λ p. (p.from ≤ length f.lets) × StrandOk B (strand_of f.lets p)) f.parts = each_two (λ p. p.from ≤ length f.lets) (λ p. StrandOk B (strand_of f.lets p)) f.parts (lets_known B here) parts in
+        let two : Each (λ p. (p.from ≤ length f.lets) × StrandOk B (strand_of f.lets p)) f.parts = each_two (λ p. p.from ≤ length f.lets) (λ p. StrandOk B (strand_of f.lets p)) f.parts (lets_known (by_tag here)) parts in
         record {
           sides = map side f.parts;
-          of_strands = map_of_map (λ (d : Side). d.0) side f.parts ∙ again B here h;
+          of_strands = subst (λ (l : List StrandTree). Reordered l here) (sym (map_of_map (λ (d : Side). d.0) side f.parts ∙ again B (by_tag here) fine_here)) (reordered_sym here (by_tag here) mixed);
           numbered_all = each_mapped side (λ p. (p.from ≤ length f.lets) × StrandOk B (strand_of f.lets p)) (λ (d : Side). LetRows key_lt (key d.0.parent) (around d.0.parent) d.1) (λ p k. rows_of_let f.lets g.lists g.numbered_once p p.from refl k.0 k.1.around) f.parts two;
           all = g.all;
           parts = keys_changed B (map side f.parts) g.all (each_mapped side (λ p. StrandOk B (strand_of f.lets p)) (λ (d : Side). StrandOk B d.0) (λ p k. k) f.parts parts) g.parts;
@@ -249,18 +260,15 @@ module _ (S : List TableShape) (differ : (t : Label) → LabelsDiffer (column_na
         }
 
     -- the let forms at all paths allow these rows, path by path
-    abbrev Given : List TypeTree → List (List StrandTree) → List (List FlatRow) → Type 0
-    Given [] ls rs = rs ≡ []
-    Given (B ∷ Bs) [] rs = ⊥
-    Given (B ∷ Bs) (l ∷ ls) [] = ⊥
-    Given (B ∷ Bs) (l ∷ ls) (r ∷ rs) = FormGives (column_names S) ts (insert_lets B l) r × Given Bs ls rs
+    abbrev Given : List (List StrandTree) → List (List FlatRow) → Type 0
+    Given ls rs = EachBoth Gave ls rs
 
-    given_mapped : (f : List Step → TypeTree) (g : List Step → List StrandTree) (ps : List (List Step)) (rs : List (List FlatRow)) → EachBoth (λ p r. FormGives (column_names S) ts (insert_lets (f p) (g p)) r) ps rs → Given (map f ps) (map g ps) rs
-    given_mapped f g [] rs h = h
-    given_mapped f g (p ∷ ps) [] h = absurd h
-    given_mapped f g (p ∷ ps) (r ∷ rs) h = (h.0, given_mapped f g ps rs h.1)
+    given_mapped : (ps : List (List Step)) (rs : List (List FlatRow)) → EachBoth (λ p r. FormGives (column_names S) ts (insert_lets (shredded (record { element = A; comps = cs }) p)) r) ps rs → Given (map (strands_at A cs) ps) rs
+    given_mapped [] rs h = h
+    given_mapped (p ∷ ps) [] h = absurd h
+    given_mapped (p ∷ ps) (r ∷ rs) h = ((p, element_at (bag A) p, h.0), given_mapped ps rs h.1)
 
-    at_path : (Bs : List TypeTree) (ls : List (List StrandTree)) (rs : List (List FlatRow)) → EachBoth LevelOk Bs ls → Given Bs ls rs → (n : ℕ) → n < length Bs → Gives (get_or ls n []) (get_or rs n []) × Each (KeepsNested (get_or Bs n int)) (get_or ls n [])
+    at_path : (Bs : List TypeTree) (ls : List (List StrandTree)) (rs : List (List FlatRow)) → EachBoth LevelOk Bs ls → Given (map by_tag ls) rs → (n : ℕ) → n < length Bs → Gives (get_or ls n []) (get_or rs n []) × Each (KeepsNested (get_or Bs n int)) (get_or ls n [])
     at_path [] ls rs h g n b = absurd (omega arith)
     at_path (B ∷ Bs) [] rs h g n b = absurd h
     at_path (B ∷ Bs) (l ∷ ls) [] h g n b = absurd g
@@ -295,10 +303,7 @@ module _ (S : List TableShape) (differ : (t : Label) → LabelsDiffer (column_na
 
     pub legibly : IsOrdered A → (rows : List (List FlatRow)) → AllGive (column_names S) ts (record { element = A; comps = cs }) rows → Legibly ts A cs rows
     legibly rise rows g =
-        let ps = paths (bag A) in
-        let mapped : Given (map (element_at (bag A)) ps) (map (shredded A cs) ps) rows = given_mapped (element_at (bag A)) (shredded A cs) ps rows g in
-        let by_type : Given (element_types (bag A)) (map (shredded A cs) ps) rows = subst (λ (z : List TypeTree). Given z (map (shredded A cs) ps) rows) (elements_are A (proper A rise)) mapped in
-        let given : Given (element_types (bag A)) (strands A cs) rows = subst (λ (z : List (List StrandTree)). Given (element_types (bag A)) z rows) (shredded_strands A cs rise (typed_comps_fit S [] cs A typed)) by_type in
+        let given : Given (map by_tag (strands A cs)) rows = subst (λ (z : List (List StrandTree)). Given z rows) (strands_sorted A cs rise (typed_comps_fit S [] cs A typed)) (given_mapped (paths (bag A)) rows g) in
         let walk = lets_in (strands A cs) rows (element_types (bag A)) (at_path (element_types (bag A)) (strands A cs) rows levels_ok given) (bag A) 0 [] [] (sym (append-nil (element_types (bag A)))) refl in
         record {
           tags = tags;

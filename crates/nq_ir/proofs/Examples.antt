@@ -12,7 +12,7 @@ use Rattle.nq_ir.specs.declared.path.Step.{Step}
 use Rattle.nq_ir.specs.declared.path.Step.TheVariants.{Down, Field}
 use Rattle.nq_ir.specs.Meanings.{Tables, rows_in, form_meaning}
 use Rattle.nq_ir.specs.NormalForms.{normal_form}
-use Rattle.nq_ir.specs.Spots.{spot_cells, shredded, shredded_rows}
+use Rattle.nq_ir.specs.Spots.{spot_cells, strands_at, shredded_rows}
 use Rattle.nq_ir.specs.Trees.{BaseTree, no_cond, and_cond, plain_body, rec_body, bag_body, no_body, with_body, no_comp, comp, FormTree}
 use Rattle.nq_ir.proofs.Worked.{org, three_levels, names_query, sides_query, department, person}
 
@@ -57,7 +57,7 @@ equal a b = BaseTree.binary Eq a b
 -- a row of a shredded form by the tag and the cells of its spot, and the tag and the cells of the child
 abbrev pub rows_at : Tables → FormTree → List Step → List (ℕ × List (List Cell) × ℕ × List (List Cell))
 rows_at ts form p =
-    map (λ r. (r.0.tag, spot_cells r.0.rows, r.1.of.tag, spot_cells r.1.rows)) (shredded_rows ts (shredded form.element form.comps p))
+    map (λ r. (r.0.tag, spot_cells r.0.rows, r.1.of.tag, spot_cells r.1.rows)) (shredded_rows ts (strands_at form.element form.comps p))
 
 -- each department with its employees and their tasks, written out as a form
 abbrev pub with_staff : FormTree

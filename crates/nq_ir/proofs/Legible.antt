@@ -7,12 +7,13 @@ use Rattle.nq_ir.proofs.Distinct.{Among, first, later}
 use Rattle.nq_ir.proofs.Spots.{get_or_map}
 use Rattle.nq_ir.specs.Building.{Alike, AlikeFields, FollowsAt, FollowsFields, FollowsIn}
 use Rattle.nq_ir.specs.Lets.{FlatRow, Side, combos, flat, head_of, part_rows, tail_of}
-use Rattle.nq_ir.specs.Meanings.{Env, Tables, kept, no_cell, value}
+use Rattle.nq_model.specs.NamedRows.{no_cell}
+use Rattle.nq_ir.specs.Meanings.{Env, Tables, kept, value}
 use Rattle.nq_ir.specs.Parts.{bags, leaves, slots}
 use Rattle.nq_ir.specs.Spots.{Child, Spot, StrandTree, children, children_of, own_spot, shape_leaves, shape_slots, spots}
 use Rattle.nq_ir.specs.Trees.{literal}
-use Rattle.nq_model.proofs.Bags.{matched_append, matched_filter, matched_flat_map, reordered_matched, reordered_refl, reordered_sym, reordered_trans}
-use Rattle.nq_model.proofs.Numberings.{each_map, each_two_reordered, numbers_fixed_by, reordered_map}
+use Rattle.nq_model.proofs.Bags.{matched_append, matched_filter, matched_flat_map, matched_reordered, reordered_matched, reordered_refl, reordered_sym, reordered_trans}
+use Rattle.nq_model.proofs.Numberings.{each_map, each_reordered, each_two_reordered, numbers_fixed_by, reordered_map}
 use Rattle.nq_model.specs.Bags.{Matched, Pick, Reordered, here, there}
 use Rattle.nq_model.specs.Numberings.{Numbers, Ranks, Rises, TellsApart, numbered}
 use Rattle.nq_model.specs.Types.{FieldTypes, TypeTree, bag, bool, field, fun, int, none, rec, text}
@@ -211,10 +212,15 @@ matched_map_right R S g t (x ∷ xs) ys m =
     pick_map here = here
     pick_map (there p) = there (pick_map p)
 
+-- strands in another order have the same children, in another order
+children_reordered : (ts : Tables) (s : Spot) (ds es : List StrandTree) → Reordered ds es → Reordered (children ts ds s) (children ts es s)
+children_reordered ts s ds es r =
+    matched_flat_map (λ x y. x ≡ y) (λ x y. x ≡ y) (children_of ts s.rows) (children_of ts s.rows) (λ x y e. subst (λ z. Reordered (children_of ts s.rows x) (children_of ts s.rows z)) e (reordered_refl (children_of ts s.rows x))) (filter (λ d. nat_eq d.parent s.tag) ds) (filter (λ d. nat_eq d.parent s.tag) es) (matched_filter (λ x y. x ≡ y) (λ d. nat_eq d.parent s.tag) (λ d. nat_eq d.parent s.tag) (λ x y h. ap (λ d. nat_eq d.parent s.tag) h) ds es r)
+
 -- at a path with elements of type A: the lets are numbered by the sorted spots, and the rows tell of the combinations
 pub record Legible (ts : Tables) (tags : List ℕ) (sorted : ℕ → List Env) (A : TypeTree) (cs : List StrandTree) (rows : List FlatRow) : Type 0 where
   pub sides : List Side
-  pub of_strands : side_strands sides ≡ cs
+  pub of_strands : Reordered (side_strands sides) cs
   pub by_number : Each (λ d. Reordered d.1 (numbered 1 (sorted d.0.parent))) sides
   pub tells : Matched (Tells ts tags sorted (slots A)) rows (told ts sides)
 
@@ -236,7 +242,10 @@ module _ (ts : Tables) (tags : List ℕ) (sorted : ℕ → List Env) (all : List
   legible_follows : (A : TypeTree) (n : ℕ) → Legible ts tags sorted A (get_or all n []) (get_or rows n []) → FollowsAt (Stands tags sorted) (flat rows) (spots ts all) A n
   legible_follows A n h i s st =
       let m = matched_filter (Tells ts tags sorted (slots A)) (λ r. nat_eq r.outer.0 i.0 && nat_eq r.outer.1 i.1) (at_index i) (λ r x t. ap (λ o. nat_eq o.0 i.0 && nat_eq o.1 i.1) t.outer) (get_or rows n []) (told ts h.sides) h.tells in
-      subst (λ (l : List Child). Matched (λ e f. Alike (Stands tags sorted) (flat rows) (spots ts all) A n 0 0 (suc n) e f) (filter (λ r. nat_eq r.outer.0 i.0 && nat_eq r.outer.1 i.1) (get_or rows n [])) l) (told_children ts sorted i s st.1 st.2 h.sides h.by_number ∙ ap (λ (z : List StrandTree). children ts z s) h.of_strands) (matched_map_right (Tells ts tags sorted (slots A)) (λ e f. Alike (Stands tags sorted) (flat rows) (spots ts all) A n 0 0 (suc n) e f) child_of (λ r x t. tells_alike ts all rows tags sorted A n 0 0 (suc n) (slots A) r (child_of x) x.1.0 t (omega arith)) (filter (λ r. nat_eq r.outer.0 i.0 && nat_eq r.outer.1 i.1) (get_or rows n [])) (filter (at_index i) (told ts h.sides)) m)
+      let R : FlatRow → Child → Type 0 = λ e f. Alike (Stands tags sorted) (flat rows) (spots ts all) A n 0 0 (suc n) e f in
+      let here = filter (λ r. nat_eq r.outer.0 i.0 && nat_eq r.outer.1 i.1) (get_or rows n []) in
+      let told_here : Matched R here (map child_of (filter (at_index i) (told ts h.sides))) = matched_map_right (Tells ts tags sorted (slots A)) R child_of (λ r x t. tells_alike ts all rows tags sorted A n 0 0 (suc n) (slots A) r (child_of x) x.1.0 t (omega arith)) here (filter (at_index i) (told ts h.sides)) m in
+      matched_reordered R here (children ts (side_strands h.sides) s) (children ts (get_or all n []) s) (subst (λ (l : List Child). Matched R here l) (told_children ts sorted i s st.1 st.2 h.sides h.by_number) told_here) (children_reordered ts s (side_strands h.sides) (get_or all n []) h.of_strands)
 
   mutual
     pub legible_in : (A : TypeTree) (n : ℕ) → LegibleIn ts tags sorted all rows A n → FollowsIn (Stands tags sorted) (flat rows) (spots ts all) A n
@@ -366,7 +375,7 @@ module _ {K : Type 0} (lt : K → K → Bool) (key : ℕ → Env → K) (o : Ran
   -- the rows of these side_strands, each with a list of its parent's spots
   pub record GivesRows (cs : List StrandTree) (rows : List FlatRow) : Type 0 where
     pub sides : List Side
-    pub of_strands : side_strands sides ≡ cs
+    pub of_strands : Reordered (side_strands sides) cs
     pub numbered_all : Each (λ d. LetRows lt (key d.0.parent) (around d.0.parent) d.1) sides
     pub all : List FlatRow
     pub parts : PartsGiveBy lt (λ c. key c.tag) ts sides all
@@ -382,5 +391,5 @@ module _ {K : Type 0} (lt : K → K → Bool) (key : ℕ → Env → K) (o : Ran
     sides = g.sides;
     of_strands = g.of_strands;
     by_number = each_map (λ (d : Side). LetRows lt (key d.0.parent) (around d.0.parent) d.1) (λ d. Reordered d.1 (numbered 1 (sorted d.0.parent))) (λ d h. reordered_trans d.1 (zip h.0 (around d.0.parent)) (numbered 1 (sorted d.0.parent)) (reordered_sym (zip h.0 (around d.0.parent)) d.1 h.2) (by_fact d.0.parent h.0 h.1)) g.sides g.numbered_all;
-    tells = reordered_matched (Tells ts tags sorted (slots A)) rows g.all (told ts g.sides) g.any_order (parts_legible A g.sides g.all (each_of (IsNested A) g.sides (subst (λ (l : List StrandTree). Each (IsNested A) l) (sym g.of_strands) n)) g.numbered_all g.parts);
+    tells = reordered_matched (Tells ts tags sorted (slots A)) rows g.all (told ts g.sides) g.any_order (parts_legible A g.sides g.all (each_of (IsNested A) g.sides (each_reordered (IsNested A) cs (side_strands g.sides) (reordered_sym (side_strands g.sides) cs g.of_strands) n)) g.numbered_all g.parts);
   }

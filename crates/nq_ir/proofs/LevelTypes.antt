@@ -2,7 +2,8 @@
 use Rattle.std.proofs.Common.{◌≡◌, ℕ, ◌+◌, List, [], ◌∷◌, ◌++◌, map, refl, sym, subst, flat_map, append-nil}
 use Rattle.nq_ir.proofs.Fits.{typed_fits}
 use Rattle.nq_ir.proofs.Paths.{Fitting, Focus, all_conds, all_gens, bag_type, each_over, each_under, flat_mapped, head_fits, map_back, part_head, part_tail, strands_in, strands_kept, tail_fits, under_is}
-use Rattle.nq_ir.specs.Meanings.{EachBoth, Label}
+use Rattle.nq_model.specs.NamedRows.{Label}
+use Rattle.nq_ir.specs.Meanings.{EachBoth}
 use Rattle.nq_ir.specs.Parts.{element_types, element_types_in, slots}
 use Rattle.nq_ir.specs.Spots.{PlacedComp, bags_of, levels, levels_fields, levels_in, placed, under}
 use Rattle.nq_ir.specs.Trees.{BodyTree, Comps, Conds, bag_body, comp, no_body, no_comp, no_cond, plain_body, rec_body, with_body}

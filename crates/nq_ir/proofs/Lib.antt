@@ -8,6 +8,7 @@ pub mod Levels
 pub mod Paths
 pub mod LevelTypes
 pub mod Legible
+mod Ascending
 pub mod Insert
 pub mod Sorting
 pub mod Rows

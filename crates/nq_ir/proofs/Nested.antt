@@ -5,7 +5,8 @@ use Rattle.std.proofs.lemmas.List.{map-append}
 use Rattle.std.proofs.lemmas.Grind.{flat_map-append}
 use Rattle.nq_model.specs.declared.table.Cell.TheVariants as cell
 use Rattle.nq_model.specs.Meaning.{is_none}
-use Rattle.nq_ir.specs.Meanings.{Env, Tables, all_true, cell_under, choices, kept, no_kept, row_of, value}
+use Rattle.nq_model.specs.NamedRows.{cell_under}
+use Rattle.nq_ir.specs.Meanings.{Env, Tables, all_true, choices, kept, no_kept, row_of, value}
 use Rattle.nq_ir.specs.Spots.{both}
 use Rattle.nq_ir.specs.Trees.{BaseTree, Conds, Tests, and_cond, binary, choose, column, empty, literal, no_cond, no_test, test, unary}
 use Rattle.nq_ir.specs.declared.base.Gen.{Gen}

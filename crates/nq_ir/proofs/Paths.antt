@@ -9,10 +9,10 @@ use Rattle.nq_ir.proofs.Equal.{bytes_same, not_below_self}
 use Rattle.nq_ir.proofs.Fits.{FitsBody, FitsComps}
 use Rattle.nq_ir.proofs.Nested.{flat_flat, map_of_map}
 use Rattle.nq_ir.proofs.Spots.{fits_bags, found}
-use Rattle.nq_ir.specs.Meanings.{Label}
+use Rattle.nq_model.specs.NamedRows.{Label}
 use Rattle.nq_ir.specs.Parts.{bags, bags_in, element_types, element_types_in, slots}
 use Rattle.nq_ir.specs.Paths.{element_at, element_in, paths, paths_in}
-use Rattle.nq_ir.specs.Spots.{PlacedComp, bags_of, bags_of_fields, both, comps_at, comps_below, comps_in, levels, levels_fields, levels_in, placed, shaped, shredded, strands, under}
+use Rattle.nq_ir.specs.Spots.{PlacedComp, bags_of, bags_of_fields, both, comps_at, comps_below, comps_in, levels, levels_fields, levels_in, placed, by_tag, shaped, strands, strands_at, under}
 use Rattle.nq_ir.specs.Trees.{BodyTree, Comps, Conds, bag_body, comp, no_body, no_comp, no_cond, plain_body, rec_body, with_body}
 use Rattle.nq_ir.specs.declared.base.Gen.{Gen}
 use Rattle.nq_ir.specs.declared.path.Step.{Step}
@@ -278,8 +278,11 @@ shred_levels A cs h f =
     let step : (p : (List Step)) → shred A cs (Down ∷ p) ≡ at_parts inner p = λ p. below_is 0 [] no_cond cs p ∙ sym (flat_mapped (λ (c : PlacedComp). (c, c.body)) (λ (x : Focus). at_part x p) here) in
     ap (λ (l : List (List PlacedComp)). here ∷ l) (map_of_map (shred A cs) (λ p. Down ∷ p) (paths A) ∙ map_each (λ p. shred A cs (Down ∷ p)) (at_parts inner) step (paths A) ∙ at_levels A 0 inner h fits ∙ ap (levels_in A 0) (map_back (λ (c : PlacedComp). c.body) here))
 
-pub shredded_strands : (A : TypeTree) (cs : Comps) → IsOrdered A → FitsComps cs A → map (shredded A cs) (paths (bag A)) ≡ strands A cs
-shredded_strands A cs h f = sym (map_of_map (map shaped) (shred A cs) (paths (bag A))) ∙ ap (map (map shaped)) (shred_levels A cs (proper A h) f)
+pub strands_sorted : (A : TypeTree) (cs : Comps) → IsOrdered A → FitsComps cs A → map (strands_at A cs) (paths (bag A)) ≡ map by_tag (strands A cs)
+strands_sorted A cs h f =
+    sym (map_of_map (λ (here : List PlacedComp). by_tag (map shaped here)) (shred A cs) (paths (bag A)))
+    ∙ ap (map (λ (here : List PlacedComp). by_tag (map shaped here))) (shred_levels A cs (proper A h) f)
+    ∙ sym (map_of_map by_tag (map shaped) (levels A cs))
 
 -- so are the element types
 pub elements_are : (A : TypeTree) → Proper A → map (element_at (bag A)) (paths (bag A)) ≡ element_types (bag A)

@@ -2,7 +2,8 @@
 use Rattle.std.proofs.Common.{◌≡◌, List, [], ◌∷◌, ◌++◌, map, refl, flat_map}
 use Rattle.nq_ir.proofs.Nested.{each_mapped}
 use Rattle.nq_ir.proofs.Spots.{each_filter}
-use Rattle.nq_ir.specs.Meanings.{Env, Label, Row, Tables, all_true, choices, kept}
+use Rattle.nq_model.specs.NamedRows.{Label, Row}
+use Rattle.nq_ir.specs.Meanings.{Env, Tables, all_true, choices, kept}
 use Rattle.nq_ir.specs.Trees.{Conds}
 use Rattle.nq_ir.specs.declared.base.Gen.{Gen}
 use Rattle.std.specs.List.{AllByRecursion as Each}

@@ -9,7 +9,7 @@ use Rattle.nq_ir.proofs.Insert.{Around}
 use Rattle.nq_ir.proofs.Legible.{among_cases}
 use Rattle.nq_ir.proofs.Levels.{AllBody, AllComps, AllFields}
 use Rattle.nq_ir.proofs.Nested.{Avoids, AvoidsAll, AvoidsTests}
-use Rattle.nq_ir.specs.Meanings.{Label}
+use Rattle.nq_model.specs.NamedRows.{Label}
 use Rattle.nq_ir.specs.Spots.{PlacedComp, both, shaped}
 use Rattle.nq_ir.specs.Trees.{BaseTree, Bodies, BodyTree, Comps, Conds, Tests, and_cond, bag_body, binary, choose, column, comp, empty, literal, no_body, no_comp, no_cond, no_test, plain_body, rec_body, test, unary, with_body}
 use Rattle.nq_ir.specs.WellFormed.{BaseHas, BodiesHave, BodyHas, CompsHave, CondsHave, TestsHave, base_numbers, bodies_numbers, bodies_tags, body_numbers, body_tags, column_type_in, comps_numbers, comps_tags, conds_numbers, gen_columns, numbers, table_columns, tests_numbers}

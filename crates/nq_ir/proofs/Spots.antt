@@ -5,7 +5,8 @@ use Rattle.std.proofs.lemmas.List.{map-append}
 use Rattle.std.proofs.Math.Seq.{get_or-append_seam}
 use Rattle.nq_ir.proofs.Fits.{FitsBody, FitsComps, FitsFields}
 use Rattle.nq_ir.specs.Building.{built, element, element_fields}
-use Rattle.nq_ir.specs.Meanings.{Env, Tables, bodies_meaning, body_meaning, comps_meaning, kept, no_cell, value}
+use Rattle.nq_model.specs.NamedRows.{no_cell}
+use Rattle.nq_ir.specs.Meanings.{Env, Tables, bodies_meaning, body_meaning, comps_meaning, kept, value}
 use Rattle.nq_ir.specs.Parts.{bags, bags_in, leaves, leaves_in, slots, slots_in}
 use Rattle.nq_ir.specs.Spots.{Child, PlacedComp, StrandTree, TagsDiffer, bags_of, bags_of_fields, both, children_of, levels, levels_fields, levels_in, placed, shape_leaves, shape_leaves_in, shape_of, shape_of_fields, shaped, spots, strands, top_spot, under}
 use Rattle.nq_ir.specs.Trees.{BaseTree, Bodies, BodyTree, Comps, Conds, bag_body, comp, literal, no_body, no_comp, no_cond, plain_body, rec_body, with_body}

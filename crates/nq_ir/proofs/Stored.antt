@@ -15,7 +15,8 @@ use Rattle.nq_model.specs.declared.table.Cell.{Cell}
 use Rattle.nq_model.specs.declared.table.Schema.{Schema}
 use Rattle.nq_model.specs.declared.table.TableShape.{TableShape}
 use Rattle.nq_ir.specs.declared.base.Gen.{Gen}
-use Rattle.nq_ir.specs.Meanings.{Label, Row, Env, named_rows, rows_in, kept}
+use Rattle.nq_model.specs.NamedRows.{Label, Row, named}
+use Rattle.nq_ir.specs.Meanings.{Env, rows_in, kept}
 use Rattle.nq_ir.specs.Spots.{spot_cells}
 use Rattle.nq_ir.specs.Trees.{Conds}
 use Rattle.nq_ir.specs.WellFormed.{columns_or_none, column_names, IsRowOf, AreTablesOf}
@@ -29,31 +30,20 @@ row_names (c ∷ columns) (x ∷ row) h =
     let rest : map column_type_of row ≡ types_of columns = cc in
     ap (λ (l : List Label). c.0 ∷ l) (row_names columns row rest)
 
-rows_named : (columns : Columns) (rows : List (List Cell)) → Each (IsRowOf columns) rows → Each (λ (r : Row). map (λ c. c.0) r ≡ names_of columns) (map (λ row. zip (names_of columns) row) rows)
-rows_named columns [] h = tt
-rows_named columns (row ∷ rows) h = (row_names columns row h.0.0, rows_named columns rows h.1)
-
-bytes_turned : (a b : List ℕ) → bytes_eq a b ≡ bytes_eq b a
-bytes_turned a b = go (bytes_eq a b) refl (bytes_eq b a) refl
-  where
-    go : (x : Bool) → bytes_eq a b ≡ x → (y : Bool) → bytes_eq b a ≡ y → x ≡ y
-    go true e true f = refl
-    go true e false f = let w : true ≡ false = sym ((bytes_eq-Decides b a).1 (sym ((bytes_eq-Decides a b).0 e))) ∙ f in w
-    go false e true f = let w : false ≡ true = sym e ∙ (bytes_eq-Decides a b).1 (sym ((bytes_eq-Decides b a).0 f)) in w
-    go false e false f = refl
+rows_have : (columns : Columns) (rows : List (List Cell)) → Each (IsRowOf columns) rows → Each (λ (r : Row). map (λ c. c.0) r ≡ names_of columns) (named (names_of columns) rows)
+rows_have columns [] h = tt
+rows_have columns (row ∷ rows) h = (row_names columns row h.0.0, rows_have columns rows h.1)
 
 -- the rows of a schema's tables have their columns
 pub uniform : (shapes : List TableShape) (tables : List (List (List Cell))) → AreTablesOf shapes tables → Uniform (column_names shapes) (rows_in (database shapes tables))
 uniform [] tables h t = tt
 uniform (shape ∷ shapes) [] h t = absurd h
 uniform (shape ∷ shapes) (table ∷ tables) h t =
-    go (bytes_eq shape.name t) (bytes_eq t shape.name) (bytes_turned shape.name t) (uniform shapes tables h.1 t)
+    go (bytes_eq t shape.name) (uniform shapes tables h.1 t)
   where
-    go : (a b : Bool) → a ≡ b → Each (λ (r : Row). map (λ c. c.0) r ≡ column_names shapes t) (rows_in (database shapes tables) t) → Each (λ (r : Row). map (λ c. c.0) r ≡ names_of (columns_or_none (cond b (Some shape) (shape_named t shapes)))) (named_rows (cond a (Some (filled shape table)) (find (λ (x : FilledTable). bytes_eq x.name t) (database shapes tables))))
-    go true true e i = rows_named shape.columns table h.0.rows
-    go true false e i = absurd (cc)
-    go false true e i = absurd (cc)
-    go false false e i = i
+    go : (b : Bool) → Each (λ (r : Row). map (λ c. c.0) r ≡ column_names shapes t) (rows_in (database shapes tables) t) → Each (λ (r : Row). map (λ c. c.0) r ≡ names_of (columns_or_none (cond b (Some shape) (shape_named t shapes)))) (cond b (named (names_of shape.columns) table) (rows_in (database shapes tables) t))
+    go true i = rows_have shape.columns table h.0.rows
+    go false i = i
 
 differs_all : (l : Label) (ls : List Label) → Each (λ m. l ≢ m) ls → Each (λ m. bytes_eq m l ≡ false) ls
 differs_all l [] h = tt

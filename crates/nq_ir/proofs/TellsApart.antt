@@ -8,7 +8,8 @@ use Rattle.nq_ir.proofs.Equal.{bytes_same, nat_same}
 use Rattle.nq_ir.proofs.Paths.{LabelsDiffer}
 use Rattle.nq_ir.proofs.Rows.{RowsOf}
 use Rattle.nq_ir.specs.Lets.{columns_in}
-use Rattle.nq_ir.specs.Meanings.{Env, Label, Row, cell_under, row_of}
+use Rattle.nq_model.specs.NamedRows.{Label, Row, cell_under}
+use Rattle.nq_ir.specs.Meanings.{Env, row_of}
 use Rattle.nq_ir.specs.declared.base.Gen.{Gen}
 use Rattle.nq_model.proofs.Numberings.{each_map}
 use Rattle.nq_model.specs.Numberings.{TellsApart}

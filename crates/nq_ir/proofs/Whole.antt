@@ -13,7 +13,7 @@ use Rattle.nq_ir.specs.Lets.{FlatRow, flat, AllGive}
 use Rattle.nq_ir.specs.Meanings.{Tables, Env, rows_in, kept, EachBoth, form_meaning}
 use Rattle.nq_ir.specs.Parts.{element_types}
 use Rattle.nq_ir.specs.Paths.{paths}
-use Rattle.nq_ir.specs.Spots.{StrandTree, Child, Spot, both, levels, strands, spots, top_spot, children_of, outer_spots, strand_rows, shredded, TagsDiffer}
+use Rattle.nq_ir.specs.Spots.{StrandTree, Child, Spot, both, levels, strands, spots, top_spot, children_of, outer_spots, strand_rows, by_tag, strands_at, TagsDiffer}
 use Rattle.nq_ir.specs.Trees.{FormTree}
 use Rattle.nq_ir.specs.WellFormed.{IsNumber, IsWellFormed, AreTablesOf, comps_tags, comps_numbers, column_names}
 use Rattle.nq_ir.proofs.Allowed.{Legibly, StrandFine, levels_ok, legibly, legible_same}
@@ -22,7 +22,7 @@ use Rattle.nq_ir.proofs.Equal.{nat_differ}
 use Rattle.nq_ir.proofs.Fits.{FitsComps, typed_comps_fit}
 use Rattle.nq_ir.proofs.Levels.{levels_tags}
 use Rattle.nq_ir.proofs.Nested.{nested_kept, map_flat, flat_same, flat_of_map}
-use Rattle.nq_ir.proofs.Paths.{shredded_strands}
+use Rattle.nq_ir.proofs.Paths.{strands_sorted}
 use Rattle.nq_ir.proofs.Scopes.{look, all_scopes, all_tags}
 use Rattle.nq_ir.proofs.Spots.{spots_mean}
 use Rattle.nq_ir.proofs.Stored.{uniform, columns_differ}
@@ -43,8 +43,8 @@ module _ (schema : Schema) (form : FormTree) (w : IsWellFormed schema.tables for
   pub spots_build : (ts : Tables) → bag_of (built (spots ts (strands form.element form.comps)) form.element 0 top_spot) ≡ form_meaning ts form
   spots_build ts = ap bag_of (spots_mean ts form.element form.comps fits tags_differ)
 
-  pub strands_at_paths : map (shredded form.element form.comps) (paths (bag form.element)) ≡ strands form.element form.comps
-  strands_at_paths = shredded_strands form.element form.comps w.labels_rise fits
+  pub strands_at_paths : map (strands_at form.element form.comps) (paths (bag form.element)) ≡ map by_tag (strands form.element form.comps)
+  strands_at_paths = strands_sorted form.element form.comps w.labels_rise fits
 
   module _ (proper : IsProperSchema schema) where
     rows_are : (ts : Tables) (d : StrandTree) → kept ts (d.outer_gens ++ d.gens) (both d.outer_conds d.conds) [] ≡ flat_map (λ e. kept ts d.gens d.conds e) (kept ts d.outer_gens d.outer_conds []) → map (λ (r : Spot × Child). r.1.rows) (strand_rows ts d) ≡ kept ts (d.outer_gens ++ d.gens) (both d.outer_conds d.conds) []

@@ -4,19 +4,25 @@
 -- 2014; numbers as ROW_NUMBER() of SQL:2003 deals them, in any order among ties.
 use Rattle.std.specs.Prelude.{◌≡◌, ℕ, zero, suc, ◌<◌, ◌^◌, List, [], ◌∷◌, ◌++◌, length, map, zip, flat_map, filter, get_or, nat_eq, ◌&&◌, cond}
 use Rattle.std.specs.List.{AllByRecursion as Each}
+use Rattle.std.specs.Ordering.{nat_cmp}
 use Rattle.nq_model.specs.Bags.{Reordered}
 use Rattle.nq_model.specs.Numberings.{Numbers, key_lt}
 use Rattle.nq_model.specs.Types.{TypeTree, bag, type_tree}
+use Rattle.nq_model.specs.Orders.{sorted_by}
 use Rattle.nq_model.specs.declared.table.Cell.{Cell}
+use Rattle.nq_model.specs.declared.table.Schema.{Schema}
 use Rattle.nq_ir.specs.declared.base.Gen.{Gen}
+use Rattle.nq_ir.specs.declared.path.Step.{Step}
 use Rattle.nq_ir.specs.declared.lets.LetQuery.{LetQuery}
 use Rattle.nq_ir.specs.declared.lets.LetPart.{LetPart}
 use Rattle.nq_ir.specs.declared.lets.LetForm.{LetForm}
 use Rattle.nq_ir.specs.Trees.{Conds, no_cond, conds_tree, ShapeTree, shape_tree, FormTree}
-use Rattle.nq_ir.specs.Meanings.{Label, Tables, Env, row_of, cell_under, kept, value, no_cell, EachBoth}
+use Rattle.nq_model.specs.NamedRows.{Label, cell_under, no_cell}
+use Rattle.nq_ir.specs.Meanings.{Tables, Env, row_of, kept, value, EachBoth}
 use Rattle.nq_ir.specs.Building.{Source}
-use Rattle.nq_ir.specs.Paths.{paths, element_at}
-use Rattle.nq_ir.specs.Spots.{StrandTree, shredded, shape_leaves, shape_slots}
+use Rattle.nq_ir.specs.Paths.{paths}
+use Rattle.nq_ir.specs.Shredded.{ShreddedTree, shredded, IsShreddedOf}
+use Rattle.nq_ir.specs.Spots.{StrandTree, shape_leaves, shape_slots}
 
 -- a comprehension that is a parent, with all generators and conditions down to it
 pub record LetTree : Type 0 where
@@ -33,6 +39,7 @@ pub record PartTree : Type 0 where
   pub shape : ShapeTree
 
 pub record LetFormTree : Type 0 where
+  pub path : List Step
   pub element : TypeTree
   pub lets : List LetTree
   pub parts : List PartTree
@@ -45,25 +52,55 @@ part_tree p = record { from = p.from; tag = p.tag; gens = p.gens; conds = conds_
 
 -- the tree of a let form of the program
 abbrev pub let_form_tree : LetForm → LetFormTree
-let_form_tree f = record { element = type_tree f.element; lets = map let_tree f.lets; parts = map part_tree f.parts }
+let_form_tree f = record {
+  path = f.path.steps;
+  element = type_tree f.element;
+  lets = map let_tree f.lets;
+  parts = map part_tree f.parts;
+}
+
+-- strands in the order of their parents, those of one parent as they stand
+abbrev pub by_parent : List StrandTree → List StrandTree
+by_parent ds = sorted_by (λ d e. nat_cmp d.parent e.parent) ds
+
+-- the let of a strand's parent
+abbrev pub let_around : StrandTree → LetTree
+let_around d = record { parent = d.parent; gens = d.outer_gens; conds = d.outer_conds }
 
 -- one let for each run of strands with one parent other than the last
 abbrev pub lets_after : ℕ → List StrandTree → List LetTree
 lets_after last [] = []
-lets_after last (d ∷ ds) =
-    cond (nat_eq d.parent last) (lets_after last ds) (record { parent = d.parent; gens = d.outer_gens; conds = d.outer_conds } ∷ lets_after d.parent ds)
+lets_after last (d ∷ ds) = cond (nat_eq d.parent last) (lets_after last ds) (let_around d ∷ lets_after d.parent ds)
+
+-- one let for each parent of these strands, in the order of the parents; the parent 0, at the empty path, needs none
+abbrev pub lets_of : List StrandTree → List LetTree
+lets_of ds = lets_after 0 (by_parent ds)
+
+-- how many lets stand before that of this parent
+abbrev pub lets_before : ℕ → List LetTree → ℕ
+lets_before t [] = 0
+lets_before t (l ∷ ls) = cond (nat_eq t l.parent) 0 (suc (lets_before t ls))
+
+-- the number of a parent's let, from 1; 0 stands for the parent 0, which has none
+abbrev pub let_number : List LetTree → ℕ → ℕ
+let_number lets zero = 0
+let_number lets (suc t) = suc (lets_before (suc t) lets)
 
 abbrev pub part_from : ℕ → StrandTree → PartTree
 part_from k d = record { from = k; tag = d.tag; gens = d.gens; conds = d.conds; shape = d.shape }
 
-abbrev pub parts_after : ℕ → ℕ → List StrandTree → List PartTree
-parts_after last k [] = []
-parts_after last k (d ∷ ds) =
-    cond (nat_eq d.parent last) (part_from k d ∷ parts_after last k ds) (part_from (suc k) d ∷ parts_after d.parent (suc k) ds)
+-- the parts of strands, in the same order, each on its parent's let
+abbrev pub parts_on : List LetTree → List StrandTree → List PartTree
+parts_on lets ds = map (λ d. part_from (let_number lets d.parent) d) ds
 
--- the let form of the strands at a path; the strands at the empty path have the parent 0, which needs no let
-abbrev pub insert_lets : TypeTree → List StrandTree → LetFormTree
-insert_lets element here = record { element = element; lets = lets_after 0 here; parts = parts_after 0 0 here }
+-- the let form of a shredded form
+abbrev pub insert_lets : ShreddedTree → LetFormTree
+insert_lets s = record {
+  path = s.path;
+  element = s.element;
+  lets = lets_of s.parts;
+  parts = parts_on (lets_of s.parts) s.parts;
+}
 
 abbrev pub no_let : LetTree
 no_let = record { parent = 0; gens = []; conds = no_cond }
@@ -72,6 +109,12 @@ no_let = record { parent = 0; gens = []; conds = no_cond }
 abbrev pub let_of : List LetTree → ℕ → LetTree
 let_of lets zero = no_let
 let_of lets (suc k) = get_or lets k no_let
+
+-- the let form of the shredded form of a form that is well formed over the schema, at one of its paths
+pub record IsLetFormOf (schema : Schema) (f : LetFormTree) : Type 0 where
+  pub of : ShreddedTree
+  pub shredded : IsShreddedOf schema of
+  pub is : f ≡ insert_lets of
 
 -- a part as the strand that it was
 abbrev pub strand_of : List LetTree → PartTree → StrandTree
@@ -170,4 +213,4 @@ pub record FormGives (cols : Label → List Label) (ts : Tables) (f : LetFormTre
 -- the rows that the let forms at the paths of a form allow, a list for each path, in path order
 abbrev pub AllGive : (Label → List Label) → Tables → FormTree → List (List FlatRow) → Type 0
 AllGive cols ts form rows =
-    EachBoth (λ p here. FormGives cols ts (insert_lets (element_at (bag form.element) p) (shredded form.element form.comps p)) here) (paths (bag form.element)) rows
+    EachBoth (λ p here. FormGives cols ts (insert_lets (shredded form p)) here) (paths (bag form.element)) rows

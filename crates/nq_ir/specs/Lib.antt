@@ -3,6 +3,7 @@ pub mod Meanings
 pub mod Parts
 pub mod Building
 pub mod Spots
+pub mod Shredded
 pub mod Lets
 pub mod WellFormed
 pub mod Paths

@@ -1,25 +1,16 @@
 -- What a normal form means over tables.
 --
 -- A choice of rows is made by their places in the tables, so equal rows count twice.
-use Rattle.std.specs.Prelude.{◌≡◌, ℕ, List, [], ◌∷◌, ◌++◌, map, zip, filter, flat_map, find, Bool, true, false, cond, ◌&&◌, nat_eq, Option, Some, None}
-use Rattle.std.specs.Str.{bytes_eq}
+use Rattle.std.specs.Prelude.{◌≡◌, ℕ, List, [], ◌∷◌, ◌++◌, map, filter, flat_map, Bool, true, cond, ◌&&◌, nat_eq}
 use Rattle.nq_model.specs.Databases.{FilledTable}
 use Rattle.nq_model.specs.Meaning.{is_none}
 use Rattle.nq_model.specs.Operators.{is_true, unary_value, binary_value}
-use Rattle.nq_model.specs.Tables.{names_of}
+use Rattle.nq_model.specs.NamedRows.{Label, Row, cell_under, named_table, rows_named}
 use Rattle.nq_model.specs.Values.{Nested, base, rec, Fields, bag_of}
 use Rattle.nq_model.specs.declared.table.Cell.{Cell}
 use Rattle.nq_model.specs.declared.table.Cell.TheVariants as cell
 use Rattle.nq_ir.specs.declared.base.Gen.{Gen}
 use Rattle.nq_ir.specs.Trees.{BaseTree, literal, column, unary, binary, choose, empty, Conds, no_cond, and_cond, Tests, no_test, test, BodyTree, plain_body, rec_body, bag_body, Bodies, no_body, with_body, Comps, no_comp, comp, FormTree}
-
--- the name of a table, a column or a field
-abbrev pub Label : Type 0
-Label = List ℕ
-
--- a row by its columns
-abbrev pub Row : Type 0
-Row = List (Label × Cell)
 
 -- the rows of each table, in row order
 abbrev pub Tables : Type 0
@@ -35,22 +26,9 @@ EachBoth P (x ∷ xs) (y ∷ ys) = P x y × EachBoth P xs ys
 abbrev pub Env : Type 0
 Env = List (ℕ × Row)
 
-abbrev pub named_rows : Option FilledTable → List Row
-named_rows None = []
-named_rows (Some table) = map (λ row. zip (names_of table.columns) row) table.rows
-
 -- the rows of these tables; a table that is not there has none
 abbrev pub rows_in : List FilledTable → Tables
-rows_in tables name = named_rows (find (λ table. bytes_eq table.name name) tables)
-
--- what stands in the place of a cell that is not there, which no typed form asks for
-abbrev pub no_cell : Cell
-no_cell = cell.Bool false
-
--- the cell of a row under a column
-abbrev pub cell_under : Label → Row → Cell
-cell_under l [] = no_cell
-cell_under l (c ∷ cs) = cond (bytes_eq l c.0) c.1 (cell_under l cs)
+rows_in tables name = rows_named name (map named_table tables)
 
 -- the row of a generator
 abbrev pub row_of : ℕ → Env → Row

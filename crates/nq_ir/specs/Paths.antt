@@ -5,7 +5,7 @@ use Rattle.std.specs.Prelude.{List, [], ◌∷◌, ◌++◌, map, cond, bytes_eq
 use Rattle.nq_model.specs.Types.{TypeTree, int, bool, text, rec, bag, fun, FieldTypes, none, field}
 use Rattle.nq_ir.specs.declared.path.Step.{Step}
 use Rattle.nq_ir.specs.declared.path.Step.TheVariants.{Down, Field}
-use Rattle.nq_ir.specs.Meanings.{Label}
+use Rattle.nq_model.specs.NamedRows.{Label}
 
 -- the paths to the bags of a type, in pre-order, fields in label order
 abbrev mutual

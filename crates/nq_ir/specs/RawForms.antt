@@ -14,7 +14,7 @@ use Rattle.nq_model.specs.declared.table.TableShape.{TableShape}
 use Rattle.nq_model.specs.declared.term.Binary.{Binary}
 use Rattle.nq_model.specs.declared.term.Unary.{Unary}
 use Rattle.nq_model.specs.declared.term.Unary.TheVariants.{Not}
-use Rattle.nq_ir.specs.Meanings.{Label, no_cell}
+use Rattle.nq_model.specs.NamedRows.{Label, no_cell}
 use Rattle.nq_ir.specs.WellFormed.{table_columns}
 
 -- a column names its generator by how many stand between

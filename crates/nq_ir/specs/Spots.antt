@@ -4,6 +4,8 @@
 -- tag being the static and its rows the dynamic part.
 use Rattle.std.specs.Prelude.{◌≡◌, ℕ, ◌+◌, List, [], ◌∷◌, ◌++◌, map, filter, flat_map, cond, nat_eq, get_or, bytes_eq}
 use Rattle.std.specs.List.{AllByRecursion as Each}
+use Rattle.std.specs.Ordering.{nat_cmp}
+use Rattle.nq_model.specs.Orders.{sorted_by}
 use Rattle.nq_model.specs.Types.{TypeTree, int, bool, text, rec, bag, fun, FieldTypes, none, field}
 use Rattle.nq_model.specs.declared.table.Cell.{Cell}
 use Rattle.nq_ir.specs.declared.base.Gen.{Gen}
@@ -11,7 +13,8 @@ use Rattle.nq_ir.specs.declared.path.Step.{Step}
 use Rattle.nq_ir.specs.declared.path.Step.TheVariants.{Down, Field}
 use Rattle.nq_ir.specs.declared.shredded.Strand.{Strand}
 use Rattle.nq_ir.specs.Trees.{BaseTree, literal, Conds, no_cond, and_cond, conds_tree, BodyTree, plain_body, rec_body, bag_body, Bodies, no_body, with_body, Comps, no_comp, comp, ShapeTree, plain_shape, rec_shape, index_shape, Shapes, no_shape, with_shape, shape_tree}
-use Rattle.nq_ir.specs.Meanings.{Label, Tables, Env, kept, value, no_cell}
+use Rattle.nq_model.specs.NamedRows.{Label, no_cell}
+use Rattle.nq_ir.specs.Meanings.{Tables, Env, kept, value}
 use Rattle.nq_ir.specs.Parts.{slots}
 use Rattle.nq_ir.specs.Building.{Source}
 
@@ -213,6 +216,10 @@ abbrev mutual
   comps_below og oc (comp t gens conds b cs) p =
       comps_at t (og ++ gens) (both oc conds) b p ++ comps_below og oc cs p
 
--- the strands of a form at a path: one for each comprehension there
-abbrev pub shredded : TypeTree → Comps → List Step → List StrandTree
-shredded a cs p = map shaped (comps_at 0 [] no_cond (bag_body a cs) p)
+-- strands in the order of their tags
+abbrev pub by_tag : List StrandTree → List StrandTree
+by_tag ds = sorted_by (λ d e. nat_cmp d.tag e.tag) ds
+
+-- the strands of a form at a path: one for each comprehension there, in the order of their tags
+abbrev pub strands_at : TypeTree → Comps → List Step → List StrandTree
+strands_at a cs p = by_tag (map shaped (comps_at 0 [] no_cond (bag_body a cs) p))

@@ -15,7 +15,8 @@ use Rattle.nq_model.specs.declared.table.ColumnType.TheVariants as column_type
 use Rattle.nq_model.specs.declared.table.TableShape.{TableShape}
 use Rattle.nq_ir.specs.declared.base.Gen.{Gen}
 use Rattle.nq_ir.specs.Trees.{BaseTree, literal, column, unary, binary, choose, empty, Conds, no_cond, and_cond, Tests, no_test, test, BodyTree, plain_body, rec_body, bag_body, Bodies, no_body, with_body, Comps, no_comp, comp, FormTree}
-use Rattle.nq_ir.specs.Meanings.{Label, cell_under, EachBoth}
+use Rattle.nq_model.specs.NamedRows.{Label, cell_under}
+use Rattle.nq_ir.specs.Meanings.{EachBoth}
 
 abbrev pub columns_or_none : Option TableShape → Columns
 columns_or_none None = []

@@ -13,7 +13,7 @@ ghost use Rattle.nq_ir.specs.Trees.{FormTree, Conds};
 ghost use Rattle.nq_ir.specs.Meanings.{Tables, rows_in, kept, form_meaning};
 ghost use Rattle.nq_ir.specs.Building.{built};
 ghost use Rattle.nq_ir.specs.Paths.{paths};
-ghost use Rattle.nq_ir.specs.Spots.{strands, spots, top_spot, shredded, spot_cells, OutersKept};
+ghost use Rattle.nq_ir.specs.Spots.{strands, spots, top_spot, by_tag, strands_at, spot_cells, OutersKept};
 ghost use Rattle.nq_ir.specs.Lets.{FlatRow, flat, AllGive};
 ghost use Rattle.nq_ir.specs.WellFormed.{IsWellFormed, AreTablesOf, column_names};
 
@@ -27,10 +27,10 @@ pub fn spot_laws()
 {}
 
 /// The shredded forms at the paths of a well-formed form have the strands of all its comprehensions, path by
-/// path. The children in their rows stand at the kept choices of all generators in scope.
+/// path, in the order of their tags. The children in their rows stand at the kept choices of all generators in scope.
 pub fn shredding_laws()
     ensures strands { (schema : Schema) (form : FormTree) → IsWellFormed schema.tables form
-        → map (shredded form.element form.comps) (paths (bag form.element)) ≡ strands form.element form.comps }
+        → map (strands_at form.element form.comps) (paths (bag form.element)) ≡ map by_tag (strands form.element form.comps) }
     ensures rows { (schema : Schema) (form : FormTree) → IsProperSchema schema → IsWellFormed schema.tables form → (ts : Tables)
         → Each (Each (OutersKept ts)) (strands form.element form.comps) }
 {}

@@ -7,7 +7,7 @@ use Rattle.nq_model.specs.Types.{TypeTree, int, bool, text, rec, bag, fun, Field
 use Rattle.nq_model.specs.declared.table.Cell.{Cell}
 use Rattle.nq_model.specs.declared.table.ColumnType.{ColumnType}
 use Rattle.nq_ir.specs.Lets.{FlatRow}
-use Rattle.nq_ir.specs.Meanings.{no_cell}
+use Rattle.nq_model.specs.NamedRows.{no_cell}
 use Rattle.nq_ir.specs.Parts.{leaves, leaves_in, slots, slots_in}
 use Rattle.shred_types.specs.Columns.{element_columns, fields_columns, number_cell, laid, laid_fields, row_cells}
 use Rattle.shred_types.specs.Places.{leaf_types, leaf_types_in, width, leaf_places, leaf_places_in, slot_places, slot_places_in}

@@ -9,7 +9,7 @@ use Rattle.nq_model.specs.declared.table.Cell.TheVariants as cell
 use Rattle.nq_model.specs.declared.table.ColumnType.{ColumnType}
 use Rattle.nq_model.specs.declared.table.ColumnType.TheVariants as column
 use Rattle.nq_ir.specs.declared.path.Step.{Step}
-use Rattle.nq_ir.specs.Meanings.{no_cell}
+use Rattle.nq_model.specs.NamedRows.{no_cell}
 use Rattle.nq_ir.specs.Parts.{leaves, slots}
 use Rattle.nq_ir.specs.Paths.{element_at}
 use Rattle.nq_ir.specs.Lets.{FlatRow}

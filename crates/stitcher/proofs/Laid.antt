@@ -10,7 +10,7 @@ use Rattle.nq_model.specs.declared.table.Cell.{Cell}
 use Rattle.nq_ir.proofs.Spots.{found}
 use Rattle.nq_ir.specs.Building.{Alike, AlikeFields, FollowsAt, FollowsIn, FollowsFields}
 use Rattle.nq_ir.specs.Lets.{FlatRow, flat}
-use Rattle.nq_ir.specs.Meanings.{no_cell}
+use Rattle.nq_model.specs.NamedRows.{no_cell}
 use Rattle.nq_ir.specs.Parts.{leaves, leaves_in, slots, slots_in, bags, bags_in, element_types, element_types_in}
 use Rattle.shred_types.proofs.Places.{row_leaf, row_slot}
 use Rattle.shred_types.specs.Columns.{row_cells}

@@ -9,7 +9,7 @@ use Rattle.nq_model.specs.declared.table.Cell.{Cell}
 use Rattle.nq_model.specs.declared.table.ColumnType.{ColumnType}
 use Rattle.nq_model.specs.declared.table.ColumnType.TheVariants as column
 use Rattle.nq_ir.specs.Lets.{FlatRow}
-use Rattle.nq_ir.specs.Meanings.{no_cell}
+use Rattle.nq_model.specs.NamedRows.{no_cell}
 use Rattle.shred_types.specs.Columns.{element_columns, fields_columns, answer_columns, row_cells}
 use Rattle.shred_types.specs.Places.{leaf_places, leaf_places_in, slot_places, slot_places_in}
 use Rattle.stitcher.specs.declared.flat.Level.{Level}

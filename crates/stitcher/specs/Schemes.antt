@@ -7,7 +7,8 @@ use Rattle.nq_model.specs.Types.{TypeTree, int, bag}
 use Rattle.nq_model.specs.Values.{Nested, bag_of}
 use Rattle.nq_model.specs.declared.table.Cell.{Cell}
 use Rattle.nq_model.specs.declared.table.ColumnType.{ColumnType}
-use Rattle.nq_ir.specs.Meanings.{Tables, no_cell}
+use Rattle.nq_model.specs.NamedRows.{no_cell}
+use Rattle.nq_ir.specs.Meanings.{Tables}
 use Rattle.nq_ir.specs.Parts.{leaves, slots}
 use Rattle.nq_ir.specs.Among.{Among}
 use Rattle.nq_ir.specs.Building.{Source, built, FollowsIn}
