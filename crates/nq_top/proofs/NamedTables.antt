@@ -10,7 +10,8 @@ use Rattle.nq_edge.specs.Edge.{Files, bytes_at}
 use Rattle.nq_types.proofs.TableFacts.{bytes_eq_other}
 use Rattle.sql_profile.specs.declared.server.Loaded.{Loaded}
 use Rattle.nq_top.specs.Commands.{file_of}
-use Rattle.nq_top.specs.Meanings.{meaning_at, query_meaning, filled_of}
+use Rattle.nq_top.specs.Meanings.{meaning_at, query_meaning}
+use Rattle.sql_profile.specs.Servers.{filled_of}
 use Rattle.nq_top.specs.Reading.{rows_read}
 use Rattle.nq_top.specs.Judging.{Judgement, at_once, refused, accepted, judged, fetched_then, read_then, tables_judged, loaded_as, table_named, place_named, run_judged}
 use Rattle.nq_top.specs.declared.refusal.Refused.{Refused}

@@ -1,7 +1,6 @@
 -- What a query of a table means over tables, and the value that an answer stands for.
 use Rattle.std.specs.Prelude.{ℕ, Bool, false, ◌&&◌, List, [], ◌∷◌, map, filter, pos, slice_get, Option, Some, None}
 use Rattle.std.specs.Ordering.{int_eq}
-use Rattle.nq_model.specs.Databases.{FilledTable}
 use Rattle.nq_model.specs.Tables.{table_value}
 use Rattle.nq_model.specs.Values.{Nested, bag_of}
 use Rattle.nq_model.specs.declared.table.Cell.{Cell}
@@ -16,10 +15,6 @@ meaning_at (Some table) = table_value table.columns table.rows
 
 unfoldable pub query_meaning : List Loaded → ℕ → Nested
 query_meaning tables asked = meaning_at (slice_get tables asked)
-
--- the tables that a server is loaded with, as queries see them
-abbrev pub filled_of : Loaded → FilledTable
-filled_of table = record { name = table.name; columns = table.columns; rows = table.rows }
 
 -- the outer index of a row is that of the top, tag 0 and number 1
 abbrev pub is_top : List Cell → Bool

@@ -7,7 +7,8 @@ ghost use Rattle.nq_edge.specs.Edge.{Files};
 ghost use Rattle.sql_profile.specs.declared.server.Loaded.{Loaded};
 ghost use Rattle.nq_top.specs.Reading.{Reading};
 ghost use Rattle.nq_top.specs.Judging.{run_judged, accepted};
-ghost use Rattle.nq_top.specs.Meanings.{query_meaning, filled_of};
+ghost use Rattle.nq_top.specs.Meanings.{query_meaning};
+ghost use Rattle.sql_profile.specs.Servers.{filled_of};
 
 /// There is a reading of schema and query texts, and any two of them read each text alike.
 pub fn reading_laws()

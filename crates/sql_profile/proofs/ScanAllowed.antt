@@ -18,7 +18,8 @@ use Rattle.sql_profile.specs.Scans.{scan_row, HasFullRows}
 use Rattle.sql_profile.specs.Servers.{table_names}
 use Rattle.sql_profile.specs.ScanTrees.{column_items, scan_tree}
 use Rattle.sql_profile.specs.Trees.{ItemTrees, then_item, plain, int, keep_all}
-use Rattle.sql_profile.specs.AllowedAnswers.{NamedRow, Tables, Scope, cell_at, rows_of, kept_combinations, named, tables_of, TreeAllows}
+use Rattle.nq_model.specs.NamedRows.{NamedTables, Row, cell_under, named, rows_named}
+use Rattle.sql_profile.specs.AllowedAnswers.{Scope, kept_combinations, tables_of, TreeAllows}
 use Rattle.sql_profile.specs.declared.server.Loaded.{Loaded}
 use Rattle.sql_profile.proofs.PlainItems.{ArePlain, plain_values, plain_given, plain_only, kept_of_one}
 
@@ -44,36 +45,36 @@ contained_name (t ∷ ts) table (zero, within, is) = (zero, omega arith, ap (λ 
 contained_name (t ∷ ts) table (suc i, within, is) =
     let c = contained_name ts table (i, omega (arith, within), is) in (suc c.0, omega (arith, c.1), c.2)
 
-pub held_rows : (held : List Loaded) (table : Loaded) → AreDistinct (table_names held) → Contains held table → rows_of table.name (tables_of held) ≡ named (names_of table.columns) table.rows
+pub held_rows : (held : List Loaded) (table : Loaded) → AreDistinct (table_names held) → Contains held table → rows_named table.name (tables_of held) ≡ named (names_of table.columns) table.rows
 held_rows [] table differ (i, within, is) = absurd (omega (arith, within))
 held_rows (t ∷ ts) table differ (zero, within, is) =
-    subst (λ (u : Loaded). rows_of u.name (tables_of (t ∷ ts)) ≡ named (names_of u.columns) u.rows) is
-    (ap (λ b. cond b (named (names_of t.columns) t.rows) (rows_of t.name (tables_of ts))) (same_bytes t.name))
+    subst (λ (u : Loaded). rows_named u.name (tables_of (t ∷ ts)) ≡ named (names_of u.columns) u.rows) is
+    (ap (λ b. cond b (named (names_of t.columns) t.rows) (rows_named t.name (tables_of ts))) (same_bytes t.name))
 held_rows (t ∷ ts) table differ (suc i, within, is) =
     let later : Contains ts table = (i, omega (arith, within), is) in
     let other = each_contained (λ m. t.name ≢ m) (table_names ts) 0 differ.0 table.name (contained_name ts table later) in
-    ap (λ b. cond b (named (names_of t.columns) t.rows) (rows_of table.name (tables_of ts))) (other_bytes t.name table.name other)
+    ap (λ b. cond b (named (names_of t.columns) t.rows) (rows_named table.name (tables_of ts))) (other_bytes t.name table.name other)
     ∙ held_rows ts table differ.1 later
 
 -- each cell of a full row is found by its column's name
-abbrev IsFound : NamedRow → List ℕ × Cell → Type 0
-IsFound row field = cell_at field.0 row ≡ field.1
+abbrev IsFound : Row → List ℕ × Cell → Type 0
+IsFound row field = cell_under field.0 row ≡ field.1
 
 each_name : (P : List ℕ → Type 0) (names : List (List ℕ)) (cells : List Cell) → Each P names → Each (λ field. P field.0) (zip names cells)
 each_name P [] cells e = tt
 each_name P (n ∷ ns) [] e = tt
 each_name P (n ∷ ns) (c ∷ cs) e = (e.0, each_name P ns cs e.1)
 
-found_behind : (n : List ℕ) (c : Cell) (row fields : NamedRow) → Each (λ field. n ≢ field.0) fields → Each (IsFound row) fields → Each (IsFound ((n, c) ∷ row)) fields
+found_behind : (n : List ℕ) (c : Cell) (row fields : Row) → Each (λ field. n ≢ field.0) fields → Each (IsFound row) fields → Each (IsFound ((n, c) ∷ row)) fields
 found_behind n c row [] other found = tt
 found_behind n c row (f ∷ fs) other found =
-    (ap (λ b. cond b c (cell_at f.0 row)) (other_bytes n f.0 other.0) ∙ found.0, found_behind n c row fs other.1 found.1)
+    (ap (λ b. cond b c (cell_under f.0 row)) (other_bytes n f.0 other.0) ∙ found.0, found_behind n c row fs other.1 found.1)
 
 row_found : (names : List (List ℕ)) (cells : List Cell) → AreDistinct names → Each (IsFound (zip names cells)) (zip names cells)
 row_found [] cells differ = tt
 row_found (n ∷ ns) [] differ = tt
 row_found (n ∷ ns) (c ∷ cs) differ =
-    (ap (λ b. cond b c (cell_at n (zip ns cs))) (same_bytes n), found_behind n c (zip ns cs) (zip ns cs) (each_name (λ m. n ≢ m) ns cs differ.0) (row_found ns cs differ.1))
+    (ap (λ b. cond b c (cell_under n (zip ns cs))) (same_bytes n), found_behind n c (zip ns cs) (zip ns cs) (each_name (λ m. n ≢ m) ns cs differ.0) (row_found ns cs differ.1))
 
 each_put : {A : Type 0} (P : A → Type 0) (cmp : A → A → Ordering) (x : A) (xs : List A) → P x → Each P xs → Each P (put_by cmp x xs)
 each_put P cmp x [] p e = (p, tt)
@@ -87,7 +88,7 @@ pub each_sorted : {A : Type 0} (P : A → Type 0) (cmp : A → A → Ordering) (
 each_sorted P cmp [] e = tt
 each_sorted P cmp (x ∷ xs) e = each_put P cmp x (sorted_by cmp xs) e.0 (each_sorted P cmp xs e.1)
 
-cells_found : (row fields : NamedRow) → Each (IsFound row) fields → map (λ name. cell_at name row) (map (λ field. field.0) fields) ≡ map (λ field. field.1) fields
+cells_found : (row fields : Row) → Each (IsFound row) fields → map (λ name. cell_under name row) (map (λ field. field.0) fields) ≡ map (λ field. field.1) fields
 cells_found row [] found = refl
 cells_found row (f ∷ fs) found = ap₂ (λ c (l : List Cell). c ∷ l) found.0 (cells_found row fs found.1)
 
@@ -98,25 +99,25 @@ zipped_names (c ∷ cs) (x ∷ xs) full = ap (λ (l : List (List ℕ)). c.0 ∷ 
 
 -- the scan's row holds what its columns name
 scan_row_is : (columns : Columns) (cells : List Cell) → AreDistinct (names_of columns) → length cells ≡ length columns
-    → scan_row (names_of columns) cells ≡ Int (pos 0) ∷ Int (pos 1) ∷ map (λ name. cell_at name (zip (names_of columns) cells)) (names_of (by_label columns))
+    → scan_row (names_of columns) cells ≡ Int (pos 0) ∷ Int (pos 1) ∷ map (λ name. cell_under name (zip (names_of columns) cells)) (names_of (by_label columns))
 scan_row_is columns cells differ full =
     let names = names_of columns in
-    let row : NamedRow = zip names cells in
+    let row : Row = zip names cells in
     let sorted_names : map (λ field. field.0) (by_label row) ≡ names_of (by_label columns) =
     sym (sorted_mapped (λ field. field.0) (λ f g. label_cmp f.0 g.0) label_cmp (λ f g. refl) row)
     ∙ ap (sorted_by label_cmp) (zipped_names columns cells full)
     ∙ sorted_mapped (λ column. column.0) (λ f g. label_cmp f.0 g.0) label_cmp (λ f g. refl) columns in
     ap (λ (l : List Cell). Int (pos 0) ∷ Int (pos 1) ∷ l)
     (sym (cells_found row (by_label row) (each_sorted (IsFound row) (λ f g. label_cmp f.0 g.0) row (row_found names cells differ)))
-    ∙ ap (λ (l : List (List ℕ)). map (λ name. cell_at name row) l) sorted_names)
+    ∙ ap (λ (l : List (List ℕ)). map (λ name. cell_under name row) l) sorted_names)
 
 columns_plain : (k : ℕ) (names : List (List ℕ)) → ArePlain (column_items k names)
 columns_plain k [] = tt
 columns_plain k (n ∷ ns) = columns_plain (k + 1) ns
 
-columns_values : (ts : Tables) (row : NamedRow) (k : ℕ) (names : List (List ℕ)) → plain_values ts (column_items k names) ((codes "x1", row) ∷ []) ≡ map (λ name. cell_at name row) names
+columns_values : (ts : NamedTables) (row : Row) (k : ℕ) (names : List (List ℕ)) → plain_values ts (column_items k names) ((codes "x1", row) ∷ []) ≡ map (λ name. cell_under name row) names
 columns_values ts row k [] = refl
-columns_values ts row k (n ∷ ns) = ap (λ (l : List Cell). cell_at n row ∷ l) (columns_values ts row (k + 1) ns)
+columns_values ts row k (n ∷ ns) = ap (λ (l : List Cell). cell_under n row ∷ l) (columns_values ts row (k + 1) ns)
 
 abbrev scan_item_trees : Columns → ItemTrees
 scan_item_trees columns = then_item (codes "ot") (plain (int (pos 0))) (then_item (codes "on") (plain (int (pos 1))) (column_items 1 (names_of (by_label columns))))
@@ -124,7 +125,7 @@ scan_item_trees columns = then_item (codes "ot") (plain (int (pos 0))) (then_ite
 abbrev scan_kept : List Loaded → Loaded → List Scope
 scan_kept held table = kept_combinations (tables_of held) (record { table = table.name; alias = codes "x1" } ∷ []) keep_all
 
-made_rows : (ts : Tables) (columns : Columns) (rows : List (List Cell)) → AreDistinct (names_of columns) → All (λ row. length row ≡ length columns) rows
+made_rows : (ts : NamedTables) (columns : Columns) (rows : List (List Cell)) → AreDistinct (names_of columns) → All (λ row. length row ≡ length columns) rows
     → map (plain_values ts (scan_item_trees columns)) (map (λ row. (codes "x1", row) ∷ []) (named (names_of columns) rows)) ≡ map (scan_row (names_of columns)) rows
 made_rows ts columns [] differ full = refl
 made_rows ts columns (r ∷ rs) differ full =
@@ -138,7 +139,7 @@ scan_made : (held : List Loaded) (table : Loaded) → AreDistinct (table_names h
 scan_made held table tables_differ columns_differ full among =
     let ts = tables_of held in
     ap (λ (l : List Scope). map (plain_values ts (scan_item_trees table.columns)) l)
-    (kept_of_one ts (record { table = table.name; alias = codes "x1" }) ∙ ap (λ (l : List NamedRow). map (λ row. (codes "x1", row) ∷ []) l) (held_rows held table tables_differ among))
+    (kept_of_one ts (record { table = table.name; alias = codes "x1" }) ∙ ap (λ (l : List Row). map (λ row. (codes "x1", row) ∷ []) l) (held_rows held table tables_differ among))
     ∙ made_rows ts table.columns table.rows columns_differ full
 
 -- SQL allows to the scan tree what the trait of servers says of the scan text, and nothing else

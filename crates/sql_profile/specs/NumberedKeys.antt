@@ -4,10 +4,11 @@ use Rattle.nq_model.specs.Numberings.{numbered}
 use Rattle.nq_model.specs.declared.table.Cell.{Cell}
 use Rattle.nq_model.specs.declared.table.Cell.TheVariants as cell
 use Rattle.sql_profile.specs.Trees.{ExprTrees}
-use Rattle.sql_profile.specs.AllowedAnswers.{Tables, Scope, key_of}
+use Rattle.nq_model.specs.NamedRows.{NamedTables}
+use Rattle.sql_profile.specs.AllowedAnswers.{Scope, key_of}
 
 -- the key lists of combinations
-abbrev pub keys_of : Tables → ExprTrees → List Scope → List (List Cell)
+abbrev pub keys_of : NamedTables → ExprTrees → List Scope → List (List Cell)
 keys_of ts keys kept = map (λ c. key_of ts keys c) kept
 
 -- the numbers from 1 on, each with the key list that stands there

@@ -1,6 +1,7 @@
 -- What a server holds and tells, and what a call does to its count of faults.
 use Rattle.std.specs.Prelude.{◌≡◌, ◌<◌, ◌-◌, ◌^◌, ◌⊎◌, ℕ, List, [], ◌∷◌, ◌++◌, map, Option, Result, Ok, Err}
 use Rattle.std.specs.Option.{option_map}
+use Rattle.nq_model.specs.Databases.{FilledTable}
 use Rattle.sql_profile.specs.declared.answer.Answer.{Answer}
 use Rattle.sql_profile.specs.declared.server.Loaded.{Loaded}
 use Rattle.sql_profile.specs.declared.server.ServerFault.{ServerFault}
@@ -28,3 +29,7 @@ with_ask text answer told = option_map (λ asks. asks ++ (text, answer) ∷ []) 
 -- the names of tables
 abbrev pub table_names : List Loaded → List (List ℕ)
 table_names tables = map (λ table. table.name) tables
+
+-- a table that a server is loaded with, as queries see it
+abbrev pub filled_of : Loaded → FilledTable
+filled_of table = record { name = table.name; columns = table.columns; rows = table.rows }

@@ -7,7 +7,8 @@ ghost use Rattle.nq_model.specs.Numberings.{Rises, key_lt};
 ghost use Rattle.nq_model.specs.Orders.{AreDistinct};
 ghost use Rattle.nq_model.specs.Tables.{Columns, names_of, types_of};
 ghost use Rattle.nq_model.specs.declared.table.Cell.{Cell};
-ghost use Rattle.sql_profile.specs.AllowedAnswers.{Scope, Tables, TreeAllows, ValueGives};
+ghost use Rattle.nq_model.specs.NamedRows.{NamedTables};
+ghost use Rattle.sql_profile.specs.AllowedAnswers.{Scope, TreeAllows, ValueGives};
 ghost use Rattle.sql_profile.specs.NumberedKeys.{IsNthOf, keys_of, number_cells};
 ghost use Rattle.sql_profile.specs.ScanTrees.{scan_tree};
 ghost use Rattle.sql_profile.specs.Scans.{Allows, HasFullRows, IsScan, scan_row};
@@ -57,10 +58,10 @@ pub fn answer_laws()
     ensures fitting { (held : List Loaded) (tree : SqlTree) (columns : Columns) (rows : List (List Cell))
         → All (λ table. All (RowFits (types_of table.columns)) table.rows) held
         → IsWellScoped (shapes_of held) tree columns → TreeAllows held tree rows → All (RowFits (types_of columns)) rows }
-    ensures nth_key { (tables : Tables) (kept : List Scope) (keys : ExprTrees) (cells : List Cell) (sorted : List (List Cell))
+    ensures nth_key { (tables : NamedTables) (kept : List Scope) (keys : ExprTrees) (cells : List Cell) (sorted : List (List Cell))
         → ValueGives tables kept (number keys) cells → Reordered (keys_of tables keys kept) sorted → Rises key_lt sorted
         → Each (IsNthOf sorted) (zip cells (keys_of tables keys kept)) }
-    ensures numbers_fixed { (tables : Tables) (kept : List Scope) (keys : ExprTrees) (cells : List Cell) (sorted : List (List Cell))
+    ensures numbers_fixed { (tables : NamedTables) (kept : List Scope) (keys : ExprTrees) (cells : List Cell) (sorted : List (List Cell))
         → ValueGives tables kept (number keys) cells → Reordered (keys_of tables keys kept) sorted → Rises key_lt sorted
         → Reordered (zip cells (keys_of tables keys kept)) (number_cells sorted) }
     ensures scans { (held : List Loaded) (table : Loaded) → AreDistinct (table_names held) → AreDistinct (names_of table.columns)

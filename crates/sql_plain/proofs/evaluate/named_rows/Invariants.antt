@@ -1,5 +1,5 @@
 use Rattle.std.proofs.Common.{◌≡◌, take}
-use Rattle.sql_profile.specs.AllowedAnswers.{named}
+use Rattle.nq_model.specs.NamedRows.{named}
 use Rattle.sql_plain.proofs.evaluate.named_rows.Given as goal
 
 abbrev pub invariant-loop-row : goal.invariant-loop-row
