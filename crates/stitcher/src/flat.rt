@@ -1,12 +1,12 @@
 // The flat index scheme.
-ghost use Rattle.std.specs.Prelude.{◌≡◌, ◌+◌, ◌++◌, ◌<◌, IfOk, OnOk, map, length, get_or};
+ghost use Rattle.std.specs.Prelude.{◌≡◌, ◌+◌, ◌++◌, ◌<◌, [], IfOk, OnOk, map, length, get_or, slice_index_or};
 ghost use Rattle.nq_model.specs.Types.{type_tree, field_types_of, fields_view};
 ghost use Rattle.nq_ir.specs.Parts.{element_types, element_types_in};
 ghost use Rattle.stitcher.specs.Schemes.{element_of};
 ghost use Rattle.stitcher.specs.FlatNumbers.{level_of, with_leaf, with_slot, with_part, with_parts, int_at, flat_numbers};
 
 use crate::scheme::IndexScheme;
-use nq_model::{Cell, ColumnType, Label, List, Memory, Ty};
+use nq_model::{CellRef, ColumnType, Label, List, Memory, Rows, Ty};
 use std::alloc::Global;
 
 /// The columns of one path: those of its answer, the columns of the base parts of its element, counted from
@@ -72,8 +72,14 @@ impl IndexScheme for FlatNumbers {
         (0, 1)
     }
 
-    fn outer(&self, _alloc: Global, _path: u64, row: &List<Cell>) -> Result<(i64, i64), Memory> {
-        Ok((int_at(row.as_slice(), 0), int_at(row.as_slice(), 1)))
+    fn outer(
+        &self,
+        _alloc: Global,
+        _path: u64,
+        rows: &Rows,
+        row: usize,
+    ) -> Result<(i64, i64), Memory> {
+        Ok((int_at(rows, row, 0), int_at(rows, row, 1)))
     }
 
     fn inner(
@@ -81,13 +87,11 @@ impl IndexScheme for FlatNumbers {
         _alloc: Global,
         path: u64,
         slot: u64,
-        row: &List<Cell>,
+        rows: &Rows,
+        row: usize,
     ) -> Result<(i64, i64), Memory> {
         let place = number_at(self.level(path).slots.as_slice(), slot);
-        Ok((
-            int_at(row.as_slice(), place),
-            int_after(row.as_slice(), place),
-        ))
+        Ok((int_at(rows, row, place), int_after(rows, row, place)))
     }
 
     ghost compares = { λ s i j. refl };
@@ -106,24 +110,26 @@ fn number_at(numbers: &[u64], place: u64) -> u64
 }
 
 // The integer at a place of a row, counted from 0, or 0 where none stands.
-fn int_at(row: &[Cell], place: u64) -> i64
-    ensures { result ≡ int_at row.now place }
+fn int_at(rows: &Rows, row: usize, place: u64) -> i64
+    ensures { result ≡ int_at (slice_index_or rows.now row []) place }
 {
-    match row.get(place as usize) {
-        Some(Cell::Int(number)) => *number,
-        _ => 0,
+    if place >= rows.width(row) as u64 {
+        return 0;
+    }
+    match rows.cell(row, place as usize) {
+        CellRef::Int(number) => number,
+        CellRef::Bool(_) | CellRef::Text(_) => 0,
     }
 }
 
 // The integer after a place.
-fn int_after(row: &[Cell], place: u64) -> i64
-    ensures { result ≡ int_at row.now (place + 1) }
+fn int_after(rows: &Rows, row: usize, place: u64) -> i64
+    ensures { result ≡ int_at (slice_index_or rows.now row []) (place + 1) }
 {
-    if place < row.len() as u64 {
-        int_at(row, place + 1)
-    } else {
-        0
+    if place >= rows.width(row) as u64 {
+        return 0;
     }
+    int_at(rows, row, place + 1)
 }
 
 // Puts copies of the element types of a type's bags at the end, in path order.

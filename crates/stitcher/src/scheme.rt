@@ -1,15 +1,16 @@
 // Index schemes.
-ghost use Rattle.std.specs.Prelude.{◌≡◌, IfOk};
+ghost use Rattle.std.specs.Prelude.{◌≡◌, ◌<◌, [], IfOk, length, slice_index_or};
 ghost use Rattle.nq_model.specs.Cells.{RowFits};
 ghost use Rattle.stitcher.specs.Schemes.{Scheme, IsPath, IsLeaf, IsSlot, BasesAreTyped};
 
-use nq_model::{Cell, ColumnType, List, Memory};
+use nq_model::{ColumnType, List, Memory, Rows};
 use std::alloc::Global;
 use std::hash::Hash;
 
 /// How the rows of flat answers name the bags that they stand in and hold. A scheme belongs to one plain
 /// type. The numbers that its calls take count parts of that type from 0: paths in their order, base parts
-/// and inner bags of the element at a path in label order.
+/// and inner bags of the element at a path in label order. A row is taken by its place among the rows in which
+/// it stands, so that an index is read with no copy of the row.
 ///
 /// After Cheney, Lindley and Wadler, "Query Shredding", SIGMOD 2014.
 pub trait IndexScheme {
@@ -34,10 +35,17 @@ pub trait IndexScheme {
         ensures { result ≡ (scheme self.now).top };
 
     /// The index of the bag in which a row's element stands.
-    fn outer(&self, alloc: Global, path: u64, row: &List<Cell>) -> Result<Self::Index, Memory>
+    fn outer(
+        &self,
+        alloc: Global,
+        path: u64,
+        rows: &Rows,
+        row: usize,
+    ) -> Result<Self::Index, Memory>
         requires path { IsPath (scheme self.now) path }
-        requires row { RowFits ((scheme self.now).columns path) row.now }
-        ensures { IfOk result (λ index. index ≡ (scheme self.now).outer path row.now) };
+        requires row { row < length rows.now }
+        requires fits { RowFits ((scheme self.now).columns path) (slice_index_or rows.now row []) }
+        ensures { IfOk result (λ index. index ≡ (scheme self.now).outer path (slice_index_or rows.now row [])) };
 
     /// The index that a row gives for an inner bag.
     fn inner(
@@ -45,11 +53,13 @@ pub trait IndexScheme {
         alloc: Global,
         path: u64,
         slot: u64,
-        row: &List<Cell>,
+        rows: &Rows,
+        row: usize,
     ) -> Result<Self::Index, Memory>
         requires slot { IsSlot (scheme self.now) path slot }
-        requires row { RowFits ((scheme self.now).columns path) row.now }
-        ensures { IfOk result (λ index. index ≡ (scheme self.now).inner path slot row.now) };
+        requires row { row < length rows.now }
+        requires fits { RowFits ((scheme self.now).columns path) (slice_index_or rows.now row []) }
+        ensures { IfOk result (λ index. index ≡ (scheme self.now).inner path slot (slice_index_or rows.now row [])) };
 
     /// Indexes are compared as their type compares them.
     ghost compares: { (s : Self) (i j : Self.Index) → (scheme s).is i j ≡ Self.Index.Eq.eq i j };
