@@ -175,10 +175,13 @@ pub answers_apart : (j k : ℕ) → bytes_eq (answer_name j) (answer_name k) ≡
 unfolding answer_name
 answers_apart zero zero = refl
 answers_apart zero (suc zero) = refl
-answers_apart zero (suc (suc k)) = refl
+answers_apart zero (suc (suc k)) = sym (nat_differ zero (suc (suc k)) (λ e. cc))
 answers_apart (suc zero) zero = refl
 answers_apart (suc zero) (suc zero) = refl
-answers_apart (suc zero) (suc (suc k)) = refl
-answers_apart (suc (suc j)) zero = refl
-answers_apart (suc (suc j)) (suc zero) = refl
-answers_apart (suc (suc j)) (suc (suc k)) = numbered_apart (λ (t : Label). 99 ∷ t) (λ xs ys e. tail_same e) (suc j) (suc k) ∙ refl
+answers_apart (suc zero) (suc (suc k)) = sym (nat_differ (suc zero) (suc (suc k)) (λ e. cc))
+answers_apart (suc (suc j)) zero = sym (nat_differ (suc (suc j)) zero (λ e. cc))
+answers_apart (suc (suc j)) (suc zero) = sym (nat_differ (suc (suc j)) (suc zero) (λ e. cc))
+answers_apart (suc (suc j)) (suc (suc k)) = numbered_apart (λ (t : Label). 99 ∷ t) (λ xs ys e. tail_same e) (suc j) (suc k) ∙ same_next (suc j) (suc k)
+  where
+    same_next : (a b : ℕ) → nat_eq a b ≡ nat_eq (suc a) (suc b)
+    same_next a b = one_truth (nat_eq a b) (nat_eq (suc a) (suc b)) (λ e. nat_same (suc a) (suc b) (ap suc ((Decides-eqb a b).0 e))) (λ e. nat_same a b (let f : suc a ≡ suc b = (Decides-eqb (suc a) (suc b)).0 e in omega (arith, f)))
