@@ -1,0 +1,187 @@
+-- The names in the text of a let form differ.
+use Rattle.nq_ir.proofs.Equal.{nat_same, nat_differ}
+use Rattle.std.proofs.Common.{◌≡◌, ℕ, zero, suc, ◌+◌, ◌≤◌, ◌<◌, List, [], ◌∷◌, ◌++◌, map, refl, sym, ap, ap₂, ◌∙◌, Bool, true, false, nat_eq, ◌&&◌, arith}
+use Rattle.std.specs.Str.{bytes_eq}
+use Rattle.std.specs.Int.Digits.{digits_of}
+use Rattle.std.proofs.lemmas.Int.Digits.{same_from_digits_of, digits_of_step}
+use Rattle.std.proofs.lemmas.Fmt.{decimal_by_steps}
+use Rattle.std.proofs.lemmas.List.{map-append}
+use Rattle.std.specs.Fmt.{decimal}
+use Rattle.std.specs.Prelude.{◌/◌, ◌%◌, ◌^◌}
+use Rattle.std.proofs.lemmas.Slice.Eq.{bytes_eq-Decides}
+use Rattle.std.proofs.lemmas.Bool.Decides.{Decides-eqb}
+use Rattle.std.specs.List.{AllByRecursion as Each}
+use Rattle.nq_model.specs.NamedRows.{Label}
+use Rattle.flatten.specs.Names.{number_text, with_name, let_alias, alias, outer_column, number_name, answer_name}
+
+-- the number that such a text writes
+raised_injective : (xs ys : List ℕ) → map (λ d. 48 + d) xs ≡ map (λ d. 48 + d) ys → xs ≡ ys
+raised_injective [] [] e = refl
+raised_injective [] (y ∷ ys) e = absurd (cc)
+raised_injective (x ∷ xs) [] e = absurd (cc)
+raised_injective (x ∷ xs) (y ∷ ys) e =
+    let h : 48 + x ≡ 48 + y = cc in
+    let t : map (λ d. 48 + d) xs ≡ map (λ d. 48 + d) ys = cc in
+    ap₂ (λ a (l : List ℕ). a ∷ l) (omega (arith, h)) (raised_injective xs ys t)
+
+pub number_text_injective : (j k : ℕ) → number_text j ≡ number_text k → j ≡ k
+number_text_injective j k e = same_from_digits_of 10 j k (omega arith) (raised_injective (digits_of 10 j) (digits_of 10 k) e)
+
+-- below 2 ^ 64 it is what std writes
+pub number_text_decimal : (n : ℕ) → 0 < n → n < 2 ^ 64 → number_text n ≡ decimal n
+number_text_decimal n some small = decimal_by_steps (λ m ds. 0 < m → number_text m ≡ ds) first next n small some
+  where
+    step : (m : ℕ) → 0 < m → number_text m ≡ number_text (m / 10) ++ (48 + m % 10) ∷ []
+    step m h = ap (map (λ d. 48 + d)) (digits_of_step 10 m (omega arith) h) ∙ map-append (λ d. 48 + d) (digits_of 10 (m / 10)) (m % 10 ∷ [])
+
+    first : (m : ℕ) → m < 10 → 0 < m → number_text m ≡ (48 + m) ∷ []
+    first m l h =
+        let none : m / 10 ≡ 0 = omega arith in
+        let all : m % 10 ≡ m = omega arith in
+        step m h ∙ ap₂ (λ a b. number_text a ++ (48 + b) ∷ []) none all
+
+    next : (m : ℕ) (ds : List ℕ) → 10 ≤ m → (0 < m / 10 → number_text (m / 10) ≡ ds) → 0 < m → number_text m ≡ ds ++ (48 + m % 10) ∷ []
+    next m ds l i h = step m h ∙ ap (λ (z : List ℕ). z ++ (48 + m % 10) ∷ []) (i (omega arith))
+
+-- no dot stands in it
+raised_above : (xs : List ℕ) → Each (λ c. 48 ≤ c) (map (λ d. 48 + d) xs)
+raised_above [] = tt
+raised_above (x ∷ xs) = (omega arith, raised_above xs)
+
+number_text_above : (k : ℕ) → Each (λ c. 48 ≤ c) (number_text k)
+number_text_above k = raised_above (digits_of 10 k)
+
+-- up to the first dot
+dot_splits : (xs ys l m : List ℕ) → Each (λ c. 48 ≤ c) xs → Each (λ c. 48 ≤ c) ys → xs ++ 46 ∷ l ≡ ys ++ 46 ∷ m → (xs ≡ ys) × (l ≡ m)
+dot_splits [] [] l m h k e = (refl, cc)
+dot_splits [] (y ∷ ys) l m h k e = let f : 46 ≡ y = cc in absurd (omega (arith, f, k.0))
+dot_splits (x ∷ xs) [] l m h k e = let f : x ≡ 46 = cc in absurd (omega (arith, f, h.0))
+dot_splits (x ∷ xs) (y ∷ ys) l m h k e =
+    let f : x ≡ y = cc in
+    let r : xs ++ 46 ∷ l ≡ ys ++ 46 ∷ m = cc in
+    let t = dot_splits xs ys l m h.1 k.1 r in
+    (ap₂ (λ a (z : List ℕ). a ∷ z) f t.0, t.1)
+
+-- no dot stands in the name
+abbrev pub NoDot : Label → Type 0
+NoDot l = Each (λ c. nat_eq c 46 ≡ false) l
+
+pub bytes_same : (a b : Label) → a ≡ b → bytes_eq a b ≡ true
+bytes_same a b e = (bytes_eq-Decides a b).1 e
+
+pub bytes_differ : (a b : Label) → (a ≡ b → ⊥) → bytes_eq a b ≡ false
+bytes_differ a b h = go (bytes_eq a b) refl
+  where
+    go : (c : Bool) → bytes_eq a b ≡ c → c ≡ false
+    go true e = absurd (h ((bytes_eq-Decides a b).0 e))
+    go false e = refl
+
+pub bytes_flip : (a b : Label) → bytes_eq a b ≡ false → bytes_eq b a ≡ false
+bytes_flip a b h = bytes_differ b a (λ e. let w : true ≡ false = sym ((bytes_eq-Decides a b).1 (sym e)) ∙ h in absurd (cc))
+
+pub nat_flip : (g h : ℕ) → nat_eq g h ≡ false → nat_eq h g ≡ false
+nat_flip g h e = nat_differ h g (λ s. let w : true ≡ false = sym (nat_same g h (sym s)) ∙ e in absurd (cc))
+
+-- two truth values that hold together are one
+one_truth : (a b : Bool) → (a ≡ true → b ≡ true) → (b ≡ true → a ≡ true) → a ≡ b
+one_truth true true f g = refl
+one_truth true false f g = sym (f refl)
+one_truth false true f g = g refl
+one_truth false false f g = refl
+
+tail_same : {x : ℕ} {xs ys : Label} → x ∷ xs ≡ x ∷ ys → xs ≡ ys
+tail_same e = cc
+
+-- names of numbers, behind the same bytes, are one where the numbers are
+numbered_apart : (f : Label → Label) → ((xs ys : Label) → f xs ≡ f ys → xs ≡ ys) → (j k : ℕ) → bytes_eq (f (number_text j)) (f (number_text k)) ≡ nat_eq j k
+numbered_apart f inj j k =
+    one_truth (bytes_eq (f (number_text j)) (f (number_text k))) (nat_eq j k)
+    (λ e. nat_same j k (number_text_injective j k (inj (number_text j) (number_text k) ((bytes_eq-Decides (f (number_text j)) (f (number_text k))).0 e))))
+    (λ e. bytes_same (f (number_text j)) (f (number_text k)) (ap (λ n. f (number_text n)) ((Decides-eqb j k).0 e)))
+
+pub aliases_apart : (g h : ℕ) → bytes_eq (alias g) (alias h) ≡ nat_eq g h
+unfolding alias
+aliases_apart g h = numbered_apart (λ (t : Label). 120 ∷ t) (λ xs ys e. tail_same e) g h
+
+pub not_let : (g : ℕ) → bytes_eq let_alias (alias g) ≡ false
+unfolding let_alias alias
+not_let g = refl
+
+pub let_not : (g : ℕ) → bytes_eq (alias g) let_alias ≡ false
+unfolding let_alias alias
+let_not g = refl
+
+pub own_let : bytes_eq let_alias let_alias ≡ true
+unfolding let_alias
+own_let = refl
+
+both : (a b : Bool) → a ≡ true → b ≡ true → (a && b) ≡ true
+both a b e f = ap₂ (λ x y. x && y) e f
+
+pub both_true : (a b : Bool) → (a && b) ≡ true → (a ≡ true) × (b ≡ true)
+both_true true b h = (refl, h)
+both_true false b h = absurd (cc)
+
+pub columns_apart : (g h : ℕ) (l m : Label) → bytes_eq (outer_column g l) (outer_column h m) ≡ (nat_eq g h && bytes_eq l m)
+unfolding outer_column
+columns_apart g h l m = one_truth (bytes_eq (120 ∷ (number_text g ++ 46 ∷ l)) (120 ∷ (number_text h ++ 46 ∷ m))) (nat_eq g h && bytes_eq l m) there back
+  where
+    there : bytes_eq (120 ∷ (number_text g ++ 46 ∷ l)) (120 ∷ (number_text h ++ 46 ∷ m)) ≡ true → (nat_eq g h && bytes_eq l m) ≡ true
+    there e =
+        let t = dot_splits (number_text g) (number_text h) l m (number_text_above g) (number_text_above h) (tail_same ((bytes_eq-Decides (120 ∷ (number_text g ++ 46 ∷ l)) (120 ∷ (number_text h ++ 46 ∷ m))).0 e)) in
+        both (nat_eq g h) (bytes_eq l m) (nat_same g h (number_text_injective g h t.0)) (bytes_same l m t.1)
+
+    back : (nat_eq g h && bytes_eq l m) ≡ true → bytes_eq (120 ∷ (number_text g ++ 46 ∷ l)) (120 ∷ (number_text h ++ 46 ∷ m)) ≡ true
+    back e =
+        let t = both_true (nat_eq g h) (bytes_eq l m) e in
+        bytes_same (120 ∷ (number_text g ++ 46 ∷ l)) (120 ∷ (number_text h ++ 46 ∷ m)) (ap₂ (λ k (c : Label). 120 ∷ (number_text k ++ 46 ∷ c)) ((Decides-eqb g h).0 t.0) ((bytes_eq-Decides l m).0 t.1))
+
+pub not_number : (g : ℕ) (l : Label) → bytes_eq (outer_column g l) number_name ≡ false
+unfolding outer_column number_name
+not_number g l = refl
+
+pub number_not : (g : ℕ) (l : Label) → bytes_eq number_name (outer_column g l) ≡ false
+unfolding outer_column number_name
+number_not g l = refl
+
+pub own_number : bytes_eq number_name number_name ≡ true
+unfolding number_name
+own_number = refl
+
+pub withs_apart : (j k : ℕ) → bytes_eq (with_name j) (with_name k) ≡ nat_eq j k
+unfolding with_name
+withs_apart j k = numbered_apart (λ (t : Label). 113 ∷ 46 ∷ t) (λ xs ys e. tail_same (tail_same e)) j k
+
+second_byte : {a b : ℕ} {xs ys : Label} → 113 ∷ 46 ∷ xs ≡ a ∷ b ∷ ys → 46 ≡ b
+second_byte {b = b} {xs = xs} {ys = ys} e = let f : 46 ∷ xs ≡ b ∷ ys = cc in cc
+
+-- a name without a dot is no name of a WITH query
+pub with_not : (k : ℕ) (t : Label) → NoDot t → bytes_eq (with_name k) t ≡ false
+unfolding with_name
+with_not k [] h = refl
+with_not k (a ∷ []) h = bytes_differ (113 ∷ 46 ∷ number_text k) (a ∷ []) (λ e. cc)
+with_not k (a ∷ b ∷ t) h =
+    bytes_differ (113 ∷ 46 ∷ number_text k) (a ∷ b ∷ t) (λ e. let g : nat_eq b 46 ≡ true = nat_same b 46 (sym (second_byte e)) in let w : true ≡ false = sym g ∙ h.1.0 in cc)
+
+pub not_with : (k : ℕ) (t : Label) → NoDot t → bytes_eq t (with_name k) ≡ false
+not_with k t h = bytes_flip (with_name k) t (with_not k t h)
+
+pub with_dotted : (k : ℕ) → NoDot (with_name k) → ⊥
+unfolding with_name
+with_dotted k h = let e : true ≡ false = h.1.0 in cc
+
+-- the columns of an answer differ in name
+pub answers_apart : (j k : ℕ) → bytes_eq (answer_name j) (answer_name k) ≡ nat_eq j k
+unfolding answer_name
+answers_apart zero zero = refl
+answers_apart zero (suc zero) = refl
+answers_apart zero (suc (suc k)) = sym (nat_differ zero (suc (suc k)) (λ e. cc))
+answers_apart (suc zero) zero = refl
+answers_apart (suc zero) (suc zero) = refl
+answers_apart (suc zero) (suc (suc k)) = sym (nat_differ (suc zero) (suc (suc k)) (λ e. cc))
+answers_apart (suc (suc j)) zero = sym (nat_differ (suc (suc j)) zero (λ e. cc))
+answers_apart (suc (suc j)) (suc zero) = sym (nat_differ (suc (suc j)) (suc zero) (λ e. cc))
+answers_apart (suc (suc j)) (suc (suc k)) = numbered_apart (λ (t : Label). 99 ∷ t) (λ xs ys e. tail_same e) (suc j) (suc k) ∙ same_next (suc j) (suc k)
+  where
+    same_next : (a b : ℕ) → nat_eq a b ≡ nat_eq (suc a) (suc b)
+    same_next a b = one_truth (nat_eq a b) (nat_eq (suc a) (suc b)) (λ e. nat_same (suc a) (suc b) (ap suc ((Decides-eqb a b).0 e))) (λ e. nat_same a b (let f : suc a ≡ suc b = (Decides-eqb (suc a) (suc b)).0 e in omega (arith, f)))
