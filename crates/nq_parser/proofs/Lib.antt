@@ -5,6 +5,8 @@ pub mod Filled
 pub mod Exact
 pub mod Utf8
 pub mod Lexed
+pub mod SoundTokens
+pub mod ProperTerms
 pub mod Verdicts
 pub mod Needs
 pub mod Joining

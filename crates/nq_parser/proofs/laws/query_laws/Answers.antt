@@ -1,3 +1,4 @@
+use Rattle.nq_parser.proofs.ProperTerms.{spelled_proper, spelled_closed}
 use Rattle.nq_parser.proofs.Verdicts.{one_holds, not_both, one_term, one_fault}
 use Rattle.nq_parser.proofs.laws.query_laws.Goals as goal
 
@@ -12,3 +13,9 @@ returns-clause-one_term c = one_term
 
 pub returns-clause-one_fault : goal.returns-clause-one_fault
 returns-clause-one_fault c = one_fault
+
+pub returns-clause-proper : goal.returns-clause-proper
+returns-clause-proper c = spelled_proper
+
+pub returns-clause-closed : goal.returns-clause-closed
+returns-clause-closed c = spelled_closed
