@@ -3,6 +3,7 @@ use Rattle.std.proofs.Common.{◌≡◌, ℕ, List, [], ◌∷◌, ◌++◌, map
 use Rattle.std.specs.List.{AllByRecursion as Each}
 use Rattle.nq_model.proofs.Numberings.{each_map}
 use Rattle.nq_model.specs.Databases.{database}
+use Rattle.nq_model.specs.SchemaTables.{AreTablesOf}
 use Rattle.nq_model.specs.Tables.{IsProperSchema}
 use Rattle.nq_model.specs.Types.{TypeTree, bag}
 use Rattle.nq_model.specs.Values.{Same, bag_of}
@@ -15,7 +16,7 @@ use Rattle.nq_ir.specs.Parts.{element_types}
 use Rattle.nq_ir.specs.Paths.{paths}
 use Rattle.nq_ir.specs.Spots.{StrandTree, Child, Spot, both, levels, strands, spots, top_spot, children_of, outer_spots, strand_rows, by_tag, strands_at, TagsDiffer}
 use Rattle.nq_ir.specs.Trees.{FormTree}
-use Rattle.nq_ir.specs.WellFormed.{IsNumber, IsWellFormed, AreTablesOf, comps_tags, comps_numbers, column_names}
+use Rattle.nq_ir.specs.WellFormed.{IsNumber, IsWellFormed, comps_tags, comps_numbers, column_names}
 use Rattle.nq_ir.proofs.Allowed.{Legibly, StrandFine, levels_ok, legibly, legible_same}
 use Rattle.nq_ir.proofs.Distinct.{Distinct, distinct}
 use Rattle.nq_ir.proofs.Equal.{nat_differ}

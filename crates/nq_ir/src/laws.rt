@@ -3,6 +3,7 @@ ghost use Rattle.std.specs.Prelude.{◌≡◌, [], List, map};
 ghost use Rattle.std.specs.List.{AllByRecursion as Each};
 ghost use Rattle.nq_model.specs.Databases.{database};
 ghost use Rattle.nq_model.specs.Numberings.{TellsApart};
+ghost use Rattle.nq_model.specs.SchemaTables.{AreTablesOf};
 ghost use Rattle.nq_model.specs.Tables.{IsProperSchema};
 ghost use Rattle.nq_model.specs.Types.{bag};
 ghost use Rattle.nq_model.specs.Values.{Same, bag_of};
@@ -15,7 +16,7 @@ ghost use Rattle.nq_ir.specs.Building.{built};
 ghost use Rattle.nq_ir.specs.Paths.{paths};
 ghost use Rattle.nq_ir.specs.Spots.{strands, spots, top_spot, by_tag, strands_at, spot_cells, OutersKept};
 ghost use Rattle.nq_ir.specs.Lets.{FlatRow, flat, AllGive};
-ghost use Rattle.nq_ir.specs.WellFormed.{IsWellFormed, AreTablesOf, column_names};
+ghost use Rattle.nq_ir.specs.WellFormed.{IsWellFormed, column_names};
 
 /// The spots of a well-formed form build its meaning. A spot is its tag and its cells: the choices of rows
 /// for the generators in scope are told apart by them, over tables of a schema.

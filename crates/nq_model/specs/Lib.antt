@@ -12,6 +12,7 @@ pub mod SchemaTexts
 pub mod Terms
 pub mod Databases
 pub mod NamedRows
+pub mod SchemaTables
 pub mod Meaning
 pub mod Operators
 pub mod Numberings
