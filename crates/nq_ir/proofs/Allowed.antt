@@ -43,11 +43,11 @@ each_two : {A : Type 0} (P Q : A → Type 0) (xs : List A) → Each P xs → Eac
 each_two P Q [] e f = tt
 each_two P Q (x ∷ xs) e f = ((e.0, f.0), each_two P Q xs e.1 f.1)
 
-each_mapped : {A B : Type 0} (f : A → B) (P : A → Type 0) (Q : B → Type 0) → ((x : A) → P x → Q (f x)) → (xs : List A) → Each P xs → Each Q (map f xs)
+pub each_mapped : {A B : Type 0} (f : A → B) (P : A → Type 0) (Q : B → Type 0) → ((x : A) → P x → Q (f x)) → (xs : List A) → Each P xs → Each Q (map f xs)
 each_mapped f P Q t [] e = tt
 each_mapped f P Q t (x ∷ xs) e = (t x e.0, each_mapped f P Q t xs e.1)
 
-each_unmapped : {A B : Type 0} (f : A → B) (Q : B → Type 0) (xs : List A) → Each Q (map f xs) → Each (λ x. Q (f x)) xs
+pub each_unmapped : {A B : Type 0} (f : A → B) (Q : B → Type 0) (xs : List A) → Each Q (map f xs) → Each (λ x. Q (f x)) xs
 each_unmapped f Q [] e = tt
 each_unmapped f Q (x ∷ xs) e = (e.0, each_unmapped f Q xs e.1)
 

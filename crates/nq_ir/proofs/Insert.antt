@@ -2,7 +2,7 @@
 use Rattle.std.proofs.Common.{◌≡◌, ℕ, zero, suc, ◌<◌, ◌≤◌, List, [], ◌∷◌, map, refl, sym, ap, ap₂, ◌∙◌, subst, Bool, true, false, cond, nat_eq, length, get_or, arith, inl, inr, ⊎_elim, ◌⊎◌, true≢false}
 use Rattle.std.proofs.lemmas.Bool.Decides.{Decides-eqb}
 use Rattle.std.specs.List.{AllByRecursion as Each}
-use Rattle.nq_ir.proofs.Ascending.{Ascends, sorted_ascends}
+use Rattle.nq_ir.proofs.Ascending.{Ascends, differ_turned, sorted_ascends, strictly}
 use Rattle.nq_ir.proofs.Distinct.{Among, first, later}
 use Rattle.nq_ir.proofs.Equal.{nat_same}
 use Rattle.nq_ir.specs.Lets.{LetTree, by_parent, let_around, let_number, let_of, lets_after, lets_before, lets_of, no_let, part_from, parts_on, strand_of}
@@ -136,18 +136,8 @@ lets_rise (d ∷ ds) last e a = go (nat_eq d.parent last) refl (lets_rise ds las
         → Each (λ l. last < l.parent) (cond b (lets_after last ds) (let_around d ∷ lets_after d.parent ds)) × IsRising (map parent_of (cond b (lets_after last ds) (let_around d ∷ lets_after d.parent ds)))
     go true f s o = s
     go false f s o =
-        let other : d.parent ≡ last → ⊥ = λ i. true≢false (sym (nat_same d.parent last i) ∙ f) in
-        let low : last < d.parent = by_cases d.parent last e.0 other in
+        let low : last < d.parent = strictly last d.parent e.0 (differ_turned d.parent last f) in
         ((low, each_map (λ l. d.parent < l.parent) (λ l. last < l.parent) (λ l (h : d.parent < l.parent). omega (arith, h, low)) (lets_after d.parent ds) o.0), (each_parent (λ m. d.parent < m) (lets_after d.parent ds) o.0, o.1))
-      where
-        by_cases : (x y : ℕ) → y ≤ x → (x ≡ y → ⊥) → y < x
-        by_cases x y h n = ⊎_elim (λ (i : x ≡ y). absurd (n i)) (λ (l : y < x). l) (apart x y h)
-          where
-            apart : (x y : ℕ) → y ≤ x → (x ≡ y) ⊎ (y < x)
-            apart zero zero h = inl refl
-            apart zero (suc y) h = absurd (omega (arith, h))
-            apart (suc x) zero h = inr (omega arith)
-            apart (suc x) (suc y) h = ⊎_elim (λ i. inl (ap suc i)) (λ (l : y < x). inr (omega (arith, l))) (apart x y (omega (arith, h)))
 
 all_above : (ds : List StrandTree) → Each (λ d. 0 ≤ d.parent) ds
 all_above [] = tt

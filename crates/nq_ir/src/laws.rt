@@ -14,7 +14,8 @@ ghost use Rattle.nq_ir.specs.Meanings.{Tables, rows_in, kept, form_meaning};
 ghost use Rattle.nq_ir.specs.Building.{built};
 ghost use Rattle.nq_ir.specs.Paths.{paths};
 ghost use Rattle.nq_ir.specs.Spots.{strands, spots, top_spot, by_tag, strands_at, spot_cells, OutersKept};
-ghost use Rattle.nq_ir.specs.Lets.{FlatRow, flat, AllGive};
+ghost use Rattle.nq_ir.specs.Shredded.{ShreddedTree, IsShreddedOf};
+ghost use Rattle.nq_ir.specs.Lets.{FlatRow, flat, AllGive, Inserts, insert_lets};
 ghost use Rattle.nq_ir.specs.WellFormed.{IsWellFormed, AreTablesOf, column_names};
 
 /// The spots of a well-formed form build its meaning. A spot is its tag and its cells: the choices of rows
@@ -42,4 +43,10 @@ pub fn let_laws()
         → AreTablesOf schema.tables tables → (rows : List (List FlatRow))
         → AllGive (column_names schema.tables) (rows_in (database schema.tables tables)) form rows
         → Same (bag_of (built (flat rows) form.element 0 (0, 1))) (form_meaning (rows_in (database schema.tables tables)) form) }
+{}
+
+/// The let form of a shredded form of a well-formed form: one let for each parent that has a strand, in the order
+/// of the parents, and none at the empty path; each part stands on its parent's let, and with it is its strand again.
+pub fn insertion_laws()
+    ensures { (schema : Schema) (s : ShreddedTree) → IsShreddedOf schema s → Inserts s (insert_lets s) }
 {}
