@@ -58,6 +58,10 @@ have_lets : (ds : List StrandTree) → Each (λ d. HasLet (lets_of ds) d.parent)
 unfolding Served
 have_lets ds = each_reordered (λ d. HasLet (lets_of ds) d.parent) (by_parent ds) ds (reordered_sym ds (by_parent ds) (parents_reordered ds)) (served (by_parent ds) 0)
 
+pub have_parents : (ds : List StrandTree) → Each (λ d. Among d.parent (0 ∷ map (λ l. l.parent) (lets_of ds))) ds
+have_parents ds =
+    each_map (λ d. HasLet (lets_of ds) d.parent) (λ d. Among d.parent (0 ∷ map parent_of (lets_of ds))) (λ d h. ⊎_elim (λ i. subst (λ t. Among d.parent (t ∷ map parent_of (lets_of ds))) i first) (λ m. later m) h) ds (have_lets ds)
+
 -- the let of a parent
 let_there : (P : LetTree → Type 0) (t : ℕ) (lets : List LetTree) → Each P lets → Among t (map parent_of lets) → P (get_or lets (lets_before t lets) no_let) × ((get_or lets (lets_before t lets) no_let).parent ≡ t) × (lets_before t lets < length lets)
 let_there P t [] e m = elim m [ ]
@@ -77,7 +81,7 @@ module _ (info : ℕ → List Gen × Conds) where
   abbrev pub Around : StrandTree → Type 0
   Around d = (info d.parent).0 ≡ d.outer_gens × (info d.parent).1 ≡ d.outer_conds
 
-  abbrev let_at : ℕ → LetTree
+  abbrev pub let_at : ℕ → LetTree
   let_at t = record { parent = t; gens = (info t).0; conds = (info t).1 }
 
   around_let : (d : StrandTree) → Around d → let_around d ≡ let_at d.parent
@@ -100,10 +104,13 @@ module _ (info : ℕ → List Gen × Conds) where
   parts_are lets top e (d ∷ ds) h a =
       ap₂ (λ (x : StrandTree) (z : List StrandTree). x ∷ z) (same_strand lets (let_number lets d.parent) d (number_leads lets top e d.parent h.0) a.0) (parts_are lets top e ds h.1 a.1)
 
+  pub lets_at : (here : List StrandTree) → Each Around here → Each (λ l. l ≡ let_at l.parent) (lets_of here)
+  lets_at here a = each_let (λ l. l ≡ let_at l.parent) here (each_map Around (λ d. let_around d ≡ let_at d.parent) around_let here a)
+
   -- the parts are the strands
   pub strands_again : (here : List StrandTree) → info 0 ≡ ([], no_cond) → Each Around here → map (strand_of (lets_of here)) (parts_on (lets_of here) here) ≡ here
   strands_again here top a =
-      parts_are (lets_of here) top (each_let (λ l. l ≡ let_at l.parent) here (each_map Around (λ d. let_around d ≡ let_at d.parent) around_let here a)) here (have_lets here) a
+      parts_are (lets_of here) top (lets_at here a) here (have_lets here) a
 
 -- each part has its let
 number_known : (lets : List LetTree) (t : ℕ) → HasLet lets t → let_number lets t ≤ length lets

@@ -10,7 +10,7 @@ use Rattle.nq_ir.specs.declared.base.Gen.{Gen}
 use Rattle.nq_ir.specs.declared.path.Step.{Step}
 use Rattle.nq_ir.specs.declared.path.Step.TheVariants.{Down, Field}
 use Rattle.nq_ir.specs.Among.{Among, first, later}
-use Rattle.nq_ir.specs.Lets.{LetTree, PartTree, Inserts, by_parent, insert_lets, let_around, let_number, lets_after, lets_of, part_from, parts_on}
+use Rattle.nq_ir.specs.Lets.{LetTree, PartTree, Inserts, by_parent, insert_lets, let_around, let_number, lets_after, lets_of, part_from, parts_on, strand_of}
 use Rattle.nq_ir.specs.Paths.{paths}
 use Rattle.nq_ir.specs.Shredded.{ShreddedTree, IsShreddedOf, IsRising, shredded}
 use Rattle.nq_ir.specs.Spots.{PlacedComp, StrandTree, by_tag, comps_at, comps_below, comps_in, levels, placed, shaped, strands_at}
@@ -102,12 +102,18 @@ module _ (schema : Schema) (form : FormTree) (w : IsWellFormed schema.tables for
   good =
       level_at schema form w p at (λ h. Each (StrandGood (look (all_scopes form.comps)) (all_tags form.comps)) h) (levels_all (StrandGood (look (all_scopes form.comps)) (all_tags form.comps)) form.element form.comps (strands_good schema.tables form.element form.comps w.typed (tags_apart schema form w) (distinct (comps_numbers form.comps) w.numbers_differ)))
 
-  pub around_here : Each (Around (look (all_scopes form.comps))) here
-  around_here = each_reordered (Around (look (all_scopes form.comps))) (map shaped there) here mixed (each_mapped shaped (StrandGood (look (all_scopes form.comps)) (all_tags form.comps)) (Around (look (all_scopes form.comps))) (λ c k. k.around) there good)
+  pub around_at : Each (Around (look (all_scopes form.comps))) here
+  around_at = each_reordered (Around (look (all_scopes form.comps))) (map shaped there) here mixed (each_mapped shaped (StrandGood (look (all_scopes form.comps)) (all_tags form.comps)) (Around (look (all_scopes form.comps))) (λ c k. k.around) there good)
 
   pub tags_here : IsRising (map (λ d. d.tag) here)
   tags_here =
       sorted_rises (λ (d : StrandTree). d.tag) (map shaped there) (subst Distinct (sym (map_of_map (λ (d : StrandTree). d.tag) shaped there)) (level_at schema form w p at (λ h. Distinct (map (λ d. d.tag) h)) (levels_apart (λ h. Distinct (map (λ d. d.tag) h)) (λ h d. d) form.element form.comps (distinct (comps_tags form.comps) w.tags_differ))))
+
+  pub good_at : (placed_here : List PlacedComp) × Reordered (map shaped placed_here) here × Each (StrandGood (look (all_scopes form.comps)) (all_tags form.comps)) placed_here
+  good_at = (there, mixed, good)
+
+  pub again_at : map (strand_of (lets_of here)) (parts_on (lets_of here) here) ≡ here
+  again_at = strands_again (look (all_scopes form.comps)) here refl around_at
 
   over : (Q : ℕ → Type 0) → Each (λ d. Q d.parent) there → Each (λ d. Q d.parent) here
   over Q e = each_reordered (λ d. Q d.parent) (map shaped there) here mixed (each_mapped shaped (λ d. Q d.parent) (λ d. Q d.parent) (λ c k. k) there e)
@@ -117,7 +123,7 @@ module _ (schema : Schema) (form : FormTree) (w : IsWellFormed schema.tables for
     parents_rise = parents_rise here;
     parents_serve = each_let (λ l. Among l.parent (map (λ d. d.parent) here)) here (each_parent_among here);
     lets_known = lets_known here;
-    strands = strands_again (look (all_scopes form.comps)) here refl around_here;
+    strands = again_at;
     tags_rise = subst IsRising (sym (map_of_map (λ (q : PartTree). q.tag) (λ (d : StrandTree). part_from (let_number (lets_of here) d.parent) d) here)) tags_here;
     at_top = λ e. no_lets (by_parent here) (each_reordered AtTop here (by_parent here) (reordered_sorted (λ (d f : StrandTree). _) here) (over (λ t. t ≡ 0) (subst (λ q. Each (λ d. d.parent ≡ 0) (shred form.element form.comps q)) (sym e) (placed_top form.comps))));
     below = λ n. from_one (lets_of here) here (over Positive (parents p n));

@@ -18,6 +18,9 @@ pub mod Allowed
 pub mod Stored
 pub mod Whole
 pub mod Inserted
+pub mod Written
+pub mod Pairs
+pub mod WrittenForms
 pub mod Forms
 pub mod Worked
 pub mod Examples
