@@ -8,7 +8,7 @@ pub mod Levels
 pub mod Paths
 pub mod LevelTypes
 pub mod Legible
-mod Ascending
+pub mod Ascending
 pub mod Insert
 pub mod Sorting
 pub mod Rows
@@ -17,6 +17,10 @@ pub mod Scopes
 pub mod Allowed
 pub mod Stored
 pub mod Whole
+pub mod Inserted
+pub mod Written
+pub mod Pairs
+pub mod WrittenForms
 pub mod Forms
 pub mod Worked
 pub mod Examples

@@ -5,6 +5,7 @@ pub mod Building
 pub mod Spots
 pub mod Shredded
 pub mod Lets
+pub mod Written
 pub mod WellFormed
 pub mod Paths
 pub mod Among
