@@ -11,6 +11,13 @@ use Rattle.std.proofs.lemmas.Slice.Eq.{bytes_eq-Decides}
 pub bytes_same : (a b : List ℕ) → a ≡ b → bytes_eq a b ≡ true
 bytes_same a b e = (bytes_eq-Decides a b).1 e
 
+pub bytes_differ : (a b : List ℕ) → (a ≡ b → ⊥) → bytes_eq a b ≡ false
+bytes_differ a b h = go (bytes_eq a b) refl
+  where
+    go : (t : Bool) → bytes_eq a b ≡ t → t ≡ false
+    go true e = absurd (h ((bytes_eq-Decides a b).0 e))
+    go false e = refl
+
 pub nat_same : (a b : ℕ) → a ≡ b → nat_eq a b ≡ true
 nat_same a b e = (Decides-eqb a b).1 e
 

@@ -3,6 +3,10 @@ pub mod Fits
 pub mod Building
 pub mod Spots
 pub mod Distinct
+pub mod RawMeanings
+pub mod RawTypes
+pub mod RawChoices
+pub mod TermForms
 pub mod Nested
 pub mod Levels
 pub mod Paths
