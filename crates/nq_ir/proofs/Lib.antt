@@ -7,6 +7,10 @@ pub mod RawMeanings
 pub mod RawTypes
 pub mod RawChoices
 pub mod TermForms
+pub mod Numbered
+pub mod Dealt
+pub mod NumberedTypes
+pub mod NormalForms
 pub mod Nested
 pub mod Levels
 pub mod Paths

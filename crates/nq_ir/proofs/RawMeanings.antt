@@ -227,7 +227,6 @@ runs_values ts (raw_comp gs bs b cs) env =
     ap₂ (λ (x y : List Nested). x ++ y) (map_of_map (λ e. raw_meaning ts b e) (λ rs. rs ++ env) f ∙ sym (map_of_map (λ (x : Run). raw_meaning ts x.1 (x.2 ++ env)) (λ rs. (gs, b, rs)) f)) (runs_values ts cs env)
     ∙ sym (map-append (λ (x : Run). raw_meaning ts x.1 (x.2 ++ env)) (map (λ rs. (gs, b, rs)) f) (runs ts cs env))
 
-
 pub runs_length : (ts : Tables) (cs : RawComps) (env : List Row) → Each (λ (x : Run). length x.2 ≡ length x.0) (runs ts cs env)
 unfolding runs
 runs_length ts no_raw_comp env = tt
@@ -248,4 +247,3 @@ each_comp_means ts (raw_comp gs bs b cs) rest env =
     let one : flat_map h (map (λ rs. (gs, b, rs)) f) ≡ flat_map (λ e. raw_comps_meaning ts (rest gs b) e) (raw_kept ts gs bs env) = flat_of_map h (λ rs. (gs, b, rs)) f ∙ sym (flat_of_map (λ e. raw_comps_meaning ts (rest gs b) e) (λ rs. rs ++ env) f) in
     let left : Reordered (flat_map h (map (λ rs. (gs, b, rs)) f)) (raw_comps_meaning ts (inside gs bs (rest gs b)) env) = subst (λ (l : List Nested). Reordered l (raw_comps_meaning ts (inside gs bs (rest gs b)) env)) (sym one) (reordered_sym (raw_comps_meaning ts (inside gs bs (rest gs b)) env) (flat_map (λ e. raw_comps_meaning ts (rest gs b) e) (raw_kept ts gs bs env)) (inside_means ts gs bs (rest gs b) env)) in
     subst₂ (λ (x y : List Nested). Reordered x y) (sym (flat_join h (map (λ rs. (gs, b, rs)) f) (runs ts cs env))) (sym (append_means ts (inside gs bs (rest gs b)) (each_comp cs rest) env)) (reordered_append (flat_map h (map (λ rs. (gs, b, rs)) f)) (flat_map h (runs ts cs env)) (raw_comps_meaning ts (inside gs bs (rest gs b)) env) (raw_comps_meaning ts (each_comp cs rest) env) left (each_comp_means ts cs rest env))
-
