@@ -1,5 +1,5 @@
 -- Sorting by a number.
-use Rattle.std.proofs.Common.{◌≡◌, ℕ, ◌<◌, ◌≤◌, List, [], ◌∷◌, map, refl, sym, ap, ◌∙◌, Bool, true, false, cond, arith, true≢false}
+use Rattle.std.proofs.Common.{◌≡◌, ℕ, ◌≤◌, List, [], ◌∷◌, refl, sym, ap, ◌∙◌, Bool, true, false, cond, arith, true≢false}
 use Rattle.std.specs.List.{AllByRecursion as Each}
 use Rattle.std.specs.Ordering.{nat_cmp, is_gt, ordering_reverse}
 use Rattle.std.specs.declared.cmp.Ordering.{Ordering}
@@ -8,7 +8,6 @@ use Rattle.std.proofs.lemmas.Cmp.{nat_cmp_total}
 use Rattle.std.proofs.lemmas.Map.Keys.{le_from_not_gt}
 use Rattle.nq_model.proofs.Numberings.{each_map}
 use Rattle.nq_model.specs.Orders.{put_by, sorted_by}
-use Rattle.nq_ir.specs.Shredded.{IsRising}
 
 ge_from_gt : (a b : ℕ) → is_gt (nat_cmp a b) ≡ true → b ≤ a
 ge_from_gt a b h = go (nat_cmp a b) refl

@@ -1,10 +1,10 @@
 -- Tags in pre-order are 1, 2 and so on, and so are the numbers of generators in the order of the printed text.
-use Rattle.std.proofs.Common.{◌≡◌, ℕ, zero, suc, ◌+◌, ◌<◌, ◌≤◌, List, [], ◌∷◌, ◌++◌, map, refl, sym, ap, ap₂, ◌∙◌, length, arith}
+use Rattle.std.proofs.Common.{◌≡◌, ℕ, zero, suc, ◌+◌, ◌≤◌, List, [], ◌∷◌, ◌++◌, map, refl, sym, ap, ap₂, ◌∙◌, length, arith}
 use Rattle.std.specs.List.{AllByRecursion as Each}
 use Rattle.nq_model.specs.Numberings.{count_from}
 use Rattle.nq_model.specs.Orders.{AreDistinct}
 use Rattle.nq_model.specs.Types.{TypeTree, FieldTypes}
-use Rattle.nq_ir.specs.Meanings.{Label}
+use Rattle.nq_model.specs.NamedRows.{Label}
 use Rattle.nq_ir.specs.WellFormed.{base_numbers, conds_numbers, tests_numbers, body_numbers, bodies_numbers, comps_numbers, body_tags, bodies_tags, comps_tags}
 use Rattle.nq_ir.specs.RawForms.{RawBase, raw_literal, raw_column, raw_unary, raw_binary, raw_choose, raw_empty, RawConds, no_raw, and_raw, RawTests, no_raw_test, raw_test, RawBody, raw_plain, raw_rec, raw_bag, RawFields, no_raw_field, raw_field, RawComps, no_raw_comp, raw_comp}
 use Rattle.nq_ir.specs.NormalForms.{gens_in_base, gens_in_conds, gens_in_tests, gens_in_body, gens_in_fields, gens_in_comps, tags_in_body, tags_in_fields, tags_in_comps, number_gens, deal, number_base, number_conds, number_tests, number_body, number_fields, number_comps, element_type, field_types, first_type, rest_types}

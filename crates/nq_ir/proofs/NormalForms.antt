@@ -1,5 +1,5 @@
 -- The normal form of a typed plain term is well formed, and means what the term means.
-use Rattle.std.proofs.Common.{◌≡◌, ℕ, zero, suc, ◌+◌, ◌<◌, ◌≤◌, ◌^◌, List, [], ◌∷◌, map, refl, sym, ap, ◌∙◌, subst, true, length, arith, Some, find, Bool, false, cond}
+use Rattle.std.proofs.Common.{◌≡◌, ℕ, zero, suc, ◌+◌, ◌<◌, ◌≤◌, ◌^◌, List, [], ◌∷◌, refl, sym, ap, ◌∙◌, subst, true, length, arith, Some, find, Bool, false, cond}
 use Rattle.std.specs.List.{AllByRecursion as Each}
 use Rattle.std.specs.Str.{bytes_eq}
 use Rattle.std.proofs.lemmas.List.Elements.{recursion_from_All}
@@ -8,18 +8,18 @@ use Rattle.nq_model.specs.Meaning.{meaning}
 use Rattle.nq_model.specs.Numberings.{count_from}
 use Rattle.nq_model.specs.Orders.{AreDistinct}
 use Rattle.nq_model.specs.Proper.{IsProperTerm, IsPlainTerm}
-use Rattle.nq_model.specs.Tables.{IsProperShape, IsProperSchema}
+use Rattle.nq_model.specs.Tables.{IsProperShape, IsProperSchema, names_of}
 use Rattle.nq_model.specs.Terms.{TermTree}
 use Rattle.nq_model.specs.Types.{TypeTree}
 use Rattle.nq_model.specs.Typing.{HasType, shape_named}
 use Rattle.nq_model.specs.Values.{Nested, bag_of, Same}
 use Rattle.nq_model.specs.declared.table.Cell.{Cell}
 use Rattle.nq_model.specs.declared.table.Schema.{Schema}
-use Rattle.nq_model.specs.declared.table.Table.{Table}
 use Rattle.nq_model.specs.declared.table.TableShape.{TableShape}
 use Rattle.nq_model.proofs.ProperTypes.{ordered_type}
 use Rattle.nq_model.proofs.Typing.{well_formed_type}
-use Rattle.nq_ir.specs.Meanings.{Label, rows_in, comps_meaning, form_meaning}
+use Rattle.nq_model.specs.NamedRows.{named}
+use Rattle.nq_ir.specs.Meanings.{rows_in, comps_meaning, form_meaning}
 use Rattle.nq_ir.specs.RawForms.{RawBody, raw_plain, raw_rec, raw_bag, raw_comps_in, raw_form}
 use Rattle.nq_ir.specs.NormalForms.{number_comps, normal_form, tags_in_comps, gens_in_comps}
 use Rattle.nq_ir.specs.WellFormed.{IsRowOf, IsWellFormed, AreTablesOf, comps_tags, comps_numbers}
@@ -27,8 +27,8 @@ use Rattle.nq_ir.proofs.Dealt.{tags_in_order, numbers_in_order, counted_differ}
 use Rattle.nq_ir.proofs.Numbered.{form_numbered}
 use Rattle.nq_ir.proofs.NumberedTypes.{form_typed}
 use Rattle.nq_ir.proofs.RawMeanings.{raw_meaning}
-use Rattle.nq_ir.proofs.RawTypes.{RawBodyHas, RawCompsHave, comps_have, raw_has, not_bag, mixed}
-use Rattle.nq_ir.proofs.Stored.{bytes_turned}
+use Rattle.nq_ir.proofs.RawTypes.{RawBodyHas, comps_have, raw_has, not_bag, mixed}
+use Rattle.nq_ir.proofs.Equal.{bytes_turned}
 use Rattle.nq_ir.proofs.TermForms.{AreFilled, raw_means}
 
 counted_length : (a k : ℕ) → length (count_from a k) ≡ k
@@ -74,15 +74,15 @@ module _ (schema : Schema) (proper : IsProperSchema schema) where
       go (raw_bag cs) k s = subst (λ (l : List Nested). Same (meaning tables [] m) (bag_of l)) (form_numbered (rows_in tables) cs a) s
 
 -- tables of the schema are there, each with its rows
-pub tables_there : (shapes : List TableShape) (tables : List Table) → AreTablesOf shapes tables → AreFilled shapes (database shapes tables)
+pub tables_there : (shapes : List TableShape) (tables : List (List (List Cell))) → AreTablesOf shapes tables → AreFilled shapes (database shapes tables)
 tables_there [] tables h t shape e = absurd (cc)
 tables_there (s ∷ shapes) [] h t shape e = absurd h
-tables_there (s ∷ shapes) (table ∷ tables) h t shape e = go (bytes_eq t s.name) refl e (λ i. tables_there shapes tables h.1 t shape i)
+tables_there (s ∷ shapes) (own ∷ tables) h t shape e = go (bytes_eq t s.name) (bytes_eq s.name t) (bytes_turned t s.name) e (λ i. tables_there shapes tables h.1 t shape i)
   where
-    go : (b : Bool) → bytes_eq t s.name ≡ b → cond b (Some s) (shape_named t shapes) ≡ Some shape → (shape_named t shapes ≡ Some shape → (rows : List (List Cell)) × (find (λ (x : FilledTable). bytes_eq x.name t) (database shapes tables) ≡ Some (filled shape rows)) × Each (IsRowOf shape.columns) rows) → (rows : List (List Cell)) × (cond (bytes_eq s.name t) (Some (filled s table.rows)) (find (λ (x : FilledTable). bytes_eq x.name t) (database shapes tables)) ≡ Some (filled shape rows)) × Each (IsRowOf shape.columns) rows
-    go true q i later =
+    go : (b d : Bool) → b ≡ d → cond b (Some s) (shape_named t shapes) ≡ Some shape → (shape_named t shapes ≡ Some shape → (rows : List (List Cell)) × (find (λ (x : FilledTable). bytes_eq x.name t) (database shapes tables) ≡ Some (filled shape rows)) × (rows_in (database shapes tables) t ≡ named (names_of shape.columns) rows) × Each (IsRowOf shape.columns) rows) → (rows : List (List Cell)) × (cond d (Some (filled s own)) (find (λ (x : FilledTable). bytes_eq x.name t) (database shapes tables)) ≡ Some (filled shape rows)) × (cond b (named (names_of s.columns) own) (rows_in (database shapes tables) t) ≡ named (names_of shape.columns) rows) × Each (IsRowOf shape.columns) rows
+    go true true q i later =
         let same : s ≡ shape = cc in
-        (table.rows, ap (λ z. cond z (Some (filled s table.rows)) (find (λ (x : FilledTable). bytes_eq x.name t) (database shapes tables))) (sym (bytes_turned t s.name) ∙ q) ∙ ap (λ (z : TableShape). Some (filled z table.rows)) same, subst (λ (z : TableShape). Each (IsRowOf z.columns) table.rows) same h.0.rows)
-    go false q i later =
-        let r = later i in
-        (r.0, ap (λ z. cond z (Some (filled s table.rows)) (find (λ (x : FilledTable). bytes_eq x.name t) (database shapes tables))) (sym (bytes_turned t s.name) ∙ q) ∙ r.1, r.2)
+        (own, ap (λ (z : TableShape). Some (filled z own)) same, ap (λ (z : TableShape). named (names_of z.columns) own) same, subst (λ (z : TableShape). Each (IsRowOf z.columns) own) same h.0.rows)
+    go true false q i later = absurd (cc)
+    go false true q i later = absurd (cc)
+    go false false q i later = later i

@@ -6,9 +6,10 @@ use Rattle.nq_model.specs.Operators.{is_true, unary_value, binary_value}
 use Rattle.nq_model.specs.Types.{TypeTree, FieldTypes}
 use Rattle.nq_model.specs.Values.{Nested, base, rec, field, bag_of}
 use Rattle.nq_model.specs.declared.table.Cell.TheVariants as cell
-use Rattle.nq_ir.specs.Meanings.{Label, Row, Tables, Env, cell_under, row_of, choices, value, all_true, no_kept, body_meaning, bodies_meaning, comps_meaning}
+use Rattle.nq_model.specs.NamedRows.{Label, Row, cell_under}
+use Rattle.nq_ir.specs.Meanings.{Tables, Env, row_of, choices, value, all_true, no_kept, body_meaning, bodies_meaning, comps_meaning}
 use Rattle.nq_ir.specs.RawForms.{RawBase, raw_literal, raw_column, raw_unary, raw_binary, raw_choose, raw_empty, RawConds, no_raw, and_raw, RawTests, no_raw_test, raw_test, RawBody, raw_plain, raw_rec, raw_bag, RawFields, no_raw_field, raw_field, RawComps, no_raw_comp, raw_comp}
-use Rattle.nq_ir.specs.NormalForms.{gens_in_base, gens_in_conds, gens_in_tests, gens_in_body, gens_in_fields, gens_in_comps, tags_in_body, tags_in_fields, tags_in_comps, number_gens, deal, number_base, number_conds, number_tests, number_body, number_fields, number_comps, element_type, field_types, first_type, rest_types}
+use Rattle.nq_ir.specs.NormalForms.{gens_in_base, gens_in_conds, gens_in_body, tags_in_body, number_gens, deal, number_base, number_conds, number_tests, number_body, number_fields, number_comps, element_type, field_types, first_type, rest_types}
 use Rattle.nq_ir.proofs.Distinct.{each_left, each_right, each_join}
 use Rattle.nq_ir.proofs.Equal.{nat_same, nat_differ}
 use Rattle.nq_ir.proofs.RawMeanings.{picks, raw_value, raw_true, raw_none, raw_meaning, raw_fields_meaning, raw_comps_meaning}

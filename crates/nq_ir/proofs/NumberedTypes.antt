@@ -1,19 +1,19 @@
 -- The numbering of a typed form's generators keeps its types: a column names the same table by number.
-use Rattle.std.proofs.Common.{◌≡◌, ℕ, zero, suc, ◌+◌, ◌<◌, ◌≤◌, List, [], ◌∷◌, ◌++◌, map, refl, sym, ap, ◌∙◌, subst, subst₂, Bool, true, false, cond, length, get_or, append_assoc, append-nil, nat_eq, arith, Some, ⊎_elim}
+use Rattle.std.proofs.Common.{◌≡◌, ℕ, zero, suc, ◌+◌, ◌<◌, ◌≤◌, List, [], ◌∷◌, ◌++◌, refl, sym, ap, ◌∙◌, subst, subst₂, false, cond, length, get_or, append_assoc, append-nil, nat_eq, arith, Some, ⊎_elim}
 use Rattle.std.specs.List.{AllByRecursion as Each}
-use Rattle.nq_model.specs.Tables.{Columns, base_type}
+use Rattle.nq_model.specs.Tables.{base_type}
 use Rattle.nq_model.specs.Types.{TypeTree, FieldTypes}
 use Rattle.nq_model.specs.declared.table.ColumnType.{ColumnType}
 use Rattle.nq_model.specs.declared.table.ColumnType.TheVariants as column_type
 use Rattle.nq_model.specs.declared.table.TableShape.{TableShape}
 use Rattle.nq_ir.specs.declared.base.Gen.{Gen}
-use Rattle.nq_ir.specs.Meanings.{Label}
+use Rattle.nq_model.specs.NamedRows.{Label}
 use Rattle.nq_ir.specs.WellFormed.{table_columns, column_type_in, gen_columns, AreTables, BaseHas, CondsHave, TestsHave, BodyHas, BodiesHave, CompsHave}
 use Rattle.nq_ir.specs.Trees.{BaseTree, plain_body}
 use Rattle.nq_ir.specs.RawForms.{RawBase, raw_literal, raw_column, raw_unary, raw_binary, raw_choose, raw_empty, RawConds, no_raw, and_raw, RawTests, no_raw_test, raw_test, RawBody, raw_plain, raw_rec, raw_bag, RawFields, no_raw_field, raw_field, RawComps, no_raw_comp, raw_comp}
 use Rattle.nq_ir.specs.NormalForms.{gens_in_base, gens_in_conds, gens_in_body, tags_in_body, number_gens, deal, number_base, number_conds, number_tests, number_body, number_fields, number_comps}
 use Rattle.nq_ir.proofs.Distinct.{each_left, each_right, each_join}
-use Rattle.nq_ir.proofs.Equal.{nat_same, nat_differ}
+use Rattle.nq_ir.proofs.Equal.{nat_same}
 use Rattle.nq_ir.proofs.Numbered.{each_weaker, below_or_not, not_below, not_above}
 use Rattle.nq_ir.proofs.RawTypes.{under, Known, RawColumnHas, RawBaseHas, RawCondsHave, RawTestsHave, RawBodyHas, RawFieldsHave, RawCompsHave}
 

@@ -13,11 +13,12 @@ use Rattle.nq_model.specs.declared.table.TableShape.{TableShape}
 use Rattle.nq_model.specs.declared.term.Unary.TheVariants.{Not}
 use Rattle.nq_model.proofs.Bags.{matched_weaker, reordered_append, reordered_sym}
 use Rattle.nq_model.proofs.Sameness.{same_refl, same_bag, matched_same, elements_back}
-use Rattle.nq_ir.specs.Meanings.{Label, Row, Tables, no_cell}
-use Rattle.nq_ir.specs.RawForms.{RawBase, RawConds, no_raw, and_raw, raw_unary, RawBody, raw_plain, raw_rec, raw_bag, RawFields, no_raw_field, raw_field, RawComps, no_raw_comp, raw_comp, up_body, raw_base_in, raw_comps_in, raw_field_among, raw_field_in, put_raw, append_raw, inside, where_raw, choice, choice_of_fields, raw_tests_of, no_raw_body}
+use Rattle.nq_model.specs.NamedRows.{Label, Row, no_cell}
+use Rattle.nq_ir.specs.Meanings.{Tables}
+use Rattle.nq_ir.specs.RawForms.{RawBase, no_raw, and_raw, raw_unary, RawBody, raw_plain, raw_rec, raw_bag, RawFields, no_raw_field, raw_field, RawComps, no_raw_comp, raw_comp, up_body, raw_base_in, raw_comps_in, raw_field_among, raw_field_in, put_raw, append_raw, inside, where_raw, choice, choice_of_fields, raw_tests_of, no_raw_body}
 use Rattle.nq_ir.proofs.RawMeanings.{picks, raw_value, raw_true, raw_none, raw_kept, raw_meaning, raw_fields_meaning, raw_comps_meaning, body_skips, inside_means, append_means}
-use Rattle.nq_ir.proofs.RawTypes.{RawBodyHas, RawFieldsHave, RawCompsHave, not_record, not_bag, mixed}
-use Rattle.nq_ir.proofs.Stored.{bytes_turned}
+use Rattle.nq_ir.proofs.RawTypes.{RawBodyHas, RawFieldsHave, not_record, not_bag, mixed}
+use Rattle.nq_ir.proofs.Equal.{bytes_turned}
 
 pub unpick_map : {A B : Type 0} (g : A → B) {z : B} {rest : List B} (ys : List A) → Pick z (map g ys) rest → (y : A) × (left : List A) × Pick y ys left × (z ≡ g y) × (rest ≡ map g left)
 unpick_map g ys p = go g ys p refl

@@ -10,7 +10,8 @@ use Rattle.nq_model.specs.Values.{Nested, base, rec, Fields, field, bag_of}
 use Rattle.nq_model.specs.declared.table.Cell.{Cell}
 use Rattle.nq_model.specs.declared.table.Cell.TheVariants as cell
 use Rattle.nq_model.proofs.Bags.{reordered_refl, reordered_trans, reordered_append, reordered_swap, reordered_sym}
-use Rattle.nq_ir.specs.Meanings.{Label, Row, Tables, cell_under}
+use Rattle.nq_model.specs.NamedRows.{Label, Row, cell_under}
+use Rattle.nq_ir.specs.Meanings.{Tables}
 use Rattle.nq_ir.specs.RawForms.{RawBase, raw_literal, raw_column, raw_unary, raw_binary, raw_choose, raw_empty, RawConds, no_raw, and_raw, RawTests, no_raw_test, raw_test, RawBody, raw_plain, raw_rec, raw_bag, RawFields, no_raw_field, raw_field, RawComps, no_raw_comp, raw_comp, up_index, up_base, up_bases, up_tests, up_body, up_fields, up_comps, both_raw, append_raw, inside, each_comp}
 use Rattle.nq_ir.proofs.Spots.{each_filter}
 use Rattle.nq_ir.proofs.Nested.{map_flat, map_of_map, flat_same, flat_flat, flat_of_map, each_flat, each_mapped}

@@ -6,18 +6,17 @@ use Rattle.nq_model.specs.Cells.{column_type_of}
 use Rattle.nq_model.specs.Operators.{unary_type, binary_type}
 use Rattle.nq_model.specs.Orders.{label_cmp, by_label, AreDistinct}
 use Rattle.nq_model.specs.Proper.{IsProperTerm, AreProperTerms, IsPlainTerm, ArePlainTerms}
-use Rattle.nq_model.specs.Tables.{Columns, names_of, base_type, table_type, IsProperShape, IsProperSchema}
+use Rattle.nq_model.specs.Tables.{Columns, names_of, base_type, IsProperShape}
 use Rattle.nq_model.specs.Terms.{TermTree, TermFields}
 use Rattle.nq_model.specs.Types.{TypeTree, FieldTypes, field_types_of}
 use Rattle.nq_model.specs.Typing.{HasType, HaveTypes, shape_named, type_at, put_type}
-use Rattle.nq_model.specs.declared.table.Cell.TheVariants as cell
 use Rattle.nq_model.specs.declared.table.ColumnType.{ColumnType}
 use Rattle.nq_model.specs.declared.table.ColumnType.TheVariants as column_type
 use Rattle.nq_model.specs.declared.table.Schema.{Schema}
 use Rattle.nq_model.specs.declared.table.TableShape.{TableShape}
 use Rattle.nq_model.specs.declared.term.Unary.TheVariants.{Not}
 use Rattle.nq_model.proofs.Typing.{put_type_list, either_some}
-use Rattle.nq_ir.specs.Meanings.{Label}
+use Rattle.nq_model.specs.NamedRows.{Label}
 use Rattle.nq_ir.specs.WellFormed.{columns_or_none, table_columns, IsLiteral, column_type_in}
 use Rattle.nq_ir.specs.RawForms.{RawBase, raw_literal, raw_column, raw_unary, raw_binary, raw_choose, raw_empty, RawConds, no_raw, and_raw, RawTests, no_raw_test, raw_test, RawBody, raw_plain, raw_rec, raw_bag, RawFields, no_raw_field, raw_field, RawComps, no_raw_comp, raw_comp, up_index, up_base, up_bases, up_tests, up_body, up_fields, up_comps, raw_base_in, raw_comps_in, raw_field_among, raw_field_in, put_raw, both_raw, append_raw, inside, where_raw, choice, choice_of_fields, raw_tests_of, columns_body, each_comp, no_raw_body, raw_form, raw_fields}
 use Rattle.nq_ir.proofs.Distinct.{each_join}

@@ -1,12 +1,12 @@
 -- Rows of the tables of a schema have the schema's columns, and cells tell them apart.
-use Rattle.std.proofs.Common.{◌≡◌, ◌≢◌, ℕ, List, [], ◌∷◌, map, zip, refl, sym, ap, ap₂, ◌∙◌, Bool, true, false, cond, find, Some}
+use Rattle.std.proofs.Common.{◌≡◌, ◌≢◌, ℕ, List, [], ◌∷◌, map, zip, refl, sym, ap, ap₂, ◌∙◌, Bool, true, false, cond, Some}
 use Rattle.std.specs.Str.{bytes_eq}
 use Rattle.std.specs.List.{AllByRecursion as Each}
 use Rattle.std.proofs.lemmas.Slice.Eq.{bytes_eq-Decides}
 use Rattle.std.proofs.lemmas.List.Elements.{recursion_from_All}
 use Rattle.nq_model.proofs.Numberings.{each_map}
 use Rattle.nq_model.specs.Cells.{column_type_of}
-use Rattle.nq_model.specs.Databases.{FilledTable, filled, database}
+use Rattle.nq_model.specs.Databases.{database}
 use Rattle.nq_model.specs.Numberings.{TellsApart}
 use Rattle.nq_model.specs.Orders.{AreDistinct}
 use Rattle.nq_model.specs.Typing.{shape_named}

@@ -1,11 +1,11 @@
 -- The body of a typed plain term means what the term means.
-use Rattle.std.proofs.Common.{◌≡◌, ℕ, List, [], ◌∷◌, ◌++◌, map, zip, refl, sym, ap, ap₂, ◌∙◌, subst, subst₂, Bool, true, false, cond, filter, flat_map, length, append-nil, Option, Some, find}
+use Rattle.std.proofs.Common.{◌≡◌, List, [], ◌∷◌, ◌++◌, map, zip, refl, sym, ap, ap₂, ◌∙◌, subst, subst₂, Bool, true, false, cond, filter, flat_map, length, append-nil, Some, find}
 use Rattle.std.specs.List.{AllByRecursion as Each}
 use Rattle.std.specs.Str.{bytes_eq}
-use Rattle.nq_model.specs.Bags.{Pick, here, Matched}
+use Rattle.nq_model.specs.Bags.{here, Matched}
 use Rattle.nq_model.specs.Cells.{RowFits, column_type_of}
 use Rattle.nq_model.specs.Databases.{FilledTable, filled, rows_value}
-use Rattle.nq_model.specs.Meaning.{meaning, field_meanings, cell_of, elements_in, is_none, put_field}
+use Rattle.nq_model.specs.Meaning.{meaning, field_meanings, cell_of, elements_in}
 use Rattle.nq_model.specs.Operators.{is_true, unary_value, binary_value}
 use Rattle.nq_model.specs.Orders.{AreDistinct, by_label}
 use Rattle.nq_model.specs.Proper.{IsProperTerm, AreProperTerms, IsPlainTerm, ArePlainTerms}
@@ -13,16 +13,16 @@ use Rattle.nq_model.specs.Tables.{Columns, names_of, types_of, base_type, row_re
 use Rattle.nq_model.specs.Terms.{TermTree, TermFields}
 use Rattle.nq_model.specs.Types.{TypeTree, FieldTypes}
 use Rattle.nq_model.specs.Typing.{HasType, HaveTypes, shape_named}
-use Rattle.nq_model.specs.Values.{Nested, base, rec, Fields, fields_of, bag_of, Same, SameFields}
+use Rattle.nq_model.specs.Values.{Nested, base, rec, fields_of, bag_of, Same, SameFields}
 use Rattle.nq_model.specs.declared.table.Cell.{Cell}
 use Rattle.nq_model.specs.declared.table.Cell.TheVariants as cell
-use Rattle.nq_model.specs.declared.table.ColumnType.{ColumnType}
 use Rattle.nq_model.specs.declared.table.Schema.{Schema}
 use Rattle.nq_model.specs.declared.table.TableShape.{TableShape}
 use Rattle.nq_model.proofs.Bags.{matched_append, matched_flat_map, matched_refl, matched_reordered}
 use Rattle.nq_model.proofs.Sameness.{same_refl, same_trans, same_bag}
-use Rattle.nq_ir.specs.Meanings.{Label, Row, Tables, cell_under, named_rows, rows_in}
-use Rattle.nq_ir.specs.RawForms.{RawBody, raw_plain, raw_rec, raw_bag, RawComps, no_raw_comp, raw_comp, RawBase, no_raw, and_raw, raw_column, up_body, raw_base_in, raw_comps_in, put_raw, append_raw, inside, choice, columns_body, each_comp, raw_form, raw_fields}
+use Rattle.nq_model.specs.NamedRows.{Label, Row, cell_under, named}
+use Rattle.nq_ir.specs.Meanings.{Tables, rows_in}
+use Rattle.nq_ir.specs.RawForms.{RawBody, raw_plain, raw_rec, RawComps, no_raw_comp, raw_comp, no_raw, and_raw, raw_column, up_body, raw_base_in, raw_comps_in, append_raw, inside, choice, columns_body, each_comp, raw_form, raw_fields}
 use Rattle.nq_ir.specs.WellFormed.{columns_or_none, table_columns, IsRowOf}
 use Rattle.nq_ir.proofs.Equal.{bytes_same, bytes_differ}
 use Rattle.nq_ir.proofs.RawMeanings.{raw_value, raw_meaning, raw_fields_meaning, raw_comps_meaning, Run, runs, runs_values, runs_length, append_means, each_comp_means}
@@ -70,7 +70,7 @@ row_means ts whole env (x ∷ xs) (c ∷ row) e h =
 -- each table of the schema is there, with rows that fit
 abbrev pub AreFilled : List TableShape → List FilledTable → Type 0
 AreFilled shapes tables =
-    (t : Label) (shape : TableShape) → shape_named t shapes ≡ Some shape → (rows : List (List Cell)) × (find (λ table. bytes_eq table.name t) tables ≡ Some (filled shape rows)) × Each (IsRowOf shape.columns) rows
+    (t : Label) (shape : TableShape) → shape_named t shapes ≡ Some shape → (rows : List (List Cell)) × (find (λ table. bytes_eq table.name t) tables ≡ Some (filled shape rows)) × (rows_in tables t ≡ named (names_of shape.columns) rows) × Each (IsRowOf shape.columns) rows
 
 -- over tables of a proper schema
 module _ (schema : Schema) (proper : Each IsProperShape schema.tables) (tables : List FilledTable) (there : AreFilled schema.tables tables) where
@@ -94,8 +94,8 @@ module _ (schema : Schema) (proper : Each IsProperShape schema.tables) (tables :
         let found = there t h.0 h.1 in
         let good = shape_found IsProperShape t schema.tables h.0 proper h.1 in
         let own : List Nested = map (row_record (names_of h.0.columns)) found.0 in
-        let rows : map (λ row. zip (names_of h.0.columns) row) found.0 ≡ ts t = sym (ap named_rows found.1) in
-        let all : own ≡ raw_comps_meaning ts (raw_comp (t ∷ []) no_raw (raw_rec (columns_body (table_columns schema.tables t))) no_raw_comp) env = table_rows h.0.columns good.columns_differ env found.0 found.2 ∙ ap₂ (λ (z : Columns) (l : List Row). map (λ e. rec (raw_fields_meaning ts (columns_body z) e)) (map (λ rs. rs ++ env) (filter (λ rs. true) (flat_map (λ r. (r ∷ []) ∷ []) l)))) cols rows ∙ sym (append-nil (map (λ e. rec (raw_fields_meaning ts (columns_body (table_columns schema.tables t)) e)) (map (λ rs. rs ++ env) (filter (λ rs. true) (flat_map (λ r. (r ∷ []) ∷ []) (ts t)))))) in
+        let rows : map (λ row. zip (names_of h.0.columns) row) found.0 ≡ ts t = sym found.2 in
+        let all : own ≡ raw_comps_meaning ts (raw_comp (t ∷ []) no_raw (raw_rec (columns_body (table_columns schema.tables t))) no_raw_comp) env = table_rows h.0.columns good.columns_differ env found.0 found.3 ∙ ap₂ (λ (z : Columns) (l : List Row). map (λ e. rec (raw_fields_meaning ts (columns_body z) e)) (map (λ rs. rs ++ env) (filter (λ rs. true) (flat_map (λ r. (r ∷ []) ∷ []) l)))) cols rows ∙ sym (append-nil (map (λ e. rec (raw_fields_meaning ts (columns_body (table_columns schema.tables t)) e)) (map (λ rs. rs ++ env) (filter (λ rs. true) (flat_map (λ r. (r ∷ []) ∷ []) (ts t)))))) in
         subst (λ z. Same z (bag_of (raw_comps_meaning ts (raw_comp (t ∷ []) no_raw (raw_rec (columns_body (table_columns schema.tables t))) no_raw_comp) env))) (sym (ap rows_value found.1)) (same_bag own (raw_comps_meaning ts (raw_comp (t ∷ []) no_raw (raw_rec (columns_body (table_columns schema.tables t))) no_raw_comp) env) (subst (λ (l : List Nested). Matched Same own l) all (matched_refl Same same_refl own)))
     raw_means (TermTree.unary o a) g A p q h vs es sc env w r =
         ap (unary_value o) (cell_means ts env (meaning tables vs a) (raw_form schema.tables a es) (raw_means a g (base_type h.0) p q h.2 vs es sc env w r))

@@ -9,7 +9,7 @@ ghost use Rattle.nq_model.specs.Types.{TypeTree, bag};
 ghost use Rattle.nq_model.specs.Typing.{HasType};
 ghost use Rattle.nq_model.specs.Values.{Same};
 ghost use Rattle.nq_model.specs.declared.table.Schema.{Schema};
-ghost use Rattle.nq_model.specs.declared.table.Table.{Table};
+ghost use Rattle.nq_model.specs.declared.table.Cell.{Cell};
 ghost use Rattle.nq_ir.specs.Meanings.{form_meaning, rows_in};
 ghost use Rattle.nq_ir.specs.NormalForms.{normal_form};
 ghost use Rattle.nq_ir.specs.WellFormed.{AreTablesOf, IsWellFormed, comps_numbers, comps_tags};
@@ -24,7 +24,7 @@ pub fn normal_form_laws()
         → IsWellFormed schema.tables (normal_form schema.tables element term) }
     ensures meaning { (schema : Schema) (element : TypeTree) (term : TermTree) → IsProperSchema schema
         → IsPlainTerm term → IsProperTerm term → IsClosed term → HasType schema [] term (bag element)
-        → (tables : List Table) → AreTablesOf schema.tables tables
+        → (tables : List (List (List Cell))) → AreTablesOf schema.tables tables
         → Same (meaning (database schema.tables tables) [] term)
         (form_meaning (rows_in (database schema.tables tables)) (normal_form schema.tables element term)) }
 {}
