@@ -10,7 +10,9 @@ pub mod TermForms
 pub mod Numbered
 pub mod Dealt
 pub mod NumberedTypes
+pub mod Words
 pub mod NormalForms
+pub mod TypedStrands
 pub mod Nested
 pub mod Levels
 pub mod Paths

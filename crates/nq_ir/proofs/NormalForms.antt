@@ -18,11 +18,13 @@ use Rattle.nq_model.specs.declared.table.Schema.{Schema}
 use Rattle.nq_model.specs.declared.table.TableShape.{TableShape}
 use Rattle.nq_model.proofs.ProperTypes.{ordered_type}
 use Rattle.nq_model.proofs.Typing.{well_formed_type}
-use Rattle.nq_model.specs.NamedRows.{named}
+use Rattle.nq_model.specs.NamedRows.{Label, named}
 use Rattle.nq_ir.specs.Meanings.{rows_in, comps_meaning, form_meaning}
 use Rattle.nq_ir.specs.RawForms.{RawBody, raw_plain, raw_rec, raw_bag, raw_comps_in, raw_form}
 use Rattle.nq_ir.specs.NormalForms.{number_comps, normal_form, tags_in_comps, gens_in_comps}
 use Rattle.nq_ir.specs.WellFormed.{IsRowOf, IsWellFormed, AreTablesOf, comps_tags, comps_numbers}
+use Rattle.nq_ir.specs.Words.{SchemaWords, TermWords, FormWords}
+use Rattle.nq_ir.proofs.Words.{comps_words, type_words}
 use Rattle.nq_ir.proofs.Dealt.{tags_in_order, numbers_in_order, counted_differ}
 use Rattle.nq_ir.proofs.Numbered.{form_numbered}
 use Rattle.nq_ir.proofs.NumberedTypes.{form_typed}
@@ -72,6 +74,13 @@ module _ (schema : Schema) (proper : IsProperSchema schema) where
       go (raw_plain b) k s = absurd (not_bag (TypeTree.bag a) k.0 a k.2 refl)
       go (raw_rec fs) k s = absurd (mixed k.0 (TypeTree.bag a) a k.2 refl)
       go (raw_bag cs) k s = subst (λ (l : List Nested). Same (meaning tables [] m) (bag_of l)) (form_numbered (rows_in tables) cs a) s
+
+-- what holds of every label, table and column of the term and the schema holds of those of the form
+pub normal_words : (Word : Label → Type 0) (schema : Schema) → IsProperSchema schema → SchemaWords Word schema.tables → (a : TypeTree) (m : TermTree) → IsPlainTerm m → IsProperTerm m → HasType schema [] m (TypeTree.bag a) → TermWords Word m → FormWords Word (normal_form schema.tables a m)
+normal_words Word schema proper words a m q p h w =
+    let cs = raw_comps_in (raw_form schema.tables m []) in
+    let element = type_words Word schema words [] m (TypeTree.bag a) tt w h in
+    (element, comps_words Word schema.tables words (number_comps 1 1 [] a cs) [] a (form_typed schema.tables cs a (comps_have schema.tables [] (raw_form schema.tables m []) (TypeTree.bag a) a refl (raw_has schema (recursion_from_All IsProperShape schema.tables proper.proper) m [] (TypeTree.bag a) p q h [] [] tt))) element)
 
 -- tables of the schema are there, each with its rows
 pub tables_there : (shapes : List TableShape) (tables : List (List (List Cell))) → AreTablesOf shapes tables → AreFilled shapes (database shapes tables)
