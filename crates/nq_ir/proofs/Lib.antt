@@ -3,6 +3,16 @@ pub mod Fits
 pub mod Building
 pub mod Spots
 pub mod Distinct
+pub mod RawMeanings
+pub mod RawTypes
+pub mod RawChoices
+pub mod TermForms
+pub mod Numbered
+pub mod Dealt
+pub mod NumberedTypes
+pub mod Words
+pub mod NormalForms
+pub mod TypedStrands
 pub mod Nested
 pub mod Levels
 pub mod Paths

@@ -1,5 +1,5 @@
 -- Rows of the tables of a schema have the schema's columns, and cells tell them apart.
-use Rattle.std.proofs.Common.{◌≡◌, ◌≢◌, ℕ, List, [], ◌∷◌, map, zip, refl, sym, ap, ap₂, ◌∙◌, Bool, true, false, cond, find, Some}
+use Rattle.std.proofs.Common.{◌≡◌, ◌≢◌, ℕ, List, [], ◌∷◌, map, zip, refl, sym, ap, ap₂, ◌∙◌, Bool, true, false, cond, Some}
 use Rattle.std.specs.Str.{bytes_eq}
 use Rattle.std.specs.List.{AllByRecursion as Each}
 use Rattle.std.proofs.lemmas.Slice.Eq.{bytes_eq-Decides}

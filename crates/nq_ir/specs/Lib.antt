@@ -11,4 +11,6 @@ pub mod Paths
 pub mod Among
 pub mod RawForms
 pub mod NormalForms
+pub mod TypedStrands
+pub mod Words
 pub mod Printed
