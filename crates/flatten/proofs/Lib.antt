@@ -1,2 +1,4 @@
 pub mod Names
 pub mod Exprs
+pub mod LetQuery
+pub mod PartScope
