@@ -2,3 +2,4 @@ pub mod Names
 pub mod Exprs
 pub mod LetQuery
 pub mod PartScope
+pub mod PartItems
