@@ -3,3 +3,4 @@ pub mod Exprs
 pub mod LetQuery
 pub mod PartScope
 pub mod PartItems
+pub mod Part
