@@ -4,3 +4,5 @@ pub mod LetQuery
 pub mod PartScope
 pub mod PartItems
 pub mod Part
+pub mod Agree
+pub mod Withs
