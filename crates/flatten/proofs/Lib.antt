@@ -6,3 +6,6 @@ pub mod PartItems
 pub mod Part
 pub mod Agree
 pub mod Withs
+pub mod Facts
+pub mod LetForms
+pub mod Allowed

@@ -31,10 +31,10 @@ not_top : (ns : List ℕ) → Each IsNumber ns → Each (λ n. nat_eq 0 n ≡ fa
 not_top ns h = each_map IsNumber (λ n. nat_eq 0 n ≡ false) (λ n k. nat_differ 0 n (λ e. let u : 1 ≤ n = k.0 in absurd (omega arith))) ns h
 
 module _ (schema : Schema) (form : FormTree) (w : IsWellFormed schema.tables form) where
-  tags_apart : Distinct (0 ∷ comps_tags form.comps)
+  pub tags_apart : Distinct (0 ∷ comps_tags form.comps)
   tags_apart = (not_top (comps_tags form.comps) w.tags_fit, distinct (comps_tags form.comps) w.tags_differ)
 
-  fits : FitsComps form.comps form.element
+  pub fits : FitsComps form.comps form.element
   fits = typed_comps_fit schema.tables [] form.comps form.element w.typed
 
   tags_differ : Each TagsDiffer (levels form.element form.comps)
