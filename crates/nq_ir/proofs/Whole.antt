@@ -35,7 +35,7 @@ module _ (schema : Schema) (form : FormTree) (w : IsWellFormed schema.tables for
   pub tags_apart : Distinct (0 ∷ comps_tags form.comps)
   tags_apart = (not_top (comps_tags form.comps) w.tags_fit, distinct (comps_tags form.comps) w.tags_differ)
 
-  fits : FitsComps form.comps form.element
+  pub fits : FitsComps form.comps form.element
   fits = typed_comps_fit schema.tables [] form.comps form.element w.typed
 
   tags_differ : Each TagsDiffer (levels form.element form.comps)
