@@ -2,4 +2,5 @@ pub mod MoreParts
 pub mod Laid
 pub mod Reading
 pub mod Stitched
+pub mod Grouping
 pub mod Examples
