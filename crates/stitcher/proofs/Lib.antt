@@ -3,4 +3,5 @@ pub mod Laid
 pub mod Reading
 pub mod Stitched
 pub mod Grouping
+pub mod Ready
 pub mod Examples

@@ -1,5 +1,5 @@
 // The rows of an answer by their outer index.
-ghost use Rattle.std.specs.Prelude.{◌≡◌, ◌<◌, ◌-◌, [], All, IfOk, OnOk, length, get_or, map};
+ghost use Rattle.std.specs.Prelude.{◌≡◌, ◌<◌, ◌≤◌, ◌-◌, [], All, IfOk, OnOk, length, get_or, map};
 ghost use Rattle.nq_model.specs.Cells.{RowFits};
 ghost use Rattle.stitcher.specs.Schemes.{IsPath};
 ghost use Rattle.stitcher.specs.Groups.{first_under, AreGrouped, GoesOn, IsPutInFront};
@@ -54,12 +54,21 @@ impl<I: Eq + Hash + Drop> Groups<I> {
         }
     }
 
-    /// The place of the next row under the index of the row with so many behind it, or 0.
-    pub(crate) fn next(&self, behind: u32) -> u32
-        requires { behind < length self.now.nexts }
-        ensures { result ≡ get_or self.now.nexts behind 0 }
+    /// The number in its answer, from 0, of the row at a place.
+    pub(crate) fn row(&self, place: u32) -> usize
+        requires { place ≤ length self.now.nexts }
+        ensures { result ≡ length self.now.nexts - place }
     {
-        self.nexts.as_slice()[behind as usize]
+        self.nexts.len() - place as usize
+    }
+
+    /// The place of the next row under the index of the row at a place, or 0.
+    pub(crate) fn next(&self, place: u32) -> u32
+        requires some { 0 < place }
+        requires there { place ≤ length self.now.nexts }
+        ensures { result ≡ get_or self.now.nexts (place - 1) 0 }
+    {
+        self.nexts.as_slice()[place as usize - 1]
     }
 }
 

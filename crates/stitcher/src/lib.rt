@@ -4,12 +4,13 @@
 mod flat;
 mod groups;
 mod laws;
+mod nested;
 mod scheme;
+mod source;
 mod spans;
-mod stitch;
 mod walk;
 
 pub use flat::FlatNumbers;
 pub use laws::{flat_laws, reading_law};
+pub use nested::stitch;
 pub use scheme::IndexScheme;
-pub use stitch::stitch;

@@ -1,5 +1,5 @@
 // How far a walk over the element of a row has come.
-ghost use Rattle.std.specs.Prelude.{◌≡◌, ◌+◌, IfOk};
+ghost use Rattle.std.specs.Prelude.{◌≡◌, suc, IfOk};
 
 use nq_model::Memory;
 
@@ -17,7 +17,7 @@ pub(crate) struct Walk {
 impl Walk {
     /// The walk that begins at a row.
     pub(crate) fn new(path: u64, row: usize) -> Result<Walk, Memory>
-        ensures { IfOk result (λ walk. walk ≡ record { path = path; row = row; leaf = 0; slot = 0; inner = path + 1 }) }
+        ensures { IfOk result (λ walk. walk ≡ record { path = path; row = row; leaf = 0; slot = 0; inner = suc path }) }
     {
         let inner = path.checked_add(1).ok_or(Memory)?;
         Ok(Walk {
