@@ -2,4 +2,6 @@ pub mod MoreParts
 pub mod Laid
 pub mod Reading
 pub mod Stitched
+pub mod Grouping
+pub mod Ready
 pub mod Examples
