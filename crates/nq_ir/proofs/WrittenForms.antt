@@ -10,7 +10,7 @@ use Rattle.nq_model.specs.NamedRows.{Label}
 use Rattle.nq_model.specs.Numberings.{TellsApart}
 use Rattle.nq_model.specs.Tables.{IsProperSchema}
 use Rattle.nq_model.specs.declared.table.Schema.{Schema}
-use Rattle.nq_model.specs.declared.table.Table.{Table}
+use Rattle.nq_model.specs.declared.table.Cell.{Cell}
 use Rattle.nq_ir.specs.Lets.{FlatRow, FormGives, LetGives, LetRow, LetTree, PartTree, Side, insert_lets, let_of, let_rows, no_let, strand_of}
 use Rattle.nq_ir.specs.Meanings.{EachBoth, Tables, kept, rows_in}
 use Rattle.nq_ir.specs.Shredded.{IsShreddedOf, ShreddedTree, shredded}
@@ -62,7 +62,7 @@ module _ (cols : Label → List Label) (differ : (t : Label) → LabelsDiffer (c
       reordered_matched (Writes cols ts) rows g.all _ g.any_order (subst (λ (l : List StrandTree). WriteAll cols ts l g.all) (map_of_map (λ (d : Side). d.0) side f.parts ∙ again) all_rows)
 
 -- what the let form of a shredded form allows
-pub writes_of : (schema : Schema) (s : ShreddedTree) (tables : List Table) → IsProperSchema schema → IsShreddedOf schema s → AreTablesOf schema.tables tables → (rows : List FlatRow) → FormGives (column_names schema.tables) (rows_in (database schema.tables tables)) (insert_lets s) rows → WriteAll (column_names schema.tables) (rows_in (database schema.tables tables)) s.parts rows
+pub writes_of : (schema : Schema) (s : ShreddedTree) (tables : List (List (List Cell))) → IsProperSchema schema → IsShreddedOf schema s → AreTablesOf schema.tables tables → (rows : List FlatRow) → FormGives (column_names schema.tables) (rows_in (database schema.tables tables)) (insert_lets s) rows → WriteAll (column_names schema.tables) (rows_in (database schema.tables tables)) s.parts rows
 writes_of schema s tables proper h fit rows g =
     let cols = column_names schema.tables in
     let ts = rows_in (database schema.tables tables) in

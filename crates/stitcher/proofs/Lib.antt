@@ -5,3 +5,4 @@ pub mod Stitched
 pub mod Grouping
 pub mod Ready
 pub mod Examples
+mod Witness
