@@ -30,7 +30,6 @@ pub mod Whole
 pub mod Inserted
 pub mod Written
 pub mod Pairs
-pub mod Names
 pub mod WrittenForms
 pub mod Forms
 pub mod Worked

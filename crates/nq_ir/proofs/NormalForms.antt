@@ -8,7 +8,9 @@ use Rattle.nq_model.specs.Meaning.{meaning}
 use Rattle.nq_model.specs.Numberings.{count_from}
 use Rattle.nq_model.specs.Orders.{AreDistinct}
 use Rattle.nq_model.specs.Proper.{IsProperTerm, IsPlainTerm}
-use Rattle.nq_model.specs.Tables.{IsProperShape, IsProperSchema, names_of}
+use Rattle.nq_model.specs.Cells.{RowFits}
+use Rattle.nq_model.specs.SchemaTables.{AreTablesOf}
+use Rattle.nq_model.specs.Tables.{IsProperShape, IsProperSchema, names_of, types_of}
 use Rattle.nq_model.specs.Terms.{TermTree}
 use Rattle.nq_model.specs.Types.{TypeTree}
 use Rattle.nq_model.specs.Typing.{HasType, shape_named}
@@ -22,7 +24,7 @@ use Rattle.nq_model.specs.NamedRows.{Label, named}
 use Rattle.nq_ir.specs.Meanings.{rows_in, comps_meaning, form_meaning}
 use Rattle.nq_ir.specs.RawForms.{RawBody, raw_plain, raw_rec, raw_bag, raw_comps_in, raw_form}
 use Rattle.nq_ir.specs.NormalForms.{number_comps, normal_form, tags_in_comps, gens_in_comps}
-use Rattle.nq_ir.specs.WellFormed.{IsRowOf, IsWellFormed, AreTablesOf, comps_tags, comps_numbers}
+use Rattle.nq_ir.specs.WellFormed.{IsWellFormed, comps_tags, comps_numbers}
 use Rattle.nq_ir.specs.Words.{SchemaWords, TermWords, FormWords}
 use Rattle.nq_ir.proofs.Words.{comps_words, type_words}
 use Rattle.nq_ir.proofs.Dealt.{tags_in_order, numbers_in_order, counted_differ}
@@ -88,10 +90,10 @@ tables_there [] tables h t shape e = absurd (cc)
 tables_there (s ∷ shapes) [] h t shape e = absurd h
 tables_there (s ∷ shapes) (own ∷ tables) h t shape e = go (bytes_eq t s.name) (bytes_eq s.name t) (bytes_turned t s.name) e (λ i. tables_there shapes tables h.1 t shape i)
   where
-    go : (b d : Bool) → b ≡ d → cond b (Some s) (shape_named t shapes) ≡ Some shape → (shape_named t shapes ≡ Some shape → (rows : List (List Cell)) × (find (λ (x : FilledTable). bytes_eq x.name t) (database shapes tables) ≡ Some (filled shape rows)) × (rows_in (database shapes tables) t ≡ named (names_of shape.columns) rows) × Each (IsRowOf shape.columns) rows) → (rows : List (List Cell)) × (cond d (Some (filled s own)) (find (λ (x : FilledTable). bytes_eq x.name t) (database shapes tables)) ≡ Some (filled shape rows)) × (cond b (named (names_of s.columns) own) (rows_in (database shapes tables) t) ≡ named (names_of shape.columns) rows) × Each (IsRowOf shape.columns) rows
+    go : (b d : Bool) → b ≡ d → cond b (Some s) (shape_named t shapes) ≡ Some shape → (shape_named t shapes ≡ Some shape → (rows : List (List Cell)) × (find (λ (x : FilledTable). bytes_eq x.name t) (database shapes tables) ≡ Some (filled shape rows)) × (rows_in (database shapes tables) t ≡ named (names_of shape.columns) rows) × Each (RowFits (types_of shape.columns)) rows) → (rows : List (List Cell)) × (cond d (Some (filled s own)) (find (λ (x : FilledTable). bytes_eq x.name t) (database shapes tables)) ≡ Some (filled shape rows)) × (cond b (named (names_of s.columns) own) (rows_in (database shapes tables) t) ≡ named (names_of shape.columns) rows) × Each (RowFits (types_of shape.columns)) rows
     go true true q i later =
         let same : s ≡ shape = cc in
-        (own, ap (λ (z : TableShape). Some (filled z own)) same, ap (λ (z : TableShape). named (names_of z.columns) own) same, subst (λ (z : TableShape). Each (IsRowOf z.columns) own) same h.0.rows)
+        (own, ap (λ (z : TableShape). Some (filled z own)) same, ap (λ (z : TableShape). named (names_of z.columns) own) same, subst (λ (z : TableShape). Each (RowFits (types_of z.columns)) own) same (recursion_from_All (RowFits (types_of s.columns)) own h.0.fit))
     go true false q i later = absurd (cc)
     go false true q i later = absurd (cc)
     go false false q i later = later i

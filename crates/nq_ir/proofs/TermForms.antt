@@ -23,7 +23,7 @@ use Rattle.nq_model.proofs.Sameness.{same_refl, same_trans, same_bag}
 use Rattle.nq_model.specs.NamedRows.{Label, Row, cell_under, named}
 use Rattle.nq_ir.specs.Meanings.{Tables, rows_in}
 use Rattle.nq_ir.specs.RawForms.{RawBody, raw_plain, raw_rec, RawComps, no_raw_comp, raw_comp, no_raw, and_raw, raw_column, up_body, raw_base_in, raw_comps_in, append_raw, inside, choice, columns_body, each_comp, raw_form, raw_fields}
-use Rattle.nq_ir.specs.WellFormed.{columns_or_none, table_columns, IsRowOf}
+use Rattle.nq_ir.specs.WellFormed.{columns_or_none, table_columns}
 use Rattle.nq_ir.proofs.Equal.{bytes_same, bytes_differ}
 use Rattle.nq_ir.proofs.RawMeanings.{raw_value, raw_meaning, raw_fields_meaning, raw_comps_meaning, Run, runs, runs_values, runs_length, append_means, each_comp_means}
 use Rattle.nq_ir.proofs.RawTypes.{under, RawBodyHas, RawCompsHave, EachHas, bodies_under, comps_have, raw_has, shape_found}
@@ -70,17 +70,17 @@ row_means ts whole env (x ∷ xs) (c ∷ row) e h =
 -- each table of the schema is there, with rows that fit
 abbrev pub AreFilled : List TableShape → List FilledTable → Type 0
 AreFilled shapes tables =
-    (t : Label) (shape : TableShape) → shape_named t shapes ≡ Some shape → (rows : List (List Cell)) × (find (λ table. bytes_eq table.name t) tables ≡ Some (filled shape rows)) × (rows_in tables t ≡ named (names_of shape.columns) rows) × Each (IsRowOf shape.columns) rows
+    (t : Label) (shape : TableShape) → shape_named t shapes ≡ Some shape → (rows : List (List Cell)) × (find (λ table. bytes_eq table.name t) tables ≡ Some (filled shape rows)) × (rows_in tables t ≡ named (names_of shape.columns) rows) × Each (RowFits (types_of shape.columns)) rows
 
 -- over tables of a proper schema
 module _ (schema : Schema) (proper : Each IsProperShape schema.tables) (tables : List FilledTable) (there : AreFilled schema.tables tables) where
   abbrev ts : Tables
   ts = rows_in tables
 
-  table_rows : (columns : Columns) → AreDistinct (names_of columns) → (env : List Row) (rows : List (List Cell)) → Each (IsRowOf columns) rows → map (row_record (names_of columns)) rows ≡ map (λ e. rec (raw_fields_meaning ts (columns_body columns) e)) (map (λ rs. rs ++ env) (filter (λ rs. true) (flat_map (λ r. (r ∷ []) ∷ []) (map (λ row. zip (names_of columns) row) rows))))
+  table_rows : (columns : Columns) → AreDistinct (names_of columns) → (env : List Row) (rows : List (List Cell)) → Each (RowFits (types_of columns)) rows → map (row_record (names_of columns)) rows ≡ map (λ e. rec (raw_fields_meaning ts (columns_body columns) e)) (map (λ rs. rs ++ env) (filter (λ rs. true) (flat_map (λ r. (r ∷ []) ∷ []) (map (λ row. zip (names_of columns) row) rows))))
   table_rows columns d env [] h = refl
   table_rows columns d env (row ∷ rows) h =
-      ap₂ (λ x (z : List Nested). rec x ∷ z) (sym (row_means ts (zip (names_of columns) row) env columns row h.0.0 (cells_found (names_of columns) row d))) (table_rows columns d env rows h.1)
+      ap₂ (λ x (z : List Nested). rec x ∷ z) (sym (row_means ts (zip (names_of columns) row) env columns row h.0 (cells_found (names_of columns) row d))) (table_rows columns d env rows h.1)
 
   mutual
     -- the meaning of the body is that of the term, for related values and bodies

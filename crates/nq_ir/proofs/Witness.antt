@@ -1,12 +1,19 @@
 -- A form that is well formed, and rows with ties that its let forms allow: departments of equal names, numbered at the
 -- top in one way and below in the other.
-use Rattle.std.proofs.Common.{◌≡◌, ◌≢◌, ℕ, ◌<◌, ◌≤◌, List, [], ◌∷◌, length, refl, sym, ◌∙◌, codes, arith, false, true≢false, nat_eq, bytes_eq, inl}
+use Rattle.std.proofs.Common.{◌≡◌, ◌≢◌, ℕ, ◌<◌, ◌≤◌, List, [], ◌∷◌, length, refl, sym, ◌∙◌, codes, arith, false, true≢false, nat_eq, bytes_eq, true, ◌^◌, All, pos}
+use Rattle.std.specs.Int.{w64}
+use Rattle.std.specs.Str.{chars, is_utf8}
+use lib.Utf8.{encode}
+use Rattle.std.proofs.lemmas.Int.{fits_signed_from_abs}
+use Rattle.std.proofs.lemmas.Str.{IsUtf8-from_is_utf8}
+use Rattle.nq_model.specs.Cells.{RowFits}
 use Rattle.std.proofs.lemmas.Cmp.{nat_eq_equiv}
 use Rattle.std.proofs.lemmas.List.Elements.{All-from_recursion}
 use Rattle.std.proofs.lemmas.Map.Views.{list_any-from_Contains}
 use Rattle.std.proofs.lemmas.Slice.Eq.{bytes_eq-Decides}
 use Rattle.std.specs.List.{Contains, list_any}
 use Rattle.nq_model.specs.Databases.{database}
+use Rattle.nq_model.specs.SchemaTables.{AreTablesOf, IsSound}
 use Rattle.nq_model.specs.Tables.{IsProperName, IsProperSchema, IsProperShape}
 use Rattle.nq_model.specs.declared.table.Schema.{Schema}
 use Rattle.std.specs.List.{AllByRecursion as Each}
@@ -19,7 +26,7 @@ use Rattle.nq_model.specs.declared.table.ColumnType.TheVariants as column_type
 use Rattle.nq_ir.specs.Lets.{AllGive, Deals, FlatRow, FormGives, LetRow, insert_lets}
 use Rattle.nq_ir.specs.Meanings.{Tables, rows_in}
 use Rattle.nq_ir.specs.Shredded.{shredded}
-use Rattle.nq_ir.specs.WellFormed.{AreTablesOf, IsWellFormed, column_names}
+use Rattle.nq_ir.specs.WellFormed.{IsWellFormed, column_names}
 use Rattle.nq_ir.specs.declared.path.Step.TheVariants.{Down, Field}
 use Rattle.nq_ir.proofs.Examples.{with_names, word, number}
 use Rattle.nq_ir.proofs.Worked.{org}
@@ -68,8 +75,41 @@ abbrev pub tables : List (List (List Cell))
 tables =
     ((word (codes "Product") ∷ []) ∷ (word (codes "Product") ∷ []) ∷ []) ∷ ((word (codes "Product") ∷ word (codes "Alex") ∷ number 1 ∷ []) ∷ (word (codes "Product") ∷ word (codes "Bert") ∷ number 2 ∷ []) ∷ []) ∷ [] ∷ []
 
+valid : (t : List ℕ) → is_utf8 t ≡ true → IsSound (word t)
+valid t e = IsUtf8-from_is_utf8 t e
+
+small : (n : ℕ) → n < 2 ^ 63 → IsSound (number n)
+small n l = fits_signed_from_abs w64 (pos n) l
+
+product_valid : is_utf8 (codes "Product") ≡ true
+unfolding is_utf8 chars encode
+product_valid = refl
+
+alex_valid : is_utf8 (codes "Alex") ≡ true
+unfolding is_utf8 chars encode
+alex_valid = refl
+
+bert_valid : is_utf8 (codes "Bert") ≡ true
+unfolding is_utf8 chars encode
+bert_valid = refl
+
+abbrev department : List Cell
+department = word (codes "Product") ∷ []
+
+abbrev employee : List ℕ → ℕ → List Cell
+employee name salary = word (codes "Product") ∷ word name ∷ number salary ∷ []
+
+sound_department : All IsSound department
+sound_department = All-from_recursion IsSound department (valid (codes "Product") product_valid, tt)
+
+sound_employee : (name : List ℕ) (salary : ℕ) → is_utf8 name ≡ true → salary < 2 ^ 63 → All IsSound (employee name salary)
+sound_employee name salary e l = All-from_recursion IsSound (employee name salary) (valid (codes "Product") product_valid, (valid name e, (small salary l, tt)))
+
 pub of_schema : AreTablesOf org tables
-of_schema = (record { rows = ((refl, (tt, tt)), ((refl, (tt, tt)), tt)); key = inl refl }, (record { rows = ((refl, (tt, (tt, (omega arith, tt)))), ((refl, (tt, (tt, (omega arith, tt)))), tt)); key = inl refl }, (record { rows = tt; key = inl refl }, refl)))
+of_schema = (
+  record { fit = All-from_recursion (RowFits (column_type.Text ∷ [])) (department ∷ department ∷ []) (refl, (refl, tt)); sound = All-from_recursion (All IsSound) (department ∷ department ∷ []) (sound_department, (sound_department, tt)); keys_differ = λ n. absurd (n refl) },
+  (record { fit = All-from_recursion (RowFits (column_type.Text ∷ column_type.Text ∷ column_type.Int ∷ [])) (employee (codes "Alex") 1 ∷ employee (codes "Bert") 2 ∷ []) (refl, (refl, tt)); sound = All-from_recursion (All IsSound) (employee (codes "Alex") 1 ∷ employee (codes "Bert") 2 ∷ []) (sound_employee (codes "Alex") 1 alex_valid (omega arith), (sound_employee (codes "Bert") 2 bert_valid (omega arith), tt)); keys_differ = λ n. absurd (n refl) }, (record { fit = All-from_recursion (RowFits (column_type.Text ∷ column_type.Text ∷ [])) [] tt; sound = All-from_recursion (All IsSound) [] tt; keys_differ = λ n. absurd (n refl) }, tt)),
+)
 
 abbrev pub held : Tables
 held = rows_in (database org tables)

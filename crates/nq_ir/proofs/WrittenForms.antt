@@ -8,6 +8,7 @@ use Rattle.nq_model.specs.Bags.{Reordered}
 use Rattle.nq_model.specs.Databases.{database}
 use Rattle.nq_model.specs.NamedRows.{Label}
 use Rattle.nq_model.specs.Numberings.{TellsApart}
+use Rattle.nq_model.specs.SchemaTables.{AreTablesOf}
 use Rattle.nq_model.specs.Tables.{IsProperSchema}
 use Rattle.nq_model.specs.declared.table.Schema.{Schema}
 use Rattle.nq_model.specs.declared.table.Cell.{Cell}
@@ -15,7 +16,7 @@ use Rattle.nq_ir.specs.Lets.{FlatRow, FormGives, LetGives, LetRow, LetTree, Part
 use Rattle.nq_ir.specs.Meanings.{EachBoth, Tables, kept, rows_in}
 use Rattle.nq_ir.specs.Shredded.{IsShreddedOf, ShreddedTree, shredded}
 use Rattle.nq_ir.specs.Spots.{PlacedComp, StrandTree, both, shaped}
-use Rattle.nq_ir.specs.WellFormed.{AreTablesOf, column_names, comps_numbers, numbers}
+use Rattle.nq_ir.specs.WellFormed.{column_names, comps_numbers, numbers}
 use Rattle.nq_ir.specs.Written.{PairsAreChildren, WriteAll, Writes, numbered_spots}
 use Rattle.nq_ir.proofs.Allowed.{both_at, each_two, each_unmapped}
 use Rattle.nq_ir.proofs.Distinct.{Distinct, distinct_sub, sub_left}

@@ -6,7 +6,6 @@ pub mod Spots
 pub mod Shredded
 pub mod Lets
 pub mod Written
-pub mod Names
 pub mod WellFormed
 pub mod Paths
 pub mod Among

@@ -4,7 +4,7 @@ ghost use Rattle.std.specs.List.{AllByRecursion as Each};
 ghost use Rattle.nq_model.specs.Databases.{database};
 ghost use Rattle.nq_model.specs.Numberings.{TellsApart};
 ghost use Rattle.nq_model.specs.SchemaTables.{AreTablesOf};
-ghost use Rattle.nq_model.specs.Tables.{IsProperName, IsProperSchema};
+ghost use Rattle.nq_model.specs.Tables.{IsProperSchema};
 ghost use Rattle.nq_model.specs.Types.{bag};
 ghost use Rattle.nq_model.specs.Values.{Same, bag_of};
 ghost use Rattle.nq_model.specs.declared.table.Schema.{Schema};
@@ -18,7 +18,6 @@ ghost use Rattle.nq_ir.specs.Spots.{strands, spots, top_spot, by_tag, strands_at
 ghost use Rattle.nq_ir.specs.Shredded.{ShreddedTree, IsShreddedOf};
 ghost use Rattle.nq_ir.specs.Lets.{FlatRow, flat, FormGives, AllGive, Inserts, insert_lets};
 ghost use Rattle.nq_ir.specs.Written.{PairsAreChildren, WriteAll};
-ghost use Rattle.nq_ir.specs.Names.{Any, FormNames};
 ghost use Rattle.nq_ir.specs.WellFormed.{IsWellFormed, column_names};
 
 /// The spots of a well-formed form build its meaning. A spot is its tag and its cells: the choices of rows
@@ -59,9 +58,4 @@ pub fn insertion_laws()
         → AreTablesOf schema.tables tables → (rows : List FlatRow)
         → FormGives (column_names schema.tables) (rows_in (database schema.tables tables)) (insert_lets s) rows
         → WriteAll (column_names schema.tables) (rows_in (database schema.tables tables)) s.parts rows }
-{}
-
-/// Tables and columns that a well-formed form over a proper schema names have proper names.
-pub fn name_laws()
-    ensures { (schema : Schema) (form : FormTree) → IsProperSchema schema → IsWellFormed schema.tables form → FormNames IsProperName Any Any form }
 {}

@@ -11,6 +11,7 @@ ghost use Rattle.std.specs.Prelude.{◌≡◌, ◌<◌, ◌^◌, Bool, true, Lis
 ghost use Rattle.nq_model.specs.Databases.{database};
 ghost use Rattle.nq_model.specs.Meaning.{meaning};
 ghost use Rattle.nq_model.specs.Proper.{IsClosed, IsPlainTerm, IsProperTerm};
+ghost use Rattle.nq_model.specs.SchemaTables.{AreTablesOf};
 ghost use Rattle.nq_model.specs.Tables.{IsProperSchema};
 ghost use Rattle.nq_model.specs.Terms.{TermTree};
 ghost use Rattle.nq_model.specs.Types.{TypeTree, bag};
@@ -20,7 +21,7 @@ ghost use Rattle.nq_model.specs.declared.table.Schema.{Schema};
 ghost use Rattle.nq_model.specs.declared.table.Cell.{Cell};
 ghost use Rattle.nq_ir.specs.Meanings.{form_meaning, rows_in};
 ghost use Rattle.nq_ir.specs.NormalForms.{normal_form};
-ghost use Rattle.nq_ir.specs.WellFormed.{AreTablesOf, IsWellFormed, comps_numbers, comps_tags};
+ghost use Rattle.nq_ir.specs.WellFormed.{IsWellFormed, comps_numbers, comps_tags};
 
 /// The normal form of a closed, plain and proper term of bag type over a proper schema is well formed where it has
 /// fewer than 2^63 tags and generators, and means what the term means over all tables of the

@@ -18,7 +18,7 @@ answers =
     (parent 0 1 (codes "Product") 1 2 ∷ parent 0 1 (codes "Product") 1 1 ∷ []) ∷ (leaf 1 1 (codes "Alex") ∷ leaf 1 1 (codes "Bert") ∷ leaf 1 2 (codes "Alex") ∷ leaf 1 2 (codes "Bert") ∷ []) ∷ []
 
 laid_out : AreLaidOut elements (department_rows ∷ employee_rows ∷ []) answers
-unfolding department_rows, employee_rows
+unfolding department_rows employee_rows
 laid_out zero = refl
 laid_out (suc zero) = refl
 laid_out (suc (suc q)) = refl
