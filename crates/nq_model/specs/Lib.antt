@@ -24,6 +24,8 @@ pub mod Typing
 pub mod TypeOf
 pub mod Judging
 pub mod Proper
+pub mod ValueTypes
+pub mod QueryMeaning
 pub mod QueryTokens
 pub mod QueryGrammar
 pub mod QueryScope

@@ -1,5 +1,5 @@
 -- Tables of a schema: the rows that a table of a shape may hold.
-use Rattle.std.specs.Prelude.{◌≢◌, ℕ, ⊤, List, [], map, zip, All, FitsSigned}
+use Rattle.std.specs.Prelude.{◌≢◌, ⊤, List, [], map, zip, All, FitsSigned}
 use Rattle.std.specs.Int.{w64}
 use Rattle.std.specs.List.{AllZip}
 use Rattle.std.specs.Str.{IsUtf8}
