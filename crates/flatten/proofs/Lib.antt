@@ -9,3 +9,4 @@ pub mod Withs
 pub mod Facts
 pub mod LetForms
 pub mod Allowed
+pub mod ScopeExprs
