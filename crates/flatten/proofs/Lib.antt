@@ -10,3 +10,4 @@ pub mod Facts
 pub mod LetForms
 pub mod Allowed
 pub mod ScopeExprs
+pub mod ScopeLets
