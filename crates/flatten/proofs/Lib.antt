@@ -11,3 +11,4 @@ pub mod LetForms
 pub mod Allowed
 pub mod ScopeExprs
 pub mod ScopeLets
+pub mod ScopeTree
