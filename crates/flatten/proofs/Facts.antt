@@ -120,7 +120,7 @@ mutual
   leaf_tests_in (with_body l b fs) d = each_join TestsApart (leaves_of b) (leaves_in_fields fs) (leaf_tests b (distinct_sub (sub_left (body_numbers b) (bodies_numbers fs)) d)) (leaf_tests_in fs (distinct_sub (sub_right (body_numbers b) (bodies_numbers fs)) d))
 
 -- a name without a dot
-no_dots : (l : Label) → (Contains l 46 → ⊥) → NoDot l
+pub no_dots : (l : Label) → (Contains l 46 → ⊥) → NoDot l
 no_dots [] h = tt
 no_dots (c ∷ l) h = (go (nat_eq c 46) refl, no_dots l (λ (k, within, is). h (suc k, omega (arith, within), is)))
   where

@@ -9,3 +9,6 @@ pub mod Withs
 pub mod Facts
 pub mod LetForms
 pub mod Allowed
+pub mod ScopeExprs
+pub mod ScopeLets
+pub mod ScopeTree

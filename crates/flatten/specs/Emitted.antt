@@ -3,6 +3,7 @@
 -- After Cheney, Lindley and Wadler, "Query Shredding", SIGMOD 2014, where let-inserted queries become SQL.
 use Rattle.std.specs.Prelude.{ℕ, zero, suc, pos, Bool, true, false, cond, nat_eq, List, [], ◌∷◌, ◌++◌, map}
 use Rattle.nq_model.specs.NamedRows.{Label}
+use Rattle.nq_model.specs.Tables.{Columns}
 use Rattle.nq_model.specs.declared.table.ColumnType.{ColumnType}
 use Rattle.nq_model.specs.declared.table.ColumnType.TheVariants as column_type
 use Rattle.nq_model.specs.declared.table.Schema.{Schema}
@@ -103,3 +104,11 @@ emitted cols columns f = record { withs = withs_from cols 1 f.lets; main = main_
 -- the tree of a let form over a schema
 abbrev pub flattened : Schema → LetFormTree → SqlTree
 flattened schema f = emitted (column_names schema.tables) (answer_columns f.element) f
+
+-- the columns of an answer with these types, from the place k on
+abbrev pub answer_shape_from : ℕ → List ColumnType → Columns
+answer_shape_from k [] = []
+answer_shape_from k (t ∷ ts) = (answer_name k, t) ∷ answer_shape_from (suc k) ts
+
+abbrev pub answer_shape : List ColumnType → Columns
+answer_shape types = answer_shape_from 0 types
