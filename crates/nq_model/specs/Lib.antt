@@ -4,6 +4,7 @@ pub mod Orders
 pub mod Types
 pub mod Cells
 pub mod CellRefs
+pub mod CellLaws
 pub mod Values
 pub mod Canonical
 pub mod Tables
