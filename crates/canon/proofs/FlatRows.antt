@@ -15,7 +15,8 @@ use Rattle.nq_model.specs.Canonical.{canonical, canonical_text, value_cmp, field
 use Rattle.nq_model.specs.declared.table.Cell.{Cell}
 use Rattle.nq_model.specs.declared.table.Cell.TheVariants.{Int}
 use Rattle.nq_model.proofs.Canonical.{label_order}
-use Rattle.canon.specs.Rows.{cells_cmp, record_of, row_at, row_record, rows_at, rows_value}
+use Rattle.rows.specs.Places.{row_at, rows_at}
+use Rattle.canon.specs.Rows.{cells_cmp, record_of, row_record, rows_value}
 use Rattle.nq_model.specs.Separators.{separator}
 use Rattle.canon.proofs.Canonical.{canonical_record, canonical_bag}
 use Rattle.canon.proofs.Writing.{field_text, elements_push, fields_push}
@@ -62,14 +63,6 @@ records_compare : (names : List (List ℕ)) (ls rs : List Cell) →
     value_cmp (record_of names ls) (record_of names rs)
     ≡ ordering_then (nat_cmp (length (take (length names) ls)) (length (take (length names) rs))) (slice_cmp cell_cmp (take (length names) ls) (take (length names) rs))
 records_compare names ls rs = ap₂ ordering_then (labels_compare names ls rs) (fields_compare names ls rs)
-
-pub then_equal : (o r : Ordering) → o ≡ Equal → ordering_then o r ≡ r
-then_equal o r e = ap (λ (x : Ordering). ordering_then x r) e
-
-pub then_other : (o r : Ordering) → (o ≡ Equal → ⊥) → ordering_then o r ≡ o
-then_other Less r other = refl
-then_other Equal r other = absurd (other refl)
-then_other Greater r other = refl
 
 pub same_place : (m n : ℕ) → nat_cmp m n ≡ Equal → m ≡ n
 same_place m n e = grind (arith, nat_tests)

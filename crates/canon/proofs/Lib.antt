@@ -6,6 +6,4 @@ mod Apart
 mod Sorted
 mod Typed
 mod FlatRows
-mod Ranking
-mod Refining
 mod Places

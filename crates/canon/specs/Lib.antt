@@ -3,6 +3,3 @@ pub mod Typed
 pub mod Sorted
 pub mod Texts
 pub mod Rows
-pub mod Heads
-pub mod Ranks
-pub mod Runs

@@ -1,5 +1,5 @@
 -- Bags of records whose fields are cells, each given by a row.
-use Rattle.std.specs.Prelude.{ℕ, List, [], map, drop, length, zip, slice_index_or}
+use Rattle.std.specs.Prelude.{ℕ, List, map, drop, length, zip}
 use Rattle.std.specs.Cmp.Lexicographic.{slice_cmp}
 use Rattle.std.specs.declared.cmp.Ordering.{Ordering}
 use Rattle.std.specs.Ordering.{ordering_then, nat_cmp}
@@ -18,14 +18,6 @@ row_record labels first row = record_of labels (drop first row)
 -- the bag of the rows' records
 abbrev pub rows_value : List (List ℕ) → ℕ → List (List Cell) → Nested
 rows_value labels first rows = bag_of (map (row_record labels first) rows)
-
--- the row at a place, and none past the last
-abbrev pub row_at : List (List Cell) → ℕ → List Cell
-row_at rows place = slice_index_or rows place []
-
--- the rows at these places, in their order
-abbrev pub rows_at : List (List Cell) → List ℕ → List (List Cell)
-rows_at rows places = map (row_at rows) places
 
 -- fewer cells first, and as many cell by cell
 abbrev pub cells_cmp : List Cell → List Cell → Ordering

@@ -1,14 +1,10 @@
 //! The canonical order of values, their canonical form and its text.
 #![tactic(auto)]
 
-mod frames;
-mod heads;
 mod laws;
 mod order;
-mod ranks;
-mod row_order;
+mod row_compare;
 mod row_text;
-mod runs;
 mod sort;
 mod text;
 

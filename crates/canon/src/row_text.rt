@@ -1,18 +1,19 @@
 // The canonical text of a bag of flat records, from rows of cells.
-ghost use Rattle.std.specs.Prelude.{◌≡◌, ◌≤◌, ◌+◌, ◌++◌, IfOk, OnOk, IfSome, map, length, slice_range, string_bytes};
+ghost use Rattle.std.specs.Prelude.{◌≡◌, ◌≤◌, ◌+◌, ◌-◌, ◌++◌, IfOk, OnOk, IfSome, map, length, slice_range, string_bytes};
 ghost use Rattle.std.specs.List.{All};
 ghost use Rattle.std.specs.List.Sorted.{IsPermutation, IsSortedByKey};
 ghost use Rattle.nq_model.specs.CellRefs.{cell_seen};
+ghost use Rattle.nq_model.specs.Numberings.{count_from};
 ghost use Rattle.nq_model.specs.Orders.{sorted_by};
 ghost use Rattle.nq_model.specs.Canonical.{canonical_text, cell_text, written, value_cmp};
-ghost use Rattle.canon.specs.Rows.{cells_cmp, row_at, row_record, rows_at, rows_value};
+ghost use Rattle.rows.specs.Places.{row_at, rows_at};
+ghost use Rattle.canon.specs.Rows.{cells_cmp, row_record, rows_value};
 
-use crate::ranks::{unranked, write_places};
-use crate::row_order::{compare_rows, end_from};
-use crate::runs::sort_run;
+use crate::row_compare::{compare_rows, end_from};
 use crate::text::{write_quoted, write_separator};
 use itoa::Buffer;
 use nq_model::{CellRef, Label, List, Memory};
+use row_order::order_places;
 use rows::Rows;
 use std::alloc::Global;
 
@@ -32,21 +33,32 @@ fn common_end(rows: &Rows, first: usize, count: usize, places: &[u32]) -> Option
     Some(end)
 }
 
-// Puts rows in order that all have cells up to an end. What they are ranked by is dropped here.
+// The places of columns between two places.
+fn columns_between(alloc: Global, first: usize, end: usize) -> Result<Vec<usize>, Memory>
+    ensures { IfOk result (λ columns. columns.items ≡ count_from first (end - first)) }
+{
+    let mut columns = Vec::with_capacity(alloc, end.saturating_sub(first))?;
+    for column in first..end {
+        columns.push(column)?;
+    }
+    Ok(columns)
+}
+
+// Puts rows in order that all have cells up to an end.
 fn put_full_rows_in_order(
     alloc: Global,
     rows: &Rows,
     first: usize,
     end: usize,
-    places: &mut Vec<u32>,
-) -> Result<(), Memory>
-    requires { All (λ place. end ≤ length (row_at rows.now place)) places.old.items }
-    ensures permutation { OnOk result (IsPermutation places.old.items places.new.items) }
-    ensures sorted { OnOk result (IsSortedByKey (λ place. slice_range (row_at rows.now place) first end) cells_cmp places.new.items) }
+    places: Vec<u32>,
+) -> Result<Vec<u32>, Memory>
+    requires { All (λ place. end ≤ length (row_at rows.now place)) places.items }
+    ensures permutation { IfOk result (λ sorted. IsPermutation places.items sorted.items) }
+    ensures sorted { IfOk result (λ sorted. IsSortedByKey (λ place. slice_range (row_at rows.now place) first end) cells_cmp sorted.items) }
 {
-    let mut ranks = unranked(alloc, places.as_slice())?;
-    sort_run(rows, first, end, ranks.as_mut_slice());
-    write_places(places, ranks.as_slice())
+    let columns = columns_between(alloc, first, end)?;
+    let sorted = order_places(alloc, rows, columns.as_slice(), places)?;
+    Ok(sorted)
 }
 
 // Records that tie are one, so the sort need not be stable. Where a row wants cells, all are compared as they
@@ -56,21 +68,21 @@ fn put_rows_in_order(
     labels: &[Label],
     first: usize,
     rows: &Rows,
-    places: &mut Vec<u32>,
-) -> Result<(), Memory>
-    ensures { OnOk result (map (row_record labels.now first) (rows_at rows.now places.new.items)
-        ≡ sorted_by value_cmp (map (row_record labels.now first) (rows_at rows.now places.old.items))) }
+    places: Vec<u32>,
+) -> Result<Vec<u32>, Memory>
+    ensures { IfOk result (λ sorted. map (row_record labels.now first) (rows_at rows.now sorted.items)
+        ≡ sorted_by value_cmp (map (row_record labels.now first) (rows_at rows.now places.items))) }
 {
     let count = labels.len();
-    match common_end(rows, first, count, places.as_slice()) {
-        Some(end) => put_full_rows_in_order(alloc, rows, first, end, places),
-        None => {
-            places.sort_unstable_by(|left, right| {
-                compare_rows(rows, first, count, *left as usize, *right as usize)
-            });
-            Ok(())
-        }
-    }
+    let Some(end) = common_end(rows, first, count, places.as_slice()) else {
+        let mut sorted = places;
+        sorted.sort_unstable_by(|left, right| {
+            compare_rows(rows, first, count, *left as usize, *right as usize)
+        });
+        return Ok(sorted);
+    };
+    let sorted = put_full_rows_in_order(alloc, rows, first, end, places)?;
+    Ok(sorted)
 }
 
 fn write_cell(text: &mut String, cell: &CellRef<'_>) -> Result<(), Memory>
@@ -181,8 +193,7 @@ pub fn write_rows(
 {
     // Rows are measured before they are put in order, so that they are looked up where they stand.
     let size = rows_size(labels, first, rows, places.as_slice());
-    let mut sorted = places;
-    put_rows_in_order(alloc, labels, first, rows, &mut sorted)?;
+    let sorted = put_rows_in_order(alloc, labels, first, rows, places)?;
     let mut text = String::with_capacity(alloc, size)?;
     write_bag_of_rows(&mut text, labels, first, rows, sorted.as_slice())?;
     text.push_str("\n")?;

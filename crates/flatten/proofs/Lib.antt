@@ -1,2 +1,14 @@
 pub mod Names
 pub mod Exprs
+pub mod LetQuery
+pub mod PartScope
+pub mod PartItems
+pub mod Part
+pub mod Agree
+pub mod Withs
+pub mod Facts
+pub mod LetForms
+pub mod Allowed
+pub mod ScopeExprs
+pub mod ScopeLets
+pub mod ScopeTree

@@ -3,12 +3,16 @@
 -- After Cheney, Lindley and Wadler, "Query Shredding", SIGMOD 2014, where let-inserted queries become SQL.
 use Rattle.std.specs.Prelude.{ℕ, zero, suc, pos, Bool, true, false, cond, nat_eq, List, [], ◌∷◌, ◌++◌, map}
 use Rattle.nq_model.specs.NamedRows.{Label}
+use Rattle.nq_model.specs.Tables.{Columns}
 use Rattle.nq_model.specs.declared.table.ColumnType.{ColumnType}
 use Rattle.nq_model.specs.declared.table.ColumnType.TheVariants as column_type
+use Rattle.nq_model.specs.declared.table.Schema.{Schema}
 use Rattle.nq_ir.specs.declared.base.Gen.{Gen}
 use Rattle.nq_ir.specs.Trees.{Conds, ShapeTree, plain_shape, rec_shape, index_shape, Shapes, no_shape, with_shape}
 use Rattle.nq_ir.specs.Spots.{StrandTree}
 use Rattle.nq_ir.specs.Lets.{LetTree, PartTree, LetFormTree, let_of, strand_of, columns_in}
+use Rattle.nq_ir.specs.WellFormed.{column_names}
+use Rattle.shred_types.specs.Columns.{answer_columns}
 use Rattle.sql_profile.specs.Trees.{SourceTree, ExprTree, int, bool, text, column, ExprTrees, QueryTree, no_select, then_select, SelectTree, select, keep_if, ItemTrees, no_item, then_item, ValueTree, plain, number, WithTree, SqlTree}
 use Rattle.flatten.specs.Names.{with_name, let_alias, outer_column, number_name, answer_name}
 use Rattle.flatten.specs.Exprs.{source_of, column_expr, base_expr, conds_keep, order_keys}
@@ -96,3 +100,15 @@ main_query cols columns lets (p ∷ ps) = parts_query cols lets (p ∷ ps)
 -- the tree of a let form whose answer has these columns; cols gives the columns of each table
 abbrev pub emitted : (Label → List Label) → List ColumnType → LetFormTree → SqlTree
 emitted cols columns f = record { withs = withs_from cols 1 f.lets; main = main_query cols columns f.lets f.parts }
+
+-- the tree of a let form over a schema
+abbrev pub flattened : Schema → LetFormTree → SqlTree
+flattened schema f = emitted (column_names schema.tables) (answer_columns f.element) f
+
+-- the columns of an answer with these types, from the place k on
+abbrev pub answer_shape_from : ℕ → List ColumnType → Columns
+answer_shape_from k [] = []
+answer_shape_from k (t ∷ ts) = (answer_name k, t) ∷ answer_shape_from (suc k) ts
+
+abbrev pub answer_shape : List ColumnType → Columns
+answer_shape types = answer_shape_from 0 types

@@ -39,15 +39,15 @@ use Rattle.nq_ir.proofs.Sorting.{sort_by, sort_reorders, sort_rises}
 use Rattle.nq_ir.proofs.Spots.{found, spots_mean}
 use Rattle.nq_ir.proofs.TellsApart.{cells_tell_apart}
 
-each_two : {A : Type 0} (P Q : A → Type 0) (xs : List A) → Each P xs → Each Q xs → Each (λ x. P x × Q x) xs
+pub each_two : {A : Type 0} (P Q : A → Type 0) (xs : List A) → Each P xs → Each Q xs → Each (λ x. P x × Q x) xs
 each_two P Q [] e f = tt
 each_two P Q (x ∷ xs) e f = ((e.0, f.0), each_two P Q xs e.1 f.1)
 
-each_mapped : {A B : Type 0} (f : A → B) (P : A → Type 0) (Q : B → Type 0) → ((x : A) → P x → Q (f x)) → (xs : List A) → Each P xs → Each Q (map f xs)
+pub each_mapped : {A B : Type 0} (f : A → B) (P : A → Type 0) (Q : B → Type 0) → ((x : A) → P x → Q (f x)) → (xs : List A) → Each P xs → Each Q (map f xs)
 each_mapped f P Q t [] e = tt
 each_mapped f P Q t (x ∷ xs) e = (t x e.0, each_mapped f P Q t xs e.1)
 
-each_unmapped : {A B : Type 0} (f : A → B) (Q : B → Type 0) (xs : List A) → Each Q (map f xs) → Each (λ x. Q (f x)) xs
+pub each_unmapped : {A B : Type 0} (f : A → B) (Q : B → Type 0) (xs : List A) → Each Q (map f xs) → Each (λ x. Q (f x)) xs
 each_unmapped f Q [] e = tt
 each_unmapped f Q (x ∷ xs) e = (e.0, each_unmapped f Q xs e.1)
 
@@ -56,7 +56,7 @@ both_each P Q g R f [] ys h e = ap (map g) h
 both_each P Q g R f (x ∷ xs) [] h e = absurd h
 both_each P Q g R f (x ∷ xs) (y ∷ ys) h e = (f x y h.0 e.0, both_each P Q g R f xs ys h.1 e.1)
 
-both_at : {A B : Type 0} (P : A → B → Type 0) (x0 : A) (y0 : B) (xs : List A) (ys : List B) → EachBoth P xs ys → (k : ℕ) → k < length xs → P (get_or xs k x0) (get_or ys k y0)
+pub both_at : {A B : Type 0} (P : A → B → Type 0) (x0 : A) (y0 : B) (xs : List A) (ys : List B) → EachBoth P xs ys → (k : ℕ) → k < length xs → P (get_or xs k x0) (get_or ys k y0)
 both_at P x0 y0 [] ys h k l = absurd (omega arith)
 both_at P x0 y0 (x ∷ xs) [] h k l = absurd h
 both_at P x0 y0 (x ∷ xs) (y ∷ ys) h zero l = h.0

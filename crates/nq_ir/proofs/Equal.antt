@@ -11,6 +11,22 @@ use Rattle.std.proofs.lemmas.Slice.Eq.{bytes_eq-Decides}
 pub bytes_same : (a b : List ℕ) → a ≡ b → bytes_eq a b ≡ true
 bytes_same a b e = (bytes_eq-Decides a b).1 e
 
+pub bytes_differ : (a b : List ℕ) → (a ≡ b → ⊥) → bytes_eq a b ≡ false
+bytes_differ a b h = go (bytes_eq a b) refl
+  where
+    go : (t : Bool) → bytes_eq a b ≡ t → t ≡ false
+    go true e = absurd (h ((bytes_eq-Decides a b).0 e))
+    go false e = refl
+
+pub bytes_turned : (a b : List ℕ) → bytes_eq a b ≡ bytes_eq b a
+bytes_turned a b = go (bytes_eq a b) refl (bytes_eq b a) refl
+  where
+    go : (x : Bool) → bytes_eq a b ≡ x → (y : Bool) → bytes_eq b a ≡ y → x ≡ y
+    go true e true f = refl
+    go true e false f = let w : true ≡ false = sym ((bytes_eq-Decides b a).1 (sym ((bytes_eq-Decides a b).0 e))) ∙ f in w
+    go false e true f = let w : false ≡ true = sym e ∙ (bytes_eq-Decides a b).1 (sym ((bytes_eq-Decides b a).0 f)) in w
+    go false e false f = refl
+
 pub nat_same : (a b : ℕ) → a ≡ b → nat_eq a b ≡ true
 nat_same a b e = (Decides-eqb a b).1 e
 

@@ -2,7 +2,7 @@
 use Rattle.std.proofs.Common.{◌≡◌, ℕ, zero, suc, ◌<◌, ◌≤◌, List, [], ◌∷◌, map, refl, sym, ap, ap₂, ◌∙◌, subst, Bool, true, false, cond, nat_eq, length, get_or, arith, inl, inr, ⊎_elim, ◌⊎◌, true≢false}
 use Rattle.std.proofs.lemmas.Bool.Decides.{Decides-eqb}
 use Rattle.std.specs.List.{AllByRecursion as Each}
-use Rattle.nq_ir.proofs.Ascending.{Ascends, sorted_ascends}
+use Rattle.nq_ir.proofs.Ascending.{Ascends, differ_turned, sorted_ascends, strictly}
 use Rattle.nq_ir.proofs.Distinct.{Among, first, later}
 use Rattle.nq_ir.proofs.Equal.{nat_same}
 use Rattle.nq_ir.specs.Lets.{LetTree, by_parent, let_around, let_number, let_of, lets_after, lets_before, lets_of, no_let, part_from, parts_on, strand_of}
@@ -58,6 +58,10 @@ have_lets : (ds : List StrandTree) → Each (λ d. HasLet (lets_of ds) d.parent)
 unfolding Served
 have_lets ds = each_reordered (λ d. HasLet (lets_of ds) d.parent) (by_parent ds) ds (reordered_sym ds (by_parent ds) (parents_reordered ds)) (served (by_parent ds) 0)
 
+pub have_parents : (ds : List StrandTree) → Each (λ d. Among d.parent (0 ∷ map (λ l. l.parent) (lets_of ds))) ds
+have_parents ds =
+    each_map (λ d. HasLet (lets_of ds) d.parent) (λ d. Among d.parent (0 ∷ map parent_of (lets_of ds))) (λ d h. ⊎_elim (λ i. subst (λ t. Among d.parent (t ∷ map parent_of (lets_of ds))) i first) (λ m. later m) h) ds (have_lets ds)
+
 -- the let of a parent
 let_there : (P : LetTree → Type 0) (t : ℕ) (lets : List LetTree) → Each P lets → Among t (map parent_of lets) → P (get_or lets (lets_before t lets) no_let) × ((get_or lets (lets_before t lets) no_let).parent ≡ t) × (lets_before t lets < length lets)
 let_there P t [] e m = elim m [ ]
@@ -77,7 +81,7 @@ module _ (info : ℕ → List Gen × Conds) where
   abbrev pub Around : StrandTree → Type 0
   Around d = (info d.parent).0 ≡ d.outer_gens × (info d.parent).1 ≡ d.outer_conds
 
-  abbrev let_at : ℕ → LetTree
+  abbrev pub let_at : ℕ → LetTree
   let_at t = record { parent = t; gens = (info t).0; conds = (info t).1 }
 
   around_let : (d : StrandTree) → Around d → let_around d ≡ let_at d.parent
@@ -100,10 +104,13 @@ module _ (info : ℕ → List Gen × Conds) where
   parts_are lets top e (d ∷ ds) h a =
       ap₂ (λ (x : StrandTree) (z : List StrandTree). x ∷ z) (same_strand lets (let_number lets d.parent) d (number_leads lets top e d.parent h.0) a.0) (parts_are lets top e ds h.1 a.1)
 
+  pub lets_at : (here : List StrandTree) → Each Around here → Each (λ l. l ≡ let_at l.parent) (lets_of here)
+  lets_at here a = each_let (λ l. l ≡ let_at l.parent) here (each_map Around (λ d. let_around d ≡ let_at d.parent) around_let here a)
+
   -- the parts are the strands
   pub strands_again : (here : List StrandTree) → info 0 ≡ ([], no_cond) → Each Around here → map (strand_of (lets_of here)) (parts_on (lets_of here) here) ≡ here
   strands_again here top a =
-      parts_are (lets_of here) top (each_let (λ l. l ≡ let_at l.parent) here (each_map Around (λ d. let_around d ≡ let_at d.parent) around_let here a)) here (have_lets here) a
+      parts_are (lets_of here) top (lets_at here a) here (have_lets here) a
 
 -- each part has its let
 number_known : (lets : List LetTree) (t : ℕ) → HasLet lets t → let_number lets t ≤ length lets
@@ -136,18 +143,8 @@ lets_rise (d ∷ ds) last e a = go (nat_eq d.parent last) refl (lets_rise ds las
         → Each (λ l. last < l.parent) (cond b (lets_after last ds) (let_around d ∷ lets_after d.parent ds)) × IsRising (map parent_of (cond b (lets_after last ds) (let_around d ∷ lets_after d.parent ds)))
     go true f s o = s
     go false f s o =
-        let other : d.parent ≡ last → ⊥ = λ i. true≢false (sym (nat_same d.parent last i) ∙ f) in
-        let low : last < d.parent = by_cases d.parent last e.0 other in
+        let low : last < d.parent = strictly last d.parent e.0 (differ_turned d.parent last f) in
         ((low, each_map (λ l. d.parent < l.parent) (λ l. last < l.parent) (λ l (h : d.parent < l.parent). omega (arith, h, low)) (lets_after d.parent ds) o.0), (each_parent (λ m. d.parent < m) (lets_after d.parent ds) o.0, o.1))
-      where
-        by_cases : (x y : ℕ) → y ≤ x → (x ≡ y → ⊥) → y < x
-        by_cases x y h n = ⊎_elim (λ (i : x ≡ y). absurd (n i)) (λ (l : y < x). l) (apart x y h)
-          where
-            apart : (x y : ℕ) → y ≤ x → (x ≡ y) ⊎ (y < x)
-            apart zero zero h = inl refl
-            apart zero (suc y) h = absurd (omega (arith, h))
-            apart (suc x) zero h = inr (omega arith)
-            apart (suc x) (suc y) h = ⊎_elim (λ i. inl (ap suc i)) (λ (l : y < x). inr (omega (arith, l))) (apart x y (omega (arith, h)))
 
 all_above : (ds : List StrandTree) → Each (λ d. 0 ≤ d.parent) ds
 all_above [] = tt

@@ -66,7 +66,7 @@ pub among_cases : {A : Type 0} {y x : A} {xs : List A} → Among y (x ∷ xs) �
 among_cases first = inl refl
 among_cases (later m) = inr m
 
-among_reordered : {A : Type 0} (x : A) (xs ys : List A) → Among x xs → Reordered xs ys → Among x ys
+pub among_reordered : {A : Type 0} (x : A) (xs ys : List A) → Among x xs → Reordered xs ys → Among x ys
 among_reordered x xs ys m r = go m ys r
   where
     put : {A : Type 0} {x y : A} {ys rest : List A} → Pick y ys rest → (x ≡ y) ⊎ Among x rest → Among x ys
@@ -203,7 +203,7 @@ module _ (ts : Tables) (sorted : ℕ → List Env) where
           let t : nat_eq d.0.parent s.tag ≡ false = ap (nat_eq d.0.parent) e ∙ h in
           r ∙ ap (λ b. flat_map (children_of ts s.rows) (cond b (d.0 ∷ filter (λ x. nat_eq x.parent s.tag) (side_strands ds)) (filter (λ x. nat_eq x.parent s.tag) (side_strands ds)))) (sym t)
 
-matched_map_right : {A B C : Type 0} (R : A → B → Type 0) (S : A → C → Type 0) (g : B → C) → ((x : A) (y : B) → R x y → S x (g y)) → (xs : List A) (ys : List B) → Matched R xs ys → Matched S xs (map g ys)
+pub matched_map_right : {A B C : Type 0} (R : A → B → Type 0) (S : A → C → Type 0) (g : B → C) → ((x : A) (y : B) → R x y → S x (g y)) → (xs : List A) (ys : List B) → Matched R xs ys → Matched S xs (map g ys)
 matched_map_right R S g t [] ys e = ap (λ (l : List _). map g l) e
 matched_map_right R S g t (x ∷ xs) ys m =
     (g m.0, map g m.1, pick_map m.2, t x m.0 m.3, matched_map_right R S g t xs m.1 m.4)
@@ -308,7 +308,7 @@ part_tells ts tags sorted w c t (p ∷ ps) ms b h = (
   part_tells ts tags sorted w c t ps (map tail_of ms) (omega (arith, map_length tail_of ms)) (each_mapped tail_of (NamesSpots (numbered 1 (sorted c.tag)) (p ∷ ps)) (NamesSpots (numbered 1 (sorted c.tag)) ps) (λ m g. names_tail (numbered 1 (sorted c.tag)) p ps m g) ms h),
 )
 
-each_among : {A : Type 0} (xs : List A) → Each (λ x. Among x xs) xs
+pub each_among : {A : Type 0} (xs : List A) → Each (λ x. Among x xs) xs
 each_among [] = tt
 each_among (x ∷ xs) = (first, each_map (λ y. Among y xs) (λ y. Among y (x ∷ xs)) (λ y h. later h) xs (each_among xs))
 
@@ -326,7 +326,7 @@ map_pair : (k : ℕ) (es : List Env) → map (λ (p : ℕ × Env). p.1) (map (λ
 map_pair k [] = refl
 map_pair k (e ∷ es) = ap (λ (l : List Env). e ∷ l) (map_pair k es)
 
-combos_envs : (ts : Tables) (c : StrandTree) (lets : List (ℕ × Env)) → map (λ p. p.1) (combos ts lets c) ≡ flat_map (λ e. kept ts c.gens c.conds e) (map (λ p. p.1) lets)
+pub combos_envs : (ts : Tables) (c : StrandTree) (lets : List (ℕ × Env)) → map (λ p. p.1) (combos ts lets c) ≡ flat_map (λ e. kept ts c.gens c.conds e) (map (λ p. p.1) lets)
 combos_envs ts c [] = refl
 combos_envs ts c (p ∷ lets) =
     map-append (λ (z : ℕ × Env). z.1) (map (λ e. (p.0, e)) (kept ts c.gens c.conds p.1)) (combos ts lets c)

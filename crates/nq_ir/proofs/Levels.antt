@@ -134,25 +134,30 @@ tags_differ (d ∷ here) h =
     others [] a e = tt
     others (x ∷ ds) a e = (ap (λ k. cond k (d ∷ filter (λ c. nat_eq c.tag x.tag) here) (filter (λ c. nat_eq c.tag x.tag) here)) a.0 ∙ e.0, others ds a.1 e.1)
 
-mutual
-  levels_in_tags : (A : TypeTree) (s : ℕ) (here : List PlacedComp) → Distinct (flat_map strand_tags here) → Each TagsDiffer (levels_in A s here)
-  levels_in_tags int s here h = tt
-  levels_in_tags bool s here h = tt
-  levels_in_tags text s here h = tt
-  levels_in_tags (rec fs) s here h = levels_fields_tags fs s here h
-  levels_in_tags (bag A) s here h =
-      let x = flat_map (under s) here in
-      let u : Distinct (flat_map strand_tags x) = distinct_sub (below_tags s here) h in
-      (tags_differ x (distinct_sub (own_tags x) u), levels_in_tags A 0 x u)
-  levels_in_tags (fun A B) s here h = tt
+-- what holds of comprehensions whose tags differ holds at each path
+module _ (Q : List PlacedComp → Type 0) (from : (here : List PlacedComp) → Distinct (map (λ d. d.tag) here) → Q here) where
+  mutual
+    levels_in_apart : (A : TypeTree) (s : ℕ) (here : List PlacedComp) → Distinct (flat_map strand_tags here) → Each Q (levels_in A s here)
+    levels_in_apart int s here h = tt
+    levels_in_apart bool s here h = tt
+    levels_in_apart text s here h = tt
+    levels_in_apart (rec fs) s here h = levels_fields_apart fs s here h
+    levels_in_apart (bag A) s here h =
+        let x = flat_map (under s) here in
+        let u : Distinct (flat_map strand_tags x) = distinct_sub (below_tags s here) h in
+        (from x (distinct_sub (own_tags x) u), levels_in_apart A 0 x u)
+    levels_in_apart (fun A B) s here h = tt
 
-  levels_fields_tags : (fs : FieldTypes) (s : ℕ) (here : List PlacedComp) → Distinct (flat_map strand_tags here) → Each TagsDiffer (levels_fields fs s here)
-  levels_fields_tags none s here h = tt
-  levels_fields_tags (field k A fs) s here h = each_join TagsDiffer (levels_in A s here) (levels_fields fs (s + slots A) here) (levels_in_tags A s here h) (levels_fields_tags fs (s + slots A) here h)
+    levels_fields_apart : (fs : FieldTypes) (s : ℕ) (here : List PlacedComp) → Distinct (flat_map strand_tags here) → Each Q (levels_fields fs s here)
+    levels_fields_apart none s here h = tt
+    levels_fields_apart (field k A fs) s here h = each_join Q (levels_in A s here) (levels_fields fs (s + slots A) here) (levels_in_apart A s here h) (levels_fields_apart fs (s + slots A) here h)
+
+  pub levels_apart : (A : TypeTree) (cs : Comps) → Distinct (comps_tags cs) → Each Q (levels A cs)
+  levels_apart A cs h =
+      let x = placed 0 [] no_cond cs in
+      let u : Distinct (flat_map strand_tags x) = subst Distinct (sym (strands_tags 0 [] no_cond cs)) h in
+      (from x (distinct_sub (own_tags x) u), levels_in_apart A 0 x u)
 
 -- tags that differ in the form differ at each path
 pub levels_tags : (A : TypeTree) (cs : Comps) → Distinct (comps_tags cs) → Each TagsDiffer (levels A cs)
-levels_tags A cs h =
-    let x = placed 0 [] no_cond cs in
-    let u : Distinct (flat_map strand_tags x) = subst Distinct (sym (strands_tags 0 [] no_cond cs)) h in
-    (tags_differ x (distinct_sub (own_tags x) u), levels_in_tags A 0 x u)
+levels_tags A cs h = levels_apart TagsDiffer tags_differ A cs h

@@ -3,12 +3,22 @@ pub mod Fits
 pub mod Building
 pub mod Spots
 pub mod Distinct
+pub mod RawMeanings
+pub mod RawTypes
+pub mod RawChoices
+pub mod TermForms
+pub mod Numbered
+pub mod Dealt
+pub mod NumberedTypes
+pub mod Words
+pub mod NormalForms
+pub mod TypedStrands
 pub mod Nested
 pub mod Levels
 pub mod Paths
 pub mod LevelTypes
 pub mod Legible
-mod Ascending
+pub mod Ascending
 pub mod Insert
 pub mod Sorting
 pub mod Rows
@@ -17,6 +27,11 @@ pub mod Scopes
 pub mod Allowed
 pub mod Stored
 pub mod Whole
+pub mod Inserted
+pub mod Written
+pub mod Pairs
+pub mod WrittenForms
 pub mod Forms
 pub mod Worked
 pub mod Examples
+pub mod Witness

@@ -56,7 +56,7 @@ mutual
   within_avoids_tests V ns a no_test h = tt
   within_avoids_tests V ns a (test gens conds xs) h = (within_avoids_all V ns a conds h.0, within_avoids_tests V ns a xs h.1)
 
-abbrev Inside : List ℕ → List ℕ → Type 0
+abbrev pub Inside : List ℕ → List ℕ → Type 0
 Inside V W = (n : ℕ) → Among n V → Among n W
 
 column_known : (S : (List TableShape)) (sc : List Gen) (g : ℕ) (l : Label) (T : ColumnType) → column_type_in l (gen_columns S sc g) ≡ Some T → Among g (numbers sc)
@@ -67,7 +67,7 @@ column_known S (k ∷ sc) g l T h = go (nat_eq g k.number) refl h (column_known 
     go true e h f = subst (λ n. Among g (n ∷ numbers sc)) ((Decides-eqb g k.number).0 e) first
     go false e h f = later (f h)
 
-inside_append : (xs ys W : List ℕ) → Inside xs W → Inside ys W → Inside (xs ++ ys) W
+pub inside_append : (xs ys W : List ℕ) → Inside xs W → Inside ys W → Inside (xs ++ ys) W
 inside_append [] ys W f g n m = g n m
 inside_append (x ∷ xs) ys W f g n m =
     ⊎_elim (λ e. f n (subst (λ z. Among n (z ∷ xs)) e first)) (λ k. inside_append xs ys W (λ j i. f j (later i)) g n k) (among_cases m)
@@ -116,7 +116,7 @@ within_both : (V : List ℕ) (xs ys : Conds) → WithinAll V xs → WithinAll V 
 within_both V no_cond ys h k = k
 within_both V (and_cond x xs) ys h k = (h.0, within_both V xs ys h.1 k)
 
-distinct_join : (xs ys : List ℕ) → Distinct xs → Distinct ys → Apart xs ys → Distinct (xs ++ ys)
+pub distinct_join : (xs ys : List ℕ) → Distinct xs → Distinct ys → Apart xs ys → Distinct (xs ++ ys)
 distinct_join [] ys d e a = e
 distinct_join (x ∷ xs) ys d e a = (each_join (λ m. nat_eq x m ≡ false) xs ys d.0 a.0, distinct_join xs ys d.1 e a.1)
 
@@ -202,7 +202,7 @@ record Context (info : ℕ → Scoping) (p : ℕ) (og : List Gen) (oc : Conds) (
   conds_seen : WithinAll seen oc
   differ : Distinct (numbers og)
 
-from_inside : (V W N : List ℕ) → Inside V W → Apart W N → Apart V N
+pub from_inside : (V W N : List ℕ) → Inside V W → Apart W N → Apart V N
 from_inside [] W N i a = tt
 from_inside (v ∷ V) W N i a = (each_among (λ x. Each (λ y. nat_eq x y ≡ false) N) (i v first) a, from_inside V W N (λ n m. i n (later m)) a)
 

@@ -1,5 +1,10 @@
 -- A list sorted by its keys.
-use Rattle.std.proofs.Common.{◌≡◌, List, [], ◌∷◌, map, refl, sym, ap, ◌∙◌, Bool, true, false, cond}
+use Rattle.std.proofs.Common.{◌≡◌, List, [], ◌∷◌, map, refl, sym, ap, ap₂, ◌∙◌, Bool, true, false, cond}
+use Rattle.std.specs.Cmp.{IsTotalOrder}
+use Rattle.std.specs.Ordering.{is_gt, is_lt, ordering_reverse}
+use Rattle.std.specs.declared.cmp.Ordering.{Ordering}
+use Rattle.std.specs.declared.cmp.Ordering.TheVariants.{Less, Equal, Greater}
+use Rattle.nq_model.specs.Orders.{put_by, sorted_by}
 use Rattle.nq_model.proofs.Numberings.{each_map}
 use Rattle.nq_model.specs.Bags.{Pick, Reordered, here, there}
 use Rattle.nq_model.specs.Numberings.{Ranks, Rises}
@@ -61,3 +66,19 @@ module _ {X K : Type 0} (lt : K → K → Bool) (key : X → K) where
     pub sort_rises : (xs : List X) → Rises lt (map key (sort_by xs))
     sort_rises [] = tt
     sort_rises (x ∷ xs) = put_rises x (sort_by xs) (sort_rises xs)
+
+turned : (r s : Ordering) → r ≡ ordering_reverse s → is_gt r ≡ is_lt s
+turned r Less e = ap is_gt e
+turned r Equal e = ap is_gt e
+turned r Greater e = ap is_gt e
+
+-- the same sorting, by the comparison
+module _ {X K : Type 0} (cmp : K → K → Ordering) (o : IsTotalOrder cmp) (key : X → K) where
+  put_is : (x : X) (ys : List X) → put_by (λ y z. cmp (key y) (key z)) x ys ≡ put_in (λ j k. is_lt (cmp j k)) key x ys
+  put_is x [] = refl
+  put_is x (y ∷ ys) =
+      ap₂ (λ b (l : List X). cond b (y ∷ l) (x ∷ y ∷ ys)) (turned (cmp (key x) (key y)) (cmp (key y) (key x)) (o.antisymm (key x) (key y))) (put_is x ys)
+
+  pub sorted_is : (xs : List X) → sorted_by (λ y z. cmp (key y) (key z)) xs ≡ sort_by (λ j k. is_lt (cmp j k)) key xs
+  sorted_is [] = refl
+  sorted_is (x ∷ xs) = ap (put_by (λ y z. cmp (key y) (key z)) x) (sorted_is xs) ∙ put_is x (sort_by (λ j k. is_lt (cmp j k)) key xs)

@@ -1,14 +1,15 @@
 -- Rows of the tables of a schema have the schema's columns, and cells tell them apart.
-use Rattle.std.proofs.Common.{◌≡◌, ◌≢◌, ℕ, List, [], ◌∷◌, map, zip, refl, sym, ap, ap₂, ◌∙◌, Bool, true, false, cond, find, Some}
+use Rattle.std.proofs.Common.{◌≡◌, ◌≢◌, ℕ, List, [], ◌∷◌, map, zip, refl, sym, ap, ap₂, ◌∙◌, Bool, true, false, cond, Some}
 use Rattle.std.specs.Str.{bytes_eq}
 use Rattle.std.specs.List.{AllByRecursion as Each}
 use Rattle.std.proofs.lemmas.Slice.Eq.{bytes_eq-Decides}
 use Rattle.std.proofs.lemmas.List.Elements.{recursion_from_All}
 use Rattle.nq_model.proofs.Numberings.{each_map}
-use Rattle.nq_model.specs.Cells.{column_type_of}
+use Rattle.nq_model.specs.Cells.{RowFits, column_type_of}
 use Rattle.nq_model.specs.Databases.{FilledTable, filled, database}
 use Rattle.nq_model.specs.Numberings.{TellsApart}
 use Rattle.nq_model.specs.Orders.{AreDistinct}
+use Rattle.nq_model.specs.SchemaTables.{AreTablesOf}
 use Rattle.nq_model.specs.Typing.{shape_named}
 use Rattle.nq_model.specs.Tables.{Columns, names_of, types_of, IsProperShape, IsProperSchema}
 use Rattle.nq_model.specs.declared.table.Cell.{Cell}
@@ -19,7 +20,7 @@ use Rattle.nq_model.specs.NamedRows.{Label, Row, named}
 use Rattle.nq_ir.specs.Meanings.{Env, rows_in, kept}
 use Rattle.nq_ir.specs.Spots.{spot_cells}
 use Rattle.nq_ir.specs.Trees.{Conds}
-use Rattle.nq_ir.specs.WellFormed.{columns_or_none, column_names, IsRowOf, AreTablesOf}
+use Rattle.nq_ir.specs.WellFormed.{columns_or_none, column_names}
 use Rattle.nq_ir.proofs.Paths.{LabelsDiffer}
 use Rattle.nq_ir.proofs.Rows.{Uniform, RowsOf, kept_rows}
 
@@ -30,19 +31,19 @@ row_names (c ∷ columns) (x ∷ row) h =
     let rest : map column_type_of row ≡ types_of columns = cc in
     ap (λ (l : List Label). c.0 ∷ l) (row_names columns row rest)
 
-rows_have : (columns : Columns) (rows : List (List Cell)) → Each (IsRowOf columns) rows → Each (λ (r : Row). map (λ c. c.0) r ≡ names_of columns) (named (names_of columns) rows)
+rows_have : (columns : Columns) (rows : List (List Cell)) → Each (RowFits (types_of columns)) rows → Each (λ (r : Row). map (λ c. c.0) r ≡ names_of columns) (named (names_of columns) rows)
 rows_have columns [] h = tt
-rows_have columns (row ∷ rows) h = (row_names columns row h.0.0, rows_have columns rows h.1)
+rows_have columns (row ∷ rows) h = (row_names columns row h.0, rows_have columns rows h.1)
 
 -- the rows of a schema's tables have their columns
 pub uniform : (shapes : List TableShape) (tables : List (List (List Cell))) → AreTablesOf shapes tables → Uniform (column_names shapes) (rows_in (database shapes tables))
 uniform [] tables h t = tt
 uniform (shape ∷ shapes) [] h t = absurd h
-uniform (shape ∷ shapes) (table ∷ tables) h t =
+uniform (shape ∷ shapes) (rows ∷ tables) h t =
     go (bytes_eq t shape.name) (uniform shapes tables h.1 t)
   where
-    go : (b : Bool) → Each (λ (r : Row). map (λ c. c.0) r ≡ column_names shapes t) (rows_in (database shapes tables) t) → Each (λ (r : Row). map (λ c. c.0) r ≡ names_of (columns_or_none (cond b (Some shape) (shape_named t shapes)))) (cond b (named (names_of shape.columns) table) (rows_in (database shapes tables) t))
-    go true i = rows_have shape.columns table h.0.rows
+    go : (b : Bool) → Each (λ (r : Row). map (λ c. c.0) r ≡ column_names shapes t) (rows_in (database shapes tables) t) → Each (λ (r : Row). map (λ c. c.0) r ≡ names_of (columns_or_none (cond b (Some shape) (shape_named t shapes)))) (cond b (named (names_of shape.columns) rows) (rows_in (database shapes tables) t))
+    go true i = rows_have shape.columns rows (recursion_from_All (RowFits (types_of shape.columns)) rows h.0.fit)
     go false i = i
 
 differs_all : (l : Label) (ls : List Label) → Each (λ m. l ≢ m) ls → Each (λ m. bytes_eq m l ≡ false) ls

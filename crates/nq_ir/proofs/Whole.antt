@@ -3,6 +3,7 @@ use Rattle.std.proofs.Common.{◌≡◌, ℕ, List, [], ◌∷◌, ◌++◌, map
 use Rattle.std.specs.List.{AllByRecursion as Each}
 use Rattle.nq_model.proofs.Numberings.{each_map}
 use Rattle.nq_model.specs.Databases.{database}
+use Rattle.nq_model.specs.SchemaTables.{AreTablesOf}
 use Rattle.nq_model.specs.Tables.{IsProperSchema}
 use Rattle.nq_model.specs.Types.{TypeTree, bag}
 use Rattle.nq_model.specs.Values.{Same, bag_of}
@@ -15,7 +16,7 @@ use Rattle.nq_ir.specs.Parts.{element_types}
 use Rattle.nq_ir.specs.Paths.{paths}
 use Rattle.nq_ir.specs.Spots.{StrandTree, Child, Spot, both, levels, strands, spots, top_spot, children_of, outer_spots, strand_rows, by_tag, strands_at, TagsDiffer}
 use Rattle.nq_ir.specs.Trees.{FormTree}
-use Rattle.nq_ir.specs.WellFormed.{IsNumber, IsWellFormed, AreTablesOf, comps_tags, comps_numbers, column_names}
+use Rattle.nq_ir.specs.WellFormed.{IsNumber, IsWellFormed, comps_tags, comps_numbers, column_names}
 use Rattle.nq_ir.proofs.Allowed.{Legibly, StrandFine, levels_ok, legibly, legible_same}
 use Rattle.nq_ir.proofs.Distinct.{Distinct, distinct}
 use Rattle.nq_ir.proofs.Equal.{nat_differ}
@@ -31,10 +32,10 @@ not_top : (ns : List ℕ) → Each IsNumber ns → Each (λ n. nat_eq 0 n ≡ fa
 not_top ns h = each_map IsNumber (λ n. nat_eq 0 n ≡ false) (λ n k. nat_differ 0 n (λ e. let u : 1 ≤ n = k.0 in absurd (omega arith))) ns h
 
 module _ (schema : Schema) (form : FormTree) (w : IsWellFormed schema.tables form) where
-  tags_apart : Distinct (0 ∷ comps_tags form.comps)
+  pub tags_apart : Distinct (0 ∷ comps_tags form.comps)
   tags_apart = (not_top (comps_tags form.comps) w.tags_fit, distinct (comps_tags form.comps) w.tags_differ)
 
-  fits : FitsComps form.comps form.element
+  pub fits : FitsComps form.comps form.element
   fits = typed_comps_fit schema.tables [] form.comps form.element w.typed
 
   tags_differ : Each TagsDiffer (levels form.element form.comps)

@@ -2,7 +2,7 @@
 --
 -- After the let-insertion and the flat indexes of Cheney, Lindley and Wadler, "Query Shredding", SIGMOD
 -- 2014; numbers as ROW_NUMBER() of SQL:2003 deals them, in any order among ties.
-use Rattle.std.specs.Prelude.{◌≡◌, ℕ, zero, suc, ◌<◌, ◌^◌, List, [], ◌∷◌, ◌++◌, length, map, zip, flat_map, filter, get_or, nat_eq, ◌&&◌, cond}
+use Rattle.std.specs.Prelude.{◌≡◌, ◌≢◌, ℕ, zero, suc, ◌<◌, ◌≤◌, ◌^◌, List, [], ◌∷◌, ◌++◌, length, map, zip, flat_map, filter, get_or, nat_eq, ◌&&◌, cond}
 use Rattle.std.specs.List.{AllByRecursion as Each}
 use Rattle.std.specs.Ordering.{nat_cmp}
 use Rattle.nq_model.specs.Bags.{Reordered}
@@ -16,12 +16,13 @@ use Rattle.nq_ir.specs.declared.path.Step.{Step}
 use Rattle.nq_ir.specs.declared.lets.LetQuery.{LetQuery}
 use Rattle.nq_ir.specs.declared.lets.LetPart.{LetPart}
 use Rattle.nq_ir.specs.declared.lets.LetForm.{LetForm}
+use Rattle.nq_ir.specs.Among.{Among}
 use Rattle.nq_ir.specs.Trees.{Conds, no_cond, conds_tree, ShapeTree, shape_tree, FormTree}
 use Rattle.nq_model.specs.NamedRows.{Label, cell_under, no_cell}
 use Rattle.nq_ir.specs.Meanings.{Tables, Env, row_of, kept, value, EachBoth}
 use Rattle.nq_ir.specs.Building.{Source}
 use Rattle.nq_ir.specs.Paths.{paths}
-use Rattle.nq_ir.specs.Shredded.{ShreddedTree, shredded, IsShreddedOf}
+use Rattle.nq_ir.specs.Shredded.{ShreddedTree, shredded, IsShreddedOf, IsRising}
 use Rattle.nq_ir.specs.Spots.{StrandTree, shape_leaves, shape_slots}
 
 -- a comprehension that is a parent, with all generators and conditions down to it
@@ -214,3 +215,15 @@ pub record FormGives (cols : Label → List Label) (ts : Tables) (f : LetFormTre
 abbrev pub AllGive : (Label → List Label) → Tables → FormTree → List (List FlatRow) → Type 0
 AllGive cols ts form rows =
     EachBoth (λ p here. FormGives cols ts (insert_lets (shredded form p)) here) (paths (bag form.element)) rows
+
+-- What the let form of a shredded form is: its lets stand in the order of their parents, each parent of a strand once,
+-- and the parent 0 has none; each part stands on its parent's let, and with it is the strand again, in tag order. At
+-- the empty path there is no let, and at the others each part stands on one.
+pub record Inserts (s : ShreddedTree) (f : LetFormTree) : Type 0 where
+  pub parents_rise : IsRising (0 ∷ map (λ l. l.parent) f.lets)
+  pub parents_serve : Each (λ l. Among l.parent (map (λ d. d.parent) s.parts)) f.lets
+  pub lets_known : Each (λ p. p.from ≤ length f.lets) f.parts
+  pub strands : map (strand_of f.lets) f.parts ≡ s.parts
+  pub tags_rise : IsRising (map (λ p. p.tag) f.parts)
+  pub at_top : s.path ≡ [] → f.lets ≡ []
+  pub below : s.path ≢ [] → Each (λ p. 1 ≤ p.from) f.parts

@@ -5,9 +5,12 @@ pub mod Building
 pub mod Spots
 pub mod Shredded
 pub mod Lets
+pub mod Written
 pub mod WellFormed
 pub mod Paths
 pub mod Among
 pub mod RawForms
 pub mod NormalForms
+pub mod TypedStrands
+pub mod Words
 pub mod Printed

@@ -1,12 +1,12 @@
 -- Well-formed normal forms over a schema.
-use Rattle.std.specs.Prelude.{◌≡◌, ℕ, pos, negsuc, ◌<◌, ◌≤◌, ◌^◌, List, [], ◌∷◌, ◌++◌, ◌⊎◌, map, zip, cond, nat_eq, true, bytes_eq, Option, Some, None, IsSome}
+use Rattle.std.specs.Prelude.{◌≡◌, ℕ, ◌<◌, ◌≤◌, ◌^◌, List, [], ◌∷◌, ◌++◌, map, cond, nat_eq, true, bytes_eq, Option, Some, None, IsSome}
 use Rattle.std.specs.List.{AllByRecursion as Each}
-use Rattle.nq_model.specs.Cells.{RowFits, column_type_of}
+use Rattle.nq_model.specs.Cells.{column_type_of}
 use Rattle.nq_model.specs.Operators.{unary_type, binary_type}
 use Rattle.nq_model.specs.Orders.{AreDistinct}
 use Rattle.nq_model.specs.Proper.{IsNumeral, IsOrdered}
 use Rattle.nq_model.specs.Typing.{shape_named}
-use Rattle.nq_model.specs.Tables.{Columns, names_of, types_of}
+use Rattle.nq_model.specs.Tables.{Columns, names_of}
 use Rattle.nq_model.specs.Types.{TypeTree, int, bool, text, rec, bag, fun, FieldTypes, none, field, is_plain}
 use Rattle.nq_model.specs.declared.table.Cell.{Cell}
 use Rattle.nq_model.specs.declared.table.Cell.TheVariants as cell
@@ -15,8 +15,7 @@ use Rattle.nq_model.specs.declared.table.ColumnType.TheVariants as column_type
 use Rattle.nq_model.specs.declared.table.TableShape.{TableShape}
 use Rattle.nq_ir.specs.declared.base.Gen.{Gen}
 use Rattle.nq_ir.specs.Trees.{BaseTree, literal, column, unary, binary, choose, empty, Conds, no_cond, and_cond, Tests, no_test, test, BodyTree, plain_body, rec_body, bag_body, Bodies, no_body, with_body, Comps, no_comp, comp, FormTree}
-use Rattle.nq_model.specs.NamedRows.{Label, cell_under}
-use Rattle.nq_ir.specs.Meanings.{EachBoth}
+use Rattle.nq_model.specs.NamedRows.{Label}
 
 abbrev pub columns_or_none : Option TableShape → Columns
 columns_or_none None = []
@@ -168,27 +167,3 @@ pub record IsWellFormed (S : List TableShape) (form : FormTree) : Type 0 where
   pub tags_fit : Each IsNumber (comps_tags form.comps)
   pub numbers_differ : AreDistinct (comps_numbers form.comps)
   pub numbers_fit : Each IsNumber (comps_numbers form.comps)
-
--- an int cell is within 64 bits
-abbrev pub IsStored : Cell → Type 0
-IsStored (cell.Int (pos n)) = n < 2 ^ 63
-IsStored (cell.Int (negsuc n)) = n < 2 ^ 63
-IsStored (cell.Bool b) = Unit {0}
-IsStored (cell.Text t) = Unit {0}
-
--- a row has a cell for each column, of its type
-abbrev pub IsRowOf : Columns → List Cell → Type 0
-IsRowOf columns row = RowFits (types_of columns) row × Each IsStored row
-
--- the cells of a row under the columns of the key
-abbrev pub key_cells : TableShape → List Cell → List Cell
-key_cells shape row = map (λ l. cell_under l (zip (names_of shape.columns) row)) shape.key
-
--- rows that a table of this shape may hold: they fit, and where there is a key, no two have equal key cells
-pub record IsTableOf (shape : TableShape) (table : List (List Cell)) : Type 0 where
-  pub rows : Each (IsRowOf shape.columns) table
-  pub key : (shape.key ≡ []) ⊎ AreDistinct (map (key_cells shape) table)
-
--- tables of a schema, given by the rows of each, one to each shape
-abbrev pub AreTablesOf : List TableShape → List (List (List Cell)) → Type 0
-AreTablesOf shapes tables = EachBoth IsTableOf shapes tables

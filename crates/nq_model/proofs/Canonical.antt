@@ -2,16 +2,15 @@
 use Rattle.std.proofs.Common.{◌≡◌, ℕ, List, [], ◌∷◌, map, refl, sym, ap, ap₂, ◌∙◌, subst, Bool, true, false, cond}
 use Rattle.std.specs.declared.cmp.Ordering.{Ordering}
 use Rattle.std.specs.declared.cmp.Ordering.TheVariants.{Less, Equal, Greater}
-use Rattle.std.specs.Ordering.{is_gt, ordering_reverse, ordering_then, nat_cmp, bool_cmp}
-use Rattle.std.specs.Cmp.{ranked, int_ranked, int_cmp_total, bool_cmp_total}
+use Rattle.std.specs.Ordering.{is_gt, ordering_reverse, ordering_then, nat_cmp}
+use Rattle.std.specs.Cmp.{ranked}
 use Rattle.std.specs.Cmp.Lexicographic.{slice_cmp, nat_list_cmp_total, lists_total}
 use Rattle.nq_model.specs.Bags.{Pick, here, there, Matched, Reordered}
 use Rattle.nq_model.specs.Orders.{put_by, sorted_by, label_cmp}
 use Rattle.nq_model.specs.Cells.{cell_cmp}
+use Rattle.nq_model.specs.CellLaws.{cell_total, cells_tie}
 use Rattle.nq_model.specs.Values.{Nested, base, rec, bag, Elements, end, more, Fields, none, field, labels, elements, elements_of, bag_of, Same, SameFields, SameElements}
 use Rattle.nq_model.specs.Canonical.{value_cmp, fields_cmp, elements_cmp, canonical, canonical_fields, canonical_elements}
-use Rattle.nq_model.specs.declared.table.Cell.{Cell}
-use Rattle.nq_model.specs.declared.table.Cell.TheVariants.{Int, Bool as Truth, Text}
 use Rattle.nq_model.proofs.Orders.{IsStrictOrder, sorted_pick}
 use Rattle.nq_model.proofs.Sameness.{elements_back, same_trans, same_sym, same_matched}
 
@@ -52,62 +51,12 @@ label_order = record { total = nat_list_cmp_total; ties = lists_tie nat_cmp (λ 
 label_lists_order : IsStrictOrder (slice_cmp label_cmp)
 label_lists_order = record { total = lists_total nat_list_cmp_total; ties = lists_tie label_cmp label_order.ties }
 
-truths_tie : (a b : Bool) → bool_cmp a b ≡ Equal → a ≡ b
-truths_tie true true e = refl
-truths_tie true false e = absurd (cc)
-truths_tie false true e = absurd (cc)
-truths_tie false false e = refl
-
-cells_turned : (c d : Cell) → cell_cmp c d ≡ ordering_reverse (cell_cmp d c)
-cells_turned (Int a) (Int b) = int_cmp_total.antisymm a b
-cells_turned (Truth a) (Truth b) = bool_cmp_total.antisymm a b
-cells_turned (Text s) (Text t) = nat_list_cmp_total.antisymm s t
-cells_turned c d = refl
-
-cells_chain : (c d e : Cell) → cell_cmp c d ≡ Less → cell_cmp d e ≡ Less → cell_cmp c e ≡ Less
-cells_chain (Int a) (Int b) (Int c) p q = int_cmp_total.trans a b c p q
-cells_chain (Truth a) (Truth b) (Truth c) p q = bool_cmp_total.trans a b c p q
-cells_chain (Text s) (Text t) (Text u) p q = nat_list_cmp_total.trans s t u p q
-cells_chain (Int a) (Int b) (Truth c) p q = cc
-cells_chain (Int a) (Int b) (Text c) p q = cc
-cells_chain (Int a) (Truth b) (Int c) p q = cc
-cells_chain (Int a) (Truth b) (Truth c) p q = cc
-cells_chain (Int a) (Truth b) (Text c) p q = cc
-cells_chain (Int a) (Text b) (Int c) p q = cc
-cells_chain (Int a) (Text b) (Truth c) p q = cc
-cells_chain (Int a) (Text b) (Text c) p q = cc
-cells_chain (Truth a) (Int b) (Int c) p q = cc
-cells_chain (Truth a) (Int b) (Truth c) p q = cc
-cells_chain (Truth a) (Int b) (Text c) p q = cc
-cells_chain (Truth a) (Truth b) (Int c) p q = cc
-cells_chain (Truth a) (Truth b) (Text c) p q = cc
-cells_chain (Truth a) (Text b) (Int c) p q = cc
-cells_chain (Truth a) (Text b) (Truth c) p q = cc
-cells_chain (Truth a) (Text b) (Text c) p q = cc
-cells_chain (Text a) (Int b) (Int c) p q = cc
-cells_chain (Text a) (Int b) (Truth c) p q = cc
-cells_chain (Text a) (Int b) (Text c) p q = cc
-cells_chain (Text a) (Truth b) (Int c) p q = cc
-cells_chain (Text a) (Truth b) (Truth c) p q = cc
-cells_chain (Text a) (Truth b) (Text c) p q = cc
-cells_chain (Text a) (Text b) (Int c) p q = cc
-cells_chain (Text a) (Text b) (Truth c) p q = cc
-
-cells_tie : (c d : Cell) → cell_cmp c d ≡ Equal → c ≡ d
-cells_tie (Int a) (Int b) e = ap Int (int_ranked a b Equal (sym e))
-cells_tie (Truth a) (Truth b) e = ap Truth (truths_tie a b e)
-cells_tie (Text s) (Text t) e = ap Text (label_order.ties s t e)
-cells_tie c d e = absurd (cc)
-
 pub cell_order : IsStrictOrder cell_cmp
-cell_order = record {
-  total = record { antisymm = cells_turned; trans = cells_chain; congr = λ x y z e. ap (λ w. cell_cmp w z) (cells_tie x y e) };
-  ties = cells_tie;
-}
+cell_order = record { total = cell_total; ties = cells_tie }
 
 mutual
   values_turned : (v w : Nested) → value_cmp v w ≡ ordering_reverse (value_cmp w v)
-  values_turned (base c) (base d) = cells_turned c d
+  values_turned (base c) (base d) = cell_total.antisymm c d
   values_turned (base c) (rec gs) = refl
   values_turned (base c) (bag ws) = refl
   values_turned (rec fs) (base d) = refl
@@ -168,7 +117,7 @@ mutual
 
 mutual
   values_chain : (u v w : Nested) → value_cmp u v ≡ Less → value_cmp v w ≡ Less → value_cmp u w ≡ Less
-  values_chain (base c) (base d) (base e) p q = cells_chain c d e p q
+  values_chain (base c) (base d) (base e) p q = cell_total.trans c d e p q
   values_chain (rec fs) (rec gs) (rec hs) p q =
       then_chain (slice_cmp label_cmp (labels fs) (labels gs)) (slice_cmp label_cmp (labels gs) (labels hs)) (slice_cmp label_cmp (labels fs) (labels hs)) (fields_cmp fs gs) (fields_cmp gs hs) (fields_cmp fs hs)
       (label_lists_order.total.trans (labels fs) (labels gs) (labels hs))

@@ -14,6 +14,7 @@ pub mod Typing
 pub mod Judging
 pub mod FieldOrders
 pub mod ProperTypes
+pub mod ValueTypes
 pub mod TypingRows
 pub mod Substitution
 pub mod Unfolding

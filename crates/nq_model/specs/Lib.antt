@@ -4,6 +4,7 @@ pub mod Orders
 pub mod Types
 pub mod Cells
 pub mod CellRefs
+pub mod CellLaws
 pub mod Values
 pub mod Canonical
 pub mod Tables
@@ -12,6 +13,7 @@ pub mod SchemaTexts
 pub mod Terms
 pub mod Databases
 pub mod NamedRows
+pub mod SchemaTables
 pub mod Meaning
 pub mod Operators
 pub mod Numberings
@@ -23,6 +25,8 @@ pub mod Typing
 pub mod TypeOf
 pub mod Judging
 pub mod Proper
+pub mod ValueTypes
+pub mod QueryMeaning
 pub mod QueryTokens
 pub mod QueryGrammar
 pub mod QueryScope

@@ -17,6 +17,7 @@ mod text;
 mod ty;
 mod type_laws;
 mod value;
+mod value_laws;
 
 pub use cell_ref::CellRef;
 pub use laws::{canonical_laws, sameness_laws};
@@ -31,3 +32,4 @@ pub use text::{Label, Text};
 pub use ty::Ty;
 pub use type_laws::{judging_laws, typing_laws};
 pub use value::Value;
+pub use value_laws::meaning_laws;

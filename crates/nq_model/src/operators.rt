@@ -6,7 +6,6 @@ ghost use Rattle.nq_model.specs.Operators.{binary_value, int_of, is_true, unary_
 
 use crate::table::Cell;
 use crate::term::{Binary, Unary};
-use std::cmp::Ordering;
 
 /// Whether a cell is true; one that is no truth value counts as false.
 pub fn is_true(cell: &Cell) -> bool
@@ -32,19 +31,14 @@ fn int_of(cell: &Cell) -> i64
 fn is_equal(left: &Cell, right: &Cell) -> bool
     ensures { result ≡ cell_eq left.now right.now }
 {
-    match (left, right) {
-        (Cell::Int(left), Cell::Int(right)) => *left == *right,
-        (Cell::Bool(left), Cell::Bool(right)) => *left == *right,
-        (Cell::Text(left), Cell::Text(right)) => left.as_str() == right.as_str(),
-        _ => false,
-    }
+    left.as_ref() == right.as_ref()
 }
 
 // Whether the left cell stands before the right.
 fn is_below(left: &Cell, right: &Cell) -> bool
     ensures { result ≡ is_lt (cell_cmp left.now right.now) }
 {
-    left.as_ref().compare(&right.as_ref()) == Ordering::Less
+    left.as_ref() < right.as_ref()
 }
 
 /// What an operator gives for one operand.

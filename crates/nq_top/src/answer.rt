@@ -2,7 +2,7 @@
 ghost use Rattle.std.specs.Prelude.{◌≡◌, [], IfOk, slice_index_or};
 ghost use Rattle.std.specs.List.{filter};
 ghost use Rattle.nq_model.specs.Canonical.{canonical_text};
-ghost use Rattle.canon.specs.Rows.{rows_at};
+ghost use Rattle.rows.specs.Places.{rows_at};
 ghost use Rattle.nq_top.specs.Meanings.{is_top, answer_value};
 
 use canon::write_rows;

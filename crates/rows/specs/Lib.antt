@@ -2,3 +2,4 @@ pub mod Packed
 pub mod Blocks
 pub mod Columns
 pub mod Tables
+pub mod Places

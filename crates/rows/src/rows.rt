@@ -142,6 +142,29 @@ impl Rows {
         Ok(copy)
     }
 
+    // The cells of a row, lent to be read; none past the last row.
+    fn lent_row(&self, alloc: Global, row: usize) -> Result<Vec<CellRef<'_>>, Memory>
+        ensures { IfOk result (λ lent. map cell_seen lent.items ≡ slice_index_or self.now row []) }
+    {
+        let mut lent = Vec::with_capacity(alloc, self.width(row))?;
+        for column in 0..self.width(row) {
+            lent.push(self.cell(row, column))?;
+        }
+        Ok(lent)
+    }
+
+    /// A copy of the rows.
+    pub fn copy(&self, alloc: Global) -> Result<Rows, Memory>
+        ensures { IfOk result (λ copy. copy ≡ self.now) }
+    {
+        let mut copy = Rows::new(alloc);
+        for row in 0..self.len() {
+            let lent = self.lent_row(alloc, row)?;
+            copy.push_lent(lent.as_slice())?;
+        }
+        Ok(copy)
+    }
+
     // Makes the columns for rows like this one, where there is no row yet. The rows stay.
     fn make_columns(&mut self, row: &[CellRef<'_>]) -> Result<(), Memory>
         ensures { self.new ≡ self.old }

@@ -12,7 +12,7 @@ fn compare_keys(left: &[Cell], right: &[Cell]) -> Ordering
     ensures { result ≡ slice_cmp cell_cmp left.now right.now }
 {
     for i in 0..left.len().min(right.len()) {
-        let first = left[i].as_ref().compare(&right[i].as_ref());
+        let first = left[i].as_ref().cmp(&right[i].as_ref());
         if first != Ordering::Equal {
             return first;
         }

@@ -6,32 +6,37 @@ use Rattle.sql_profile.specs.Tokens.{First, Token, Name, Comma, Dot, Key, As, Fr
 use Rattle.sql_profile.proofs.TokenCuts.{fewer}
 
 -- the bytes at a place are cut into these tokens, by every count that is not too small
-abbrev pub Reads : ℕ → List ℕ → List Token → Type 0
-Reads place bs ts = (n : ℕ) → length bs ≤ n → tokens_from First n place bs ≡ Ok ts
+pub record Reads (place : ℕ) (bs : List ℕ) (ts : List Token) : Type 0 where
+  pub cut : (n : ℕ) → length bs ≤ n → tokens_from First n place bs ≡ Ok ts
 
 pub read_end : (place : ℕ) → Reads place [] (End place ∷ [])
-read_end place n h = refl
+read_end place = record { cut = λ n h. refl }
 
 pub read_gap : (place b : ℕ) (bs : List ℕ) (ts : List Token) (m : ℕ) → front First place b bs ≡ Gap m → 1 ≤ m → Reads (place + m) (drop m (b ∷ bs)) ts → Reads place (b ∷ bs) ts
-read_gap place b bs ts m is some rest zero h = absurd (omega (arith, h))
-read_gap place b bs ts m is some rest (suc n) h =
-    ap (λ f. go_on place (b ∷ bs) f (tokens_from First n)) is ∙ rest n (let e = fewer m b bs some in omega (arith, e, h))
+read_gap place b bs ts m is some rest = record { cut = go }
+  where
+    go : (n : ℕ) → length (b ∷ bs) ≤ n → tokens_from First n place (b ∷ bs) ≡ Ok ts
+    go zero h = absurd (omega (arith, h))
+    go (suc n) h = ap (λ f. go_on place (b ∷ bs) f (tokens_from First n)) is ∙ rest.cut n (let e = fewer m b bs some in omega (arith, e, h))
 
 pub read_token : (place b : ℕ) (bs : List ℕ) (ts : List Token) (m : ℕ) (t : ℕ → Token) → front First place b bs ≡ Takes m t → 1 ≤ m → Reads (place + m) (drop m (b ∷ bs)) ts → Reads place (b ∷ bs) (t place ∷ ts)
-read_token place b bs ts m t is some rest zero h = absurd (omega (arith, h))
-read_token place b bs ts m t is some rest (suc n) h =
-    ap (λ f. go_on place (b ∷ bs) f (tokens_from First n)) is ∙ ap (λ (r : Result (List Token) (ℕ × Stuck)). with_token (t place) r) (rest n (let e = fewer m b bs some in omega (arith, e, h)))
+read_token place b bs ts m t is some rest = record { cut = go }
+  where
+    go : (n : ℕ) → length (b ∷ bs) ≤ n → tokens_from First n place (b ∷ bs) ≡ Ok (t place ∷ ts)
+    go zero h = absurd (omega (arith, h))
+    go (suc n) h =
+        ap (λ f. go_on place (b ∷ bs) f (tokens_from First n)) is ∙ ap (λ (r : Result (List Token) (ℕ × Stuck)). with_token (t place) r) (rest.cut n (let e = fewer m b bs some in omega (arith, e, h)))
 
 -- a name in quotes
 name_len : (name rest : List ℕ) → Each (λ b. is_name_byte b ≡ true) name → prefix_len is_name_byte (name ++ 34 ∷ rest) ≡ length name
 name_len [] rest e = refl
 name_len (b ∷ bs) rest e = ap (λ t. cond t (1 + prefix_len is_name_byte (bs ++ 34 ∷ rest)) 0) e.0 ∙ ap (λ n. 1 + n) (name_len bs rest e.1) ∙ omega arith
 
-front_taken : (xs ys : List ℕ) → take (length xs) (xs ++ ys) ≡ xs
+pub front_taken : (xs ys : List ℕ) → take (length xs) (xs ++ ys) ≡ xs
 front_taken [] ys = refl
 front_taken (x ∷ xs) ys = ap (λ (l : List ℕ). x ∷ l) (front_taken xs ys)
 
-front_dropped : (xs ys : List ℕ) → drop (length xs) (xs ++ ys) ≡ ys
+pub front_dropped : (xs ys : List ℕ) → drop (length xs) (xs ++ ys) ≡ ys
 front_dropped [] ys = refl
 front_dropped (x ∷ xs) ys = front_dropped xs ys
 
@@ -66,7 +71,7 @@ read_name place name rest ts w r =
     (subst (λ (l : List ℕ). Reads (place + (length name + 2)) l ts) (sym (quoted_dropped name rest)) r)
 
 -- no mark stands at a comma or a dot
-no_mark : (b : Bool) → (b && false) ≡ false
+pub no_mark : (b : Bool) → (b && false) ≡ false
 no_mark true = refl
 no_mark false = refl
 
@@ -86,4 +91,4 @@ pub read_from : (place : ℕ) (rest : List ℕ) (ts : List Token) → Reads (pla
 read_from place rest ts r = read_token place 70 (82 ∷ 79 ∷ 77 ∷ 32 ∷ rest) ts 4 (λ p. Key p From) refl (omega arith) r
 
 pub read_all : (text : List ℕ) (ts : List Token) → Reads 0 text ts → tokens_of First text ≡ Ok ts
-read_all text ts r = r (length text) (omega arith)
+read_all text ts r = r.cut (length text) (omega arith)

@@ -22,3 +22,8 @@ pub mod Lexed
 pub mod ScanSpelled
 pub mod ScanScoped
 pub mod ScanAsked
+pub mod Words
+pub mod Laid
+pub mod Spelled
+pub mod TokenHolds
+pub mod HeldTables

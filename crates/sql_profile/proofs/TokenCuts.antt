@@ -70,7 +70,7 @@ record Cut (bytes : ℕ) (ts : List Token) : Type 0 where
   pub place : ℕ
   pub ends : ts ≡ before ++ End place ∷ []
 
-ok_same : {A E : Type 0} (x y : A) → ◌≡◌ {A = Result A E} (Ok x) (Ok y) → x ≡ y
+pub ok_same : {A E : Type 0} (x y : A) → ◌≡◌ {A = Result A E} (Ok x) (Ok y) → x ≡ y
 ok_same x y e = cc
 
 pub fewer : (n b : ℕ) (bs : List ℕ) → 1 ≤ n → length (drop n (b ∷ bs)) ≤ length bs

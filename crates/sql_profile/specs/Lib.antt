@@ -11,3 +11,5 @@ pub mod Machine
 pub mod Texts
 pub mod NumberedKeys
 pub mod WritableNames
+pub mod Printed
+pub mod Spellable

@@ -11,6 +11,7 @@ use Rattle.nq_model.specs.Operators.{unary_type, binary_type}
 use Rattle.nq_model.specs.Tables.{Columns, types_of}
 use Rattle.nq_model.specs.declared.table.ColumnType.{ColumnType}
 use Rattle.nq_model.specs.declared.table.ColumnType.TheVariants.{Int, Bool as Truth, Text}
+use Rattle.nq_model.specs.declared.table.TableShape.{TableShape}
 use Rattle.sql_profile.specs.declared.server.Loaded.{Loaded}
 use Rattle.sql_profile.specs.declared.tree.Source.{Source}
 use Rattle.sql_profile.specs.Trees.{SourceTree, ExprTree, int, bool, text, column, unary, binary, choose, not_exists, ExprTrees, no_expr, then_expr, QueryTree, no_select, then_select, SelectTree, select, KeepTree, keep_all, keep_if, ItemTrees, no_item, then_item, ValueTree, plain, number, WithTree, SqlTree, PlacedExpr, int_at, bool_at, text_at, column_at, unary_at, binary_at, choose_at, not_exists_at, PlacedExprs, none_at, then_at, PlacedQuery, no_select_at, then_select_at, PlacedSelect, select_at, PlacedKeep, keep_all_at, keep_if_at, PlacedItems, no_item_at, then_item_at, item_at, PlacedValue, plain_at, number_at, PlacedWith, PlacedSql}
@@ -98,6 +99,10 @@ IsWellScoped ts tree columns = (all : Shapes) × WithsHave ts tree.withs all × 
 -- the tables that a server holds
 abbrev pub shapes_of : List Loaded → Shapes
 shapes_of held = map (λ table. (table.name, table.columns)) held
+
+-- the tables of a schema
+abbrev pub shapes_of_schema : List TableShape → Shapes
+shapes_of_schema shapes = map (λ shape. (shape.name, shape.columns)) shapes
 
 -- The walk in the order of judging. It gives what it is asked for, or the first broken rule and its place.
 pub data Verdict (A : Type 0) : Type 0 where

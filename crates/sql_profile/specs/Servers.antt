@@ -2,6 +2,8 @@
 use Rattle.std.specs.Prelude.{◌≡◌, ◌<◌, ◌-◌, ◌^◌, ◌⊎◌, ℕ, List, [], ◌∷◌, ◌++◌, map, Option, Result, Ok, Err}
 use Rattle.std.specs.Option.{option_map}
 use Rattle.nq_model.specs.Databases.{FilledTable}
+use Rattle.nq_model.specs.declared.table.Cell.{Cell}
+use Rattle.nq_model.specs.declared.table.TableShape.{TableShape}
 use Rattle.sql_profile.specs.declared.answer.Answer.{Answer}
 use Rattle.sql_profile.specs.declared.server.Loaded.{Loaded}
 use Rattle.sql_profile.specs.declared.server.ServerFault.{ServerFault}
@@ -33,3 +35,9 @@ table_names tables = map (λ table. table.name) tables
 -- a table that a server is loaded with, as queries see it
 abbrev pub filled_of : Loaded → FilledTable
 filled_of table = record { name = table.name; columns = table.columns; rows = table.rows }
+
+-- the tables of a schema, one to each shape, as a server is loaded with them
+abbrev pub held_of : List TableShape → List (List (List Cell)) → List Loaded
+held_of [] tables = []
+held_of (shape ∷ shapes) [] = []
+held_of (shape ∷ shapes) (table ∷ tables) = record { name = shape.name; columns = shape.columns; rows = table } ∷ held_of shapes tables

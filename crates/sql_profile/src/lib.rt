@@ -10,7 +10,7 @@ mod server;
 mod tree;
 
 pub use answer::{Answer, Misfit, fits, misfit_laws};
-pub use laws::{answer_laws, ask_laws, scope_laws, text_laws};
+pub use laws::{answer_laws, ask_laws, loaded_laws, printing_laws, scope_laws, text_laws};
 pub use scan::{scan_laws, scan_text};
 pub use scan_server::ScanServer;
 pub use server::{Loaded, ServerFault, SqlServer, ask_text, load_table};

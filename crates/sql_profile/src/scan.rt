@@ -1,5 +1,6 @@
 // The text that asks for all rows of a table.
-ghost use Rattle.std.specs.Prelude.{◌≡◌, [], ◌∷◌, ◌++◌, ℕ, List, All, Contains, OnOk, IfOk, codes, map};
+ghost use Rattle.std.specs.Prelude.{◌≡◌, ◌<◌, ◌^◌, [], ◌∷◌, ◌++◌, ℕ, List, All, Contains, OnOk, IfOk, codes, length, map, string_bytes};
+ghost use Rattle.std.specs.Str.{IsUtf8};
 ghost use Rattle.nq_model.specs.Bags.{Reordered};
 ghost use Rattle.nq_model.specs.Cells.{RowFits};
 ghost use Rattle.nq_model.specs.Orders.{AreDistinct};
@@ -13,40 +14,41 @@ use nq_model::{ColumnType, Label, List, Memory, label_order};
 use std::alloc::Global;
 
 // Puts the item of a column, the `number`-th, behind the items before it.
-fn push_item(alloc: Global, text: &mut List<u8>, number: u64, name: &str) -> Result<(), Memory>
-    ensures { OnOk result (text.new ≡ text.old ++ (codes ", " ++ item_of number name.now)) }
+fn push_item(text: &mut String, number: u64, name: &str) -> Result<(), Memory>
+    ensures { OnOk result (string_bytes text.new ≡ string_bytes text.old ++ (codes ", " ++ item_of number name.now)) }
 {
-    let item = format!(in alloc; ", \"x1\".\"{name}\" AS \"c{number}\"")?;
-    text.extend_from_slice(item.as_bytes())
+    Ok(write!(text, ", \"x1\".\"{name}\" AS \"c{number}\"")?)
 }
 
 // The text up to its source: the two items of the outer index, and those of the columns in byte order.
-fn select_items(alloc: Global, columns: &[(Label, ColumnType)]) -> Result<List<u8>, Memory>
-    ensures { IfOk result (λ text. text ≡ codes "SELECT " ++ joined (codes ", ") (scan_items columns.now)) }
+fn select_items(alloc: Global, columns: &[(Label, ColumnType)]) -> Result<String, Memory>
+    ensures { IfOk result (λ text. string_bytes text ≡ codes "SELECT " ++ joined (codes ", ") (scan_items columns.now)) }
 {
     let order = label_order(alloc, columns)?;
-    let mut text = List::from_slice(alloc, b"SELECT 0 AS \"ot\", 1 AS \"on\"")?;
+    let mut text = String::new(alloc);
+    text.push_str("SELECT 0 AS \"ot\", 1 AS \"on\"")?;
     for (index, place) in order.as_slice().iter().enumerate() {
         let name = columns[*place].0.as_str();
-        push_item(alloc, &mut text, index as u64 + 1, name)?;
+        push_item(&mut text, index as u64 + 1, name)?;
     }
     Ok(text)
 }
 
 /// The text that asks for all rows of the table of this name: the two items of the outer index, and
-/// those of the columns in byte order.
+/// those of the columns in byte order. It is UTF-8, as its names are.
 #[tactic(auto, unfolding(crate::specs::Scans::scan_text))]
 pub fn scan_text(
     alloc: Global,
     name: &str,
     columns: &[(Label, ColumnType)],
 ) -> Result<List<u8>, Memory>
-    ensures { IfOk result (λ text. text ≡ scan_text name.now columns.now) }
+    ensures is { IfOk result (λ text. text ≡ scan_text name.now columns.now) }
+    ensures utf8 { IfOk result IsUtf8 }
+    ensures few { OnOk result (length columns.now < 2 ^ 64) }
 {
     let mut text = select_items(alloc, columns)?;
-    let source = format!(in alloc; " FROM \"{name}\" AS \"x1\"")?;
-    text.extend_from_slice(source.as_bytes())?;
-    Ok(text)
+    write!(text, " FROM \"{name}\" AS \"x1\"")?;
+    Ok(List::from_vec(text.into_bytes()))
 }
 
 /// Over the one table that is held, its scan text may be asked, the answers that SQL allows are its rows,

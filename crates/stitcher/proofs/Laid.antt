@@ -17,6 +17,7 @@ use Rattle.shred_types.specs.Columns.{row_cells}
 use Rattle.shred_types.specs.Places.{leaf_places, slot_places}
 use Rattle.stitcher.specs.Schemes.{AnswerRows, answers, element_of}
 use Rattle.stitcher.specs.FlatNumbers.{index_at, flat_numbers}
+use Rattle.stitcher.specs.Walks.{TypesIn, TypesFields}
 
 -- a pair of integers writes this tag and this number
 abbrev pub IsWritten : ℕ → (ℤ × ℤ) → (ℕ × ℕ) → Type 0
@@ -32,20 +33,6 @@ same_test m n =
     one_truth (int_eq (pos m) (pos n)) (nat_eq m n)
     (λ e. let p : pos m ≡ pos n = (Decides-int_eq (pos m) (pos n)).0 e in let q : m ≡ n = cc in (Decides-eqb m n).1 q)
     (λ e. (Decides-int_eq (pos m) (pos n)).1 (ap pos ((Decides-eqb m n).0 e)))
-
--- the type of the path n is the one that the walk over the type meets there
-abbrev mutual
-  pub TypesIn : List TypeTree → TypeTree → ℕ → Type 0
-  TypesIn all int n = Unit {0}
-  TypesIn all bool n = Unit {0}
-  TypesIn all text n = Unit {0}
-  TypesIn all (rec fs) n = TypesFields all fs n
-  TypesIn all (bag A) n = (get_or all n int ≡ A) × TypesIn all A (suc n)
-  TypesIn all (fun A B) n = Unit {0}
-
-  pub TypesFields : List TypeTree → FieldTypes → ℕ → Type 0
-  TypesFields all none n = Unit {0}
-  TypesFields all (field k A fs) n = TypesIn all A n × TypesFields all fs (n + bags A)
 
 mutual
   types_length : (A : TypeTree) → length (element_types A) ≡ bags A

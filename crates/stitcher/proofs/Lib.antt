@@ -2,4 +2,7 @@ pub mod MoreParts
 pub mod Laid
 pub mod Reading
 pub mod Stitched
+pub mod Grouping
+pub mod Ready
 pub mod Examples
+mod Witness

@@ -1,6 +1,7 @@
 -- Where a scheme reads the answers, stitching gives the form's meaning.
 use Rattle.std.proofs.Common.{List, subst}
 use Rattle.nq_model.specs.Databases.{database}
+use Rattle.nq_model.specs.SchemaTables.{AreTablesOf}
 use Rattle.nq_model.specs.Tables.{IsProperSchema}
 use Rattle.nq_model.specs.Types.{bag}
 use Rattle.nq_model.specs.Values.{Same}
@@ -13,7 +14,7 @@ use Rattle.nq_ir.specs.Meanings.{Tables, rows_in, form_meaning}
 use Rattle.nq_ir.specs.Parts.{element_types}
 use Rattle.nq_ir.specs.Spots.{strands, spots, top_spot}
 use Rattle.nq_ir.specs.Trees.{FormTree}
-use Rattle.nq_ir.specs.WellFormed.{IsWellFormed, AreTablesOf, column_names}
+use Rattle.nq_ir.specs.WellFormed.{IsWellFormed, column_names}
 use Rattle.stitcher.proofs.Reading.{flat_numbers_read}
 use Rattle.stitcher.specs.FlatNumbers.{flat_numbers, AreLaidOut}
 use Rattle.stitcher.specs.Schemes.{Scheme, AnswerRows, Entered, Reads, answers, stitched}

@@ -1,2 +1,5 @@
 pub mod Schemes
 pub mod FlatNumbers
+pub mod Groups
+pub mod Walks
+pub mod Stitching

@@ -1,6 +1,7 @@
 // Laws of stitching, each on a function that does nothing.
 ghost use Rattle.std.specs.Prelude.{List};
 ghost use Rattle.nq_model.specs.Databases.{database};
+ghost use Rattle.nq_model.specs.SchemaTables.{AreTablesOf};
 ghost use Rattle.nq_model.specs.Tables.{IsProperSchema};
 ghost use Rattle.nq_model.specs.Types.{bag};
 ghost use Rattle.nq_model.specs.Values.{Same};
@@ -10,7 +11,7 @@ ghost use Rattle.nq_ir.specs.Trees.{FormTree};
 ghost use Rattle.nq_ir.specs.Meanings.{Tables, rows_in, form_meaning};
 ghost use Rattle.nq_ir.specs.Lets.{FlatRow, AllGive};
 ghost use Rattle.nq_ir.specs.Parts.{element_types};
-ghost use Rattle.nq_ir.specs.WellFormed.{IsWellFormed, AreTablesOf, column_names};
+ghost use Rattle.nq_ir.specs.WellFormed.{IsWellFormed, column_names};
 ghost use Rattle.stitcher.specs.Schemes.{AnswerRows, Reads, stitched};
 ghost use Rattle.stitcher.specs.FlatNumbers.{flat_numbers, AreLaidOut};
 

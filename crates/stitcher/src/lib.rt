@@ -2,9 +2,15 @@
 #![tactic(auto)]
 
 mod flat;
+mod groups;
 mod laws;
+mod nested;
 mod scheme;
+mod source;
+mod spans;
+mod walk;
 
 pub use flat::FlatNumbers;
 pub use laws::{flat_laws, reading_law};
+pub use nested::stitch;
 pub use scheme::IndexScheme;

@@ -5,6 +5,7 @@ use Rattle.std.specs.Str.Parse.{digits_value}
 use Rattle.std.proofs.lemmas.List.Elements.{All-nil, All-cons}
 use Rattle.std.proofs.lemmas.Str.{IsUtf8-from_is_utf8}
 use Rattle.nq_model.specs.Cells.{column_type_of, RowFits}
+use Rattle.nq_model.specs.SchemaTables.{IsSound, IsTableOf}
 use Rattle.nq_model.specs.Tables.{types_of}
 use Rattle.nq_model.specs.declared.table.Cell.{Cell}
 use Rattle.nq_model.specs.declared.table.Cell.TheVariants as cell
@@ -12,8 +13,8 @@ use Rattle.nq_model.specs.declared.table.ColumnType.{ColumnType}
 use Rattle.nq_model.specs.declared.table.ColumnType.TheVariants as column
 use Rattle.nq_model.specs.declared.table.TableShape.{TableShape}
 use Rattle.table_reader.specs.Records.{Record}
-use Rattle.table_reader.specs.Spelling.{is_numeral, minus_of, plain_of, int_of, bool_of, IsSound}
-use Rattle.table_reader.specs.Tables.{table_of, IsTableOf}
+use Rattle.table_reader.specs.Spelling.{is_numeral, minus_of, plain_of, int_of, bool_of}
+use Rattle.table_reader.specs.Tables.{table_of}
 use Rattle.table_reader.specs.Faults.{Spells, SpellsRow}
 use Rattle.table_reader.proofs.Parses.{numeral_to}
 use Rattle.table_reader.proofs.TableFacts.{under_given}

@@ -1,16 +1,17 @@
 -- What an index of first rows finds, by the codes of keys.
-use Rattle.std.proofs.Common.{◌≡◌, ◌<◌, ◌+◌, ◌-◌, ◌==◌, ℕ, suc, List, [], ◌∷◌, ◌++◌, length, get_or, map, slice_get, option_map, Option, Some, None, Bool, true, false, cond, ap, sym, ◌∙◌, refl, arith, add-one, true≢false}
-use Rattle.std.specs.List.{filter_map, position_from}
+use Rattle.std.proofs.Common.{◌≡◌, ◌<◌, ◌+◌, ◌-◌, ◌==◌, ℕ, suc, List, [], ◌∷◌, ◌++◌, length, get_or, map, option_map, Option, Some, None, Bool, true, false, cond, ap, sym, ◌∙◌, refl, arith, add-one, true≢false}
+use Rattle.std.specs.List.{position_from}
 use Rattle.std.specs.Option.{option_or}
 use Rattle.std.specs.BTreeMap.{get, insert_entry}
 use Rattle.std.proofs.lemmas.Bool.{eq-eqb, eqb-true, ne_eqb}
 use Rattle.std.proofs.lemmas.Option.{get_or_from_slice_get, slice_get_within}
 use Rattle.nq_model.specs.declared.table.Cell.{Cell}
 use Rattle.nq_model.specs.declared.table.TableShape.{TableShape}
+use Rattle.nq_model.specs.SchemaTables.{key_of}
 use Rattle.table_reader.specs.Codes.{key_code}
 use Rattle.table_reader.specs.CodeMaps.{place_under}
-use Rattle.table_reader.specs.Keys.{key_of, first_with}
-use Rattle.table_reader.specs.FirstRows.{cell_of_key, cells_of_key, key_places, place_with, place_coded, other_than, Indexes, Enters}
+use Rattle.table_reader.specs.Keys.{first_with}
+use Rattle.table_reader.specs.FirstRows.{cell_of_key, cells_of_key, key_places, place_with, place_coded, other_than, cells_at, Indexes, Enters}
 use Rattle.table_reader.specs.declared.keys.KeyIndex.{KeyIndex}
 use Rattle.table_reader.proofs.KeyFacts.{Key, key_cmp, cells_eq, cells_Decides, found, found_at, found_entered, position_later, position-append, places_key}
 use Rattle.table_reader.proofs.TwinFacts.{IsFirstAt, position_first, first_position, position_none, none_position, each_weaker}
@@ -176,12 +177,12 @@ indexes_none shape index columns first_rows others = record { columns = columns;
 
 -- the key of a row, and its code, by the columns of an index
 module _ (shape : TableShape) (rows : List (List Cell)) (old : KeyIndex) (index : Indexes shape rows old) where
-  cells_at : (row : List Cell) → filter_map (slice_get row) old.columns.items ≡ key_of shape row
-  cells_at row = ap (filter_map (slice_get row)) index.columns ∙ places_key shape row
+  key_at : (row : List Cell) → cells_at row old.columns.items ≡ key_of shape row
+  key_at row = ap (cells_at row) index.columns ∙ places_key shape row
 
-  module _ (row : List Cell) (code : ℕ) (is : code ≡ key_code (filter_map (slice_get row) old.columns.items)) where
+  module _ (row : List Cell) (code : ℕ) (is : code ≡ key_code (cells_at row old.columns.items)) where
     code_at : code ≡ key_code (key_of shape row)
-    code_at = is ∙ ap key_code (cells_at row)
+    code_at = is ∙ ap key_code (key_at row)
 
     -- what the code of the row finds
     finds_own : (told : Option ℕ) → told ≡ place_under old.first_rows code → told ≡ place_coded shape (key_code (key_of shape row)) rows
@@ -208,16 +209,16 @@ module _ (shape : TableShape) (rows : List (List Cell)) (old : KeyIndex) (index 
         tested q = ap (λ c. c == q) code_at
 
     module _ (first : ℕ) (tells : Some first ≡ place_under old.first_rows code) (key first_key : Key)
-        (copied : map cell_of_key key.items ≡ filter_map (slice_get row) old.columns.items)
-        (first_copied : map cell_of_key first_key.items ≡ filter_map (slice_get (get_or rows first [])) old.columns.items) where
+        (copied : map cell_of_key key.items ≡ cells_at row old.columns.items)
+        (first_copied : map cell_of_key first_key.items ≡ cells_at (get_or rows first []) old.columns.items) where
       own : cells_of_key key ≡ key_of shape row
-      own = copied ∙ cells_at row
+      own = copied ∙ key_at row
 
       coded : place_coded shape (key_code (key_of shape row)) rows ≡ Some first
       coded = sym (finds_own (Some first) tells)
 
       tested_first : cells_eq (cells_of_key key) (cells_of_key first_key) ≡ has_key shape (key_of shape row) (get_or rows first [])
-      tested_first = rw (own, first_copied, cells_at (get_or rows first [])) refl
+      tested_first = rw (own, first_copied, key_at (get_or rows first [])) refl
 
       -- a row whose key the first row with its code has
       pub told_first : (new : KeyIndex) → cells_eq (cells_of_key key) (cells_of_key first_key) ≡ true → Enters shape rows row new (Some (first + 1))

@@ -1,7 +1,7 @@
 -- Keys: the parts of a row, and what an index of first rows finds.
-use Rattle.std.proofs.Common.{◌≡◌, ◌<◌, ◌+◌, ◌&&◌, ℕ, suc, List, [], ◌∷◌, ◌++◌, length, take, map, get_or, zip, find, option_map, Option, Some, None, Bool, true, false, cond, ap, sym, ◌∙◌, refl, arith, add-one, add-zero, Ordering, true≢false, string_bytes, slice_get}
-use Rattle.std.specs.List.{filter_map, cons_option, position_from}
-use Rattle.std.specs.Option.{option_and_then, option_or}
+use Rattle.std.proofs.Common.{◌≡◌, ◌<◌, ◌+◌, ◌&&◌, ℕ, suc, List, [], ◌∷◌, ◌++◌, length, take, map, get_or, zip, option_map, Option, Some, None, Bool, true, false, cond, ap, ap₂, sym, ◌∙◌, refl, arith, add-one, add-zero, Ordering, true≢false, string_bytes, slice_get}
+use Rattle.std.specs.List.{position_from}
+use Rattle.std.specs.Option.{option_and_then, option_or, unwrap_or}
 use Rattle.std.specs.Bool.{beq}
 use Rattle.std.specs.Map.{lookup}
 use Rattle.std.specs.Ordering.{is_eq, ordering_then, bool_cmp, match_ordering}
@@ -11,55 +11,35 @@ use Rattle.std.specs.Cmp.Lexicographic.{slice_cmp, pointwise, pointwise_decides}
 use Rattle.std.specs.declared.alloc.Global.{Global}
 use Rattle.std.specs.declared.cmp.Ordering.TheVariants.{Less, Equal, Greater}
 use Rattle.std.specs.declared.vec.Vec.{Vec}
-use Rattle.std.proofs.lemmas.List.{take_more, append-nil, map-append}
-use Rattle.std.proofs.lemmas.List.Elements.{filter_map-append}
+use Rattle.std.proofs.lemmas.List.{take_more, map-append}
 use Rattle.std.proofs.lemmas.List.Sums.{fold-append}
 use Rattle.std.proofs.lemmas.Map.Text.{is_eq-slice_cmp}
 use Rattle.std.proofs.lemmas.Iterator.Adapters.{position_from-zero}
 use Rattle.nq_model.specs.Cells.{cell_eq, bool_eq}
+use Rattle.nq_model.specs.NamedRows.{no_cell, cell_under}
+use Rattle.nq_model.specs.SchemaTables.{key_of}
 use Rattle.nq_model.specs.Tables.{Columns, names_of}
 use Rattle.nq_model.specs.declared.table.Cell.{Cell}
 use Rattle.nq_model.specs.declared.table.TableShape.{TableShape}
 use Rattle.nq_model.proofs.Sameness.{cell_Decides}
 use Rattle.table_reader.specs.Codes.{cell_code, key_code}
-use Rattle.table_reader.specs.Keys.{cell_under, key_of}
-use Rattle.table_reader.specs.FirstRows.{cell_of_key, cells_of_key, place_of, key_places}
+use Rattle.table_reader.specs.FirstRows.{cell_of_key, cells_of_key, place_of, key_places, cell_at, cells_at}
 use Rattle.table_reader.specs.declared.keys.KeyCell.{KeyCell}
 use Rattle.table_reader.specs.declared.keys.KeyCell.TheVariants as key_cell
 use Rattle.table_reader.specs.contracts.keys.KeyCellOrd.TheImpl.{ghosts}
 use Rattle.table_reader.specs.contracts.keys.KeyCellPartialEq.TheImpl.{ghosts as equality}
-
-module _ {X Y Z : Type 0} (h : X → Option Y) (view : Z → Y) (xs : List X) (i : ℕ) (d : X) (old new : List Z) where
-  -- one more item for which there is something
-  pub part_more : (z : Z) → i < length xs → h (get_or xs i d) ≡ Some (view z) → new ≡ old ++ z ∷ []
-      → map view old ≡ filter_map h (take i xs) → map view new ≡ filter_map h (take (i + 1) xs)
-  part_more z within is more before = rw (take_more xs i d within, filter_map-append h (take i xs) (get_or xs i d ∷ []), is, more, map-append view old (z ∷ []), before) refl
-
-  -- one more item for which there is nothing
-  pub part_less : i < length xs → h (get_or xs i d) ≡ None → new ≡ old
-      → map view old ≡ filter_map h (take i xs) → map view new ≡ filter_map h (take (i + 1) xs)
-  part_less within is same before = rw (take_more xs i d within, filter_map-append h (take i xs) (get_or xs i d ∷ []), is, append-nil, same) before
-
-pub ruleset part_rules = (part_more, part_less)
 
 -- the code of no cell
 pub code_none : 0 ≡ key_code []
 unfolding key_code
 code_none = refl
 
-module _ {X : Type 0} (h : X → Option Cell) (xs : List X) (i : ℕ) (d : X) (old new : ℕ) where
-  -- the code of one more cell
-  pub code_more : (cell : Cell) → i < length xs → h (get_or xs i d) ≡ Some cell → new ≡ cell_code old cell
-      → old ≡ key_code (filter_map h (take i xs)) → new ≡ key_code (filter_map h (take (i + 1) xs))
-  unfolding key_code
-  code_more cell within is more before = rw (take_more xs i d within, filter_map-append h (take i xs) (get_or xs i d ∷ []), is, fold-append cell_code 0 (filter_map h (take i xs)) (cell ∷ []), sym before) more
-
-  -- where there is no cell, the code stays
-  pub code_less : i < length xs → h (get_or xs i d) ≡ None → new ≡ old
-      → old ≡ key_code (filter_map h (take i xs)) → new ≡ key_code (filter_map h (take (i + 1) xs))
-  code_less within is same before = rw (take_more xs i d within, filter_map-append h (take i xs) (get_or xs i d ∷ []), is, append-nil, same) before
-
-pub ruleset code_rules = (code_none, code_more, code_less)
+-- the code of one more cell
+pub code_more : {X : Type 0} (h : X → Cell) (xs : List X) (i : ℕ) (d : X) (old new : ℕ) → i < length xs
+    → new ≡ cell_code old (h (get_or xs i d)) → old ≡ key_code (map h (take i xs)) → new ≡ key_code (map h (take (i + 1) xs))
+unfolding key_code
+code_more h xs i d old new within more before =
+    rw (take_more xs i d within, map-append h (take i xs) (get_or xs i d ∷ []), fold-append cell_code 0 (map h (take i xs)) (h (get_or xs i d) ∷ []), sym before) more
 
 abbrev pub Key : Type 0
 Key = Vec KeyCell Global
@@ -203,30 +183,24 @@ get_later x xs (Some i) = refl
 
 -- the cell at the place of a name is the cell under the name
 cell_at_place : (columns : Columns) (row : List Cell) (name : List ℕ)
-    → option_and_then (slice_get row) (position_from (λ column. bytes_eq column.0 name) 0 columns) ≡ cell_under (names_of columns) row name
+    → unwrap_or (cell_at row (position_from (λ column. bytes_eq name column.0) 0 columns)) no_cell ≡ cell_under name (zip (names_of columns) row)
 cell_at_place [] row name = refl
-cell_at_place (column ∷ columns) [] name = none_then (position_from (λ column. bytes_eq column.0 name) 0 (column ∷ columns))
-cell_at_place (column ∷ columns) (cell ∷ row) name = by (bytes_eq column.0 name) (position_later (λ column. bytes_eq column.0 name) 0 columns) (cell_at_place columns row name)
+cell_at_place (column ∷ columns) [] name = ap (λ o. unwrap_or o no_cell) (none_then (position_from (λ column. bytes_eq name column.0) 0 (column ∷ columns)))
+cell_at_place (column ∷ columns) (cell ∷ row) name = by (bytes_eq name column.0) (position_later (λ column. bytes_eq name column.0) 0 columns) (cell_at_place columns row name)
   where
-    by : (b : Bool) → position_from (λ column. bytes_eq column.0 name) 1 columns ≡ option_map suc (position_from (λ column. bytes_eq column.0 name) 0 columns)
-        → option_and_then (slice_get row) (position_from (λ column. bytes_eq column.0 name) 0 columns) ≡ cell_under (names_of columns) row name
-        → option_and_then (slice_get (cell ∷ row)) (cond b (Some 0) (position_from (λ column. bytes_eq column.0 name) 1 columns))
-        ≡ option_map (λ p. p.1) (cond b (Some (column.0, cell)) (find (λ p. bytes_eq p.0 name) (zip (names_of columns) row)))
+    by : (b : Bool) → position_from (λ column. bytes_eq name column.0) 1 columns ≡ option_map suc (position_from (λ column. bytes_eq name column.0) 0 columns)
+        → unwrap_or (cell_at row (position_from (λ column. bytes_eq name column.0) 0 columns)) no_cell ≡ cell_under name (zip (names_of columns) row)
+        → unwrap_or (cell_at (cell ∷ row) (cond b (Some 0) (position_from (λ column. bytes_eq name column.0) 1 columns))) no_cell
+        ≡ cond b cell (cell_under name (zip (names_of columns) row))
     by true later same = refl
-    by false later same = rw later (get_later cell row (position_from (λ column. bytes_eq column.0 name) 0 columns) ∙ same)
-
-parts_of_parts : {X Y Z : Type 0} (f : X → Option Y) (g : Y → Option Z) (h : X → Option Z) → ((x : X) → option_and_then g (f x) ≡ h x)
-    → (xs : List X) → filter_map g (filter_map f xs) ≡ filter_map h xs
-parts_of_parts f g h each [] = refl
-parts_of_parts {Y = Y} f g h each (x ∷ xs) = by (f x) (each x) (parts_of_parts f g h each xs)
-  where
-    by : (o : Option Y) → option_and_then g o ≡ h x → filter_map g (filter_map f xs) ≡ filter_map h xs
-        → filter_map g (cons_option o (filter_map f xs)) ≡ cons_option (h x) (filter_map h xs)
-    by None e later = rw (sym e) later
-    by (Some y) e later = rw (sym e, later) refl
+    by false later same = rw later (ap (λ o. unwrap_or o no_cell) (get_later cell row (position_from (λ column. bytes_eq name column.0) 0 columns)) ∙ same)
 
 -- the cells at the places of the key's columns are the key cells
-pub places_key : (shape : TableShape) (row : List Cell) → filter_map (slice_get row) (key_places shape) ≡ key_of shape row
-unfolding key_of
-places_key shape row = parts_of_parts (place_of shape.columns) (slice_get row) (cell_under (names_of shape.columns) row)
-    (λ name. ap (option_and_then (slice_get row)) (position_from-zero (λ column. bytes_eq column.0 name) shape.columns) ∙ cell_at_place shape.columns row name) shape.key
+pub places_key : (shape : TableShape) (row : List Cell) → cells_at row (key_places shape) ≡ key_of shape row
+places_key shape row = by shape.key
+  where
+    by : (names : List (List ℕ)) → cells_at row (map (place_of shape.columns) names) ≡ map (λ name. cell_under name (zip (names_of shape.columns) row)) names
+    by [] = refl
+    by (name ∷ names) =
+        let one = ap (λ place. unwrap_or (cell_at row place) no_cell) (position_from-zero (λ column. bytes_eq name column.0) shape.columns) ∙ cell_at_place shape.columns row name in
+        ap₂ (λ (x : Cell) (xs : List Cell). x ∷ xs) one (by names)

@@ -10,11 +10,12 @@ use Rattle.std.proofs.Math.Seq.{take-append_seam}
 use Rattle.nq_model.specs.Tables.{names_of, types_of}
 use Rattle.nq_model.specs.declared.table.Cell.{Cell}
 use Rattle.nq_model.specs.declared.table.TableShape.{TableShape}
+use Rattle.nq_model.specs.SchemaTables.{key_of, KeysDiffer}
 use Rattle.table_reader.specs.declared.TableFault.{TableFault}
 use Rattle.table_reader.specs.declared.TableFault.TheVariants as fault
 use Rattle.table_reader.specs.Records.{Record}
 use Rattle.table_reader.specs.Spelling.{row_at}
-use Rattle.table_reader.specs.Keys.{key_of, KeysDiffer, twin_of}
+use Rattle.table_reader.specs.Keys.{twin_of}
 use Rattle.table_reader.specs.Tables.{unless_twin, next_row, rows_after, is_header, rows_under}
 use Rattle.table_reader.specs.Faults.{SpellsRow, GivesRows, IsFirstFault, IsFirstTwin, HasFault}
 use Rattle.table_reader.proofs.ReadFacts.{rows_after-append}

@@ -4,7 +4,8 @@ use Rattle.std.specs.List.{AllByRecursion as Each, position_from}
 use Rattle.nq_model.specs.Orders.{AreDistinct}
 use Rattle.nq_model.specs.declared.table.Cell.{Cell}
 use Rattle.nq_model.specs.declared.table.TableShape.{TableShape}
-use Rattle.table_reader.specs.Keys.{key_of, first_with, if_keyed, twin_of}
+use Rattle.nq_model.specs.SchemaTables.{key_of}
+use Rattle.table_reader.specs.Keys.{first_with, if_keyed, twin_of}
 use Rattle.table_reader.specs.Faults.{IsFirstTwin}
 use Rattle.table_reader.proofs.KeyFacts.{cells_eq, cells_Decides}
 

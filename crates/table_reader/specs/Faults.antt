@@ -2,6 +2,7 @@
 use Rattle.std.specs.Prelude.{◌≡◌, ◌≢◌, ◌≤◌, ◌-◌, ℕ, true, false, List, [], length, zip, take, drop, Some, None, slice_get}
 use Rattle.std.specs.List.{AllZip, AllByRecursion as Each}
 use Rattle.std.specs.Str.{is_utf8}
+use Rattle.nq_model.specs.SchemaTables.{key_of, KeysDiffer}
 use Rattle.nq_model.specs.Tables.{names_of, types_of}
 use Rattle.nq_model.specs.declared.table.Cell.{Cell}
 use Rattle.nq_model.specs.declared.table.ColumnType.{ColumnType}
@@ -11,7 +12,6 @@ use Rattle.table_reader.specs.declared.TableFault.{TableFault}
 use Rattle.table_reader.specs.declared.TableFault.TheVariants as fault
 use Rattle.table_reader.specs.Records.{Record}
 use Rattle.table_reader.specs.Spelling.{int_of, bool_of, cell_of}
-use Rattle.table_reader.specs.Keys.{key_of, KeysDiffer}
 
 -- a field, beside the type of its column, is UTF-8 and spells this cell
 abbrev pub Spells : ColumnType × List ℕ → Cell → Type 0

@@ -1,12 +1,15 @@
 -- What an index of first rows by their keys holds.
-use Rattle.std.specs.Prelude.{◌≡◌, ◌≢◌, ◌==◌, ℕ, ◌∷◌, ◌++◌, [], List, map, Option, Some, None, string_bytes, if◌then◌else◌}
-use Rattle.std.specs.List.{filter_map, position, position_from}
+use Rattle.std.specs.Prelude.{◌≡◌, ◌≢◌, ◌==◌, ℕ, ◌∷◌, ◌++◌, [], List, map, Option, Some, None, slice_get, string_bytes, if◌then◌else◌}
+use Rattle.std.specs.List.{position, position_from}
+use Rattle.std.specs.Option.{option_and_then, unwrap_or}
 use Rattle.std.specs.Map.{lookup}
 use Rattle.std.specs.Cmp.Lexicographic.{pointwise}
 use Rattle.std.specs.Str.{bytes_eq}
 use Rattle.nq_model.specs.Cells.{cell_eq}
 use Rattle.std.specs.declared.alloc.Global.{Global}
 use Rattle.std.specs.declared.vec.Vec.{Vec}
+use Rattle.nq_model.specs.NamedRows.{no_cell}
+use Rattle.nq_model.specs.SchemaTables.{key_of}
 use Rattle.nq_model.specs.Tables.{Columns}
 use Rattle.nq_model.specs.declared.table.Cell.{Cell}
 use Rattle.nq_model.specs.declared.table.Cell.TheVariants as cell
@@ -16,7 +19,7 @@ use Rattle.table_reader.specs.declared.keys.KeyCell.{KeyCell}
 use Rattle.table_reader.specs.declared.keys.KeyCell.TheVariants as key_cell
 use Rattle.table_reader.specs.Codes.{key_code}
 use Rattle.table_reader.specs.CodeMaps.{place_under}
-use Rattle.table_reader.specs.Keys.{key_of, first_with}
+use Rattle.table_reader.specs.Keys.{first_with}
 
 -- the cell that a cell of a key is a copy of
 abbrev pub cell_of_key : KeyCell → Cell
@@ -30,11 +33,19 @@ cells_of_key key = map cell_of_key key.items
 
 -- the place of a column by its name
 abbrev pub place_of : Columns → List ℕ → Option ℕ
-place_of columns name = position (λ column. bytes_eq column.0 name) columns
+place_of columns name = position (λ column. bytes_eq name column.0) columns
 
 -- the places of the columns of the key
-abbrev pub key_places : TableShape → List ℕ
-key_places shape = filter_map (place_of shape.columns) shape.key
+abbrev pub key_places : TableShape → List (Option ℕ)
+key_places shape = map (place_of shape.columns) shape.key
+
+-- the cell of a row at the place of a column, if there is one
+abbrev pub cell_at : List Cell → Option ℕ → Option Cell
+cell_at row place = option_and_then (slice_get row) place
+
+-- the cells of a row at places
+abbrev pub cells_at : List Cell → List (Option ℕ) → List Cell
+cells_at row places = map (λ place. unwrap_or (cell_at row place) no_cell) places
 
 -- the place, counted from 0, of the first of these rows that has these key cells
 abbrev pub place_with : TableShape → List Cell → List (List Cell) → Option ℕ

@@ -1,8 +1,7 @@
 -- Which cell a field spells in a column, and which row a record spells.
-use Rattle.std.specs.Prelude.{ℕ, ℤ, pos, neg_ℤ, ◌+◌, ◌^◌, ◌==◌, ◌&&◌, ◌||◌, nat_lt, Bool, true, false, List, [], ◌∷◌, length, zip, Option, Some, None, Result, Ok, Err, option_map, if◌then◌else◌, codes, ⊤, FitsSigned}
-use Rattle.std.specs.Int.{w64}
+use Rattle.std.specs.Prelude.{ℕ, ℤ, pos, neg_ℤ, ◌+◌, ◌^◌, ◌==◌, ◌&&◌, ◌||◌, nat_lt, Bool, true, false, List, [], ◌∷◌, length, zip, Option, Some, None, Result, Ok, Err, option_map, if◌then◌else◌, codes}
 use Rattle.std.specs.Option.{ok_or}
-use Rattle.std.specs.Str.{all_ascii_digits, bytes_eq, is_utf8, IsUtf8}
+use Rattle.std.specs.Str.{all_ascii_digits, bytes_eq, is_utf8}
 use Rattle.std.specs.Str.Parse.{digits_value}
 use Rattle.nq_model.specs.declared.table.Cell.{Cell}
 use Rattle.nq_model.specs.declared.table.Cell.TheVariants as cell
@@ -35,12 +34,6 @@ bool_of field =
     if bytes_eq field (codes "true") || bytes_eq field (codes "t") then Some true
     else if bytes_eq field (codes "false") || bytes_eq field (codes "f") then Some false
     else None
-
--- an int cell is within 64 bits, and a text cell is UTF-8
-abbrev pub IsSound : Cell → Type 0
-IsSound (cell.Int n) = FitsSigned w64 n
-IsSound (cell.Bool b) = ⊤
-IsSound (cell.Text t) = IsUtf8 t
 
 -- the cell that a field of UTF-8 spells in a column of a type
 abbrev pub cell_of : ColumnType → List ℕ → Option Cell

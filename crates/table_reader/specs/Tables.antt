@@ -1,23 +1,16 @@
 -- Which rows a table text gives, or its first fault in reading order.
-use Rattle.std.specs.Prelude.{ℕ, ◌+◌, Bool, List, [], ◌∷◌, ◌++◌, length, Option, Some, None, Result, Ok, Err, if◌then◌else◌, All}
+use Rattle.std.specs.Prelude.{ℕ, ◌+◌, Bool, List, [], ◌∷◌, ◌++◌, length, Option, Some, None, Result, Ok, Err, if◌then◌else◌}
 use Rattle.std.specs.Result.{result_ok}
 use Rattle.std.specs.Str.{bytes_eq}
 use Rattle.std.specs.Cmp.Lexicographic.{pointwise}
-use Rattle.nq_model.specs.Cells.{RowFits}
 use Rattle.nq_model.specs.Tables.{names_of, types_of}
 use Rattle.nq_model.specs.declared.table.Cell.{Cell}
 use Rattle.nq_model.specs.declared.table.TableShape.{TableShape}
 use Rattle.table_reader.specs.declared.TableFault.{TableFault}
 use Rattle.table_reader.specs.declared.TableFault.TheVariants as fault
 use Rattle.table_reader.specs.Records.{Record, records_of}
-use Rattle.table_reader.specs.Spelling.{IsSound, and_then, row_at}
-use Rattle.table_reader.specs.Keys.{KeysDiffer, twin_of}
-
--- rows that fit the columns of a table, with sound cells, no two with equal key cells where it has a key
-pub record IsTableOf (shape : TableShape) (rows : List (List Cell)) : Type 0 where
-  pub fit : All (RowFits (types_of shape.columns)) rows
-  pub sound : All (All IsSound) rows
-  pub keys_differ : KeysDiffer shape rows
+use Rattle.table_reader.specs.Spelling.{and_then, row_at}
+use Rattle.table_reader.specs.Keys.{twin_of}
 
 -- a row whose key no earlier row has
 abbrev pub unless_twin : ℕ → List Cell → Option ℕ → Result (List Cell) TableFault

@@ -1,9 +1,10 @@
 // Keys, and the first row of each.
-ghost use Rattle.std.specs.Prelude.{◌≡◌, ◌+◌, [], map, IfOk, slice_get};
+ghost use Rattle.std.specs.Prelude.{◌≡◌, ◌+◌, [], map, IfOk, option_copied};
+ghost use Rattle.std.specs.Option.{unwrap_or};
+ghost use Rattle.nq_model.specs.NamedRows.{no_cell};
 ghost use Rattle.nq_model.specs.declared.table.TableShape.{TableShape};
-ghost use Rattle.std.specs.List.{filter_map};
-ghost use Rattle.table_reader.specs.Codes.{key_code};
-ghost use Rattle.table_reader.specs.FirstRows.{cell_of_key, key_places, place_of, Enters, Indexes};
+ghost use Rattle.table_reader.specs.Codes.{cell_code, key_code};
+ghost use Rattle.table_reader.specs.FirstRows.{cell_at, cell_of_key, cells_at, key_places, place_of, Enters, Indexes};
 
 use crate::code_map::{CodeMap, slots_for};
 use crate::codes::cell_code;
@@ -24,7 +25,7 @@ pub(crate) enum KeyCell {
 // copy of its cells more than 100, so a key is copied only where an earlier one has its code.
 #[derive(Drop)]
 pub(crate) struct KeyIndex {
-    columns: Vec<usize>,
+    columns: Vec<Option<usize>>,
     first_rows: CodeMap,
     others: BTreeMap<Vec<KeyCell>, u32>,
 }
@@ -32,12 +33,16 @@ pub(crate) struct KeyIndex {
 fn column_named(columns: &[(Label, ColumnType)], name: &str) -> Option<usize>
     ensures { result ≡ place_of columns.now name.now }
 {
-    columns.iter().position(|column| column.0.as_str() == name)
+    columns.iter().position(|column| name == column.0.as_str())
 }
 
-fn key_cell(alloc: Global, cell: &Cell) -> Result<KeyCell, Memory>
-    ensures { IfOk result (λ key. cell_of_key key ≡ cell.now) }
+// A cell of a key, where that of a row is this one. A column that is not there counts as FALSE.
+fn key_cell(alloc: Global, cell: Option<&Cell>) -> Result<KeyCell, Memory>
+    ensures { IfOk result (λ key. cell_of_key key ≡ unwrap_or (option_copied cell.entry) no_cell) }
 {
+    let Some(cell) = cell else {
+        return Ok(KeyCell::Bool(false));
+    };
     match cell {
         Cell::Int(number) => Ok(KeyCell::Int(*number)),
         Cell::Bool(truth) => Ok(KeyCell::Bool(*truth)),
@@ -46,15 +51,32 @@ fn key_cell(alloc: Global, cell: &Cell) -> Result<KeyCell, Memory>
 }
 
 // The places of the columns of the key.
-fn key_places(alloc: Global, shape: &TableShape) -> Result<Vec<usize>, Memory>
+fn key_places(alloc: Global, shape: &TableShape) -> Result<Vec<Option<usize>>, Memory>
     ensures { IfOk result (λ places. places.items ≡ key_places shape.now) }
 {
     let columns = shape.columns.as_slice();
     let names = shape.key.as_slice().iter();
     let places = names
-        .filter_map(|name| column_named(columns, name.as_str()))
+        .map(|name| column_named(columns, name.as_str()))
         .collect(alloc)?;
     Ok(places)
+}
+
+// The code of a key with one more cell, where that of a row is this one.
+fn code_with_cell(code: u32, cell: Option<&Cell>) -> u32
+    ensures { result ≡ cell_code code (unwrap_or (option_copied cell.entry) no_cell) }
+{
+    let Some(cell) = cell else {
+        return cell_code(code, &Cell::Bool(false));
+    };
+    cell_code(code, cell)
+}
+
+// The cell of a row at the place of a column, if there is one.
+fn cell_at(row: &List<Cell>, place: Option<usize>) -> Option<&Cell>
+    ensures { option_copied result ≡ cell_at row.now place }
+{
+    row.get(place?)
 }
 
 // The number of a row in messages, where rows are counted from 1.
@@ -84,31 +106,24 @@ impl KeyIndex {
     }
 
     // The code of the key of a row.
-    #[tactic(auto, using(crate::proofs::KeyFacts::code_rules))]
+    #[tactic(auto, using(crate::proofs::KeyFacts::code_none))]
     fn code_of(&self, row: &List<Cell>) -> u32
-        ensures { result ≡ key_code (filter_map (slice_get row.now) self.now.columns.items) }
+        ensures { result ≡ key_code (cells_at row.now self.now.columns.items) }
     {
         let mut code = 0;
-        for at in &self.columns {
-            let Some(cell) = row.get(*at) else {
-                continue;
-            };
-            code = cell_code(code, cell);
+        for place in &self.columns {
+            code = code_with_cell(code, cell_at(row, *place));
         }
         code
     }
 
     // The key of a row.
-    #[tactic(auto, using(crate::proofs::KeyFacts::part_rules))]
     fn key_of(&self, alloc: Global, row: &List<Cell>) -> Result<Vec<KeyCell>, Memory>
-        ensures { IfOk result (λ key. map cell_of_key key.items ≡ filter_map (slice_get row.now) self.now.columns.items) }
+        ensures { IfOk result (λ key. map cell_of_key key.items ≡ cells_at row.now self.now.columns.items) }
     {
         let mut key = Vec::with_capacity(alloc, self.columns.len())?;
-        for at in &self.columns {
-            let Some(cell) = row.get(*at) else {
-                continue;
-            };
-            key.push(key_cell(alloc, cell)?)?;
+        for place in &self.columns {
+            key.push(key_cell(alloc, cell_at(row, *place))?)?;
         }
         Ok(key)
     }

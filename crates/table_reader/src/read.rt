@@ -1,10 +1,11 @@
 // The rows of a table text.
 ghost use Rattle.std.specs.Prelude.{◌≡◌, ◌≢◌, ◌+◌, ℕ, List, [], ◌∷◌, ◌++◌, length, IfOk, IfErr};
 ghost use Rattle.csv.specs.Records.{fields_of};
+ghost use Rattle.nq_model.specs.SchemaTables.{IsTableOf};
 ghost use Rattle.table_reader.specs.FirstRows.{KeepsIndex};
 ghost use Rattle.table_reader.specs.Records.{HasRead};
 ghost use Rattle.table_reader.specs.Progress.{ReadsHeader};
-ghost use Rattle.table_reader.specs.Tables.{is_header, next_row, table_of, IsTableOf};
+ghost use Rattle.table_reader.specs.Tables.{is_header, next_row, table_of};
 ghost use Rattle.table_reader.specs.declared.TableFault.TheVariants as fault;
 
 use crate::TableFault;

@@ -1,7 +1,7 @@
 use Rattle.std.proofs.Common.{◌≡◌, ◌+◌, ◌≤◌, ℕ, length, arith, sym}
 use Rattle.std.proofs.lemmas.List.{take_all}
 use Rattle.std.proofs.lemmas.List.Elements.{All-more, All-same}
-use Rattle.canon.specs.Rows.{row_at}
+use Rattle.rows.specs.Places.{row_at}
 use Rattle.canon.proofs.row_text.common_end.Goals as goal
 
 pub loop-place-preserved : goal.loop-place-preserved

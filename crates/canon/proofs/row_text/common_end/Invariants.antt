@@ -1,6 +1,6 @@
 use Rattle.std.proofs.Common.{◌≤◌, take, length}
 use Rattle.std.specs.List.{All}
-use Rattle.canon.specs.Rows.{row_at}
+use Rattle.rows.specs.Places.{row_at}
 use Rattle.canon.proofs.row_text.common_end.Given as goal
 
 abbrev pub invariant-loop-place : goal.invariant-loop-place

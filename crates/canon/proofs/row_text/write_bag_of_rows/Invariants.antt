@@ -1,7 +1,8 @@
 use Rattle.std.proofs.Common.{◌≡◌, ◌++◌, string_bytes, map, take}
 use Rattle.nq_model.specs.Values.{elements_of}
 use Rattle.nq_model.specs.Canonical.{written_elements}
-use Rattle.canon.specs.Rows.{row_record, rows_at}
+use Rattle.rows.specs.Places.{rows_at}
+use Rattle.canon.specs.Rows.{row_record}
 use Rattle.canon.proofs.row_text.write_bag_of_rows.Given as goal
 
 abbrev pub invariant-loop-i : goal.invariant-loop-i

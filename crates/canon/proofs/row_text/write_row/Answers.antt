@@ -1,6 +1,6 @@
 use Rattle.std.proofs.Common.{◌≡◌, ◌≤◌, ◌-◌, drop, length, arith}
 use Rattle.nq_model.specs.CellRefs.{cell_seen}
-use Rattle.canon.specs.Rows.{row_at}
+use Rattle.rows.specs.Places.{row_at}
 use Rattle.canon.proofs.Writing.{appended, three_pieces}
 use Rattle.canon.proofs.FlatRows.{column_more, cells_all, place_within, place_last}
 use Rattle.canon.proofs.row_text.write_row.Goals as goal

@@ -1,7 +1,7 @@
 use Rattle.std.proofs.Common.{◌≡◌, ◌-◌, ◌++◌, string_bytes, map, zip, take, drop}
 use Rattle.nq_model.specs.Values.{base, fields_of}
 use Rattle.nq_model.specs.Canonical.{written_fields}
-use Rattle.canon.specs.Rows.{row_at}
+use Rattle.rows.specs.Places.{row_at}
 use Rattle.canon.proofs.row_text.write_row.Given as goal
 
 abbrev pub invariant-loop-column : goal.invariant-loop-column

@@ -1,6 +1,6 @@
 use Rattle.std.proofs.Common.{◌≡◌, take}
 use Rattle.std.specs.List.{filter}
-use Rattle.canon.specs.Rows.{rows_at}
+use Rattle.rows.specs.Places.{rows_at}
 use Rattle.nq_top.specs.Meanings.{is_top}
 use Rattle.nq_top.proofs.answer.top_places.Given as goal
 

@@ -1,8 +1,7 @@
-use Rattle.std.proofs.Common.{◌≡◌, length, map, option_map, None, Some, true, false, arith, refl, sym, ◌∙◌, ◌+◌, [], get_or, slice_get}
-use Rattle.std.specs.List.{filter_map}
+use Rattle.std.proofs.Common.{◌≡◌, length, map, option_map, None, Some, true, false, arith, refl, sym, ◌∙◌, ◌+◌, [], get_or}
 use Rattle.std.proofs.lemmas.Grind.{common_steps}
 use Rattle.table_reader.specs.CodeMaps.{place_under}
-use Rattle.table_reader.specs.FirstRows.{cell_of_key, cells_of_key}
+use Rattle.table_reader.specs.FirstRows.{cell_of_key, cells_of_key, cells_at}
 use Rattle.table_reader.proofs.KeyFacts.{cells_eq, keys_same}
 use Rattle.table_reader.proofs.IndexFacts.{entered_first, told_first, entered_other}
 use Rattle.table_reader.proofs.keys.KeyIndex.enter.Goals as goal
@@ -18,7 +17,7 @@ pub returns-then-eq : goal.returns-then-eq
 returns-then-eq c =
     λ shape index.
     let tells : Some c.in-Some.first ≡ place_under c.args.self.now.first_rows c.code_of-code.result = grind (arith, common_steps) in
-    let copied : map cell_of_key c.in_ok-first_key.first_key.items ≡ filter_map (slice_get (get_or c.args.rows.now c.in-Some.first [])) c.args.self.now.columns.items
+    let copied : map cell_of_key c.in_ok-first_key.first_key.items ≡ cells_at (get_or c.args.rows.now c.in-Some.first []) c.args.self.now.columns.items
     = rw (sym c.in_ok-first_row.ensures) c.in_ok-first_key.ensures in
     let same : cells_eq (cells_of_key c.in_ok-key.key) (cells_of_key c.in_ok-first_key.first_key) ≡ true
     = sym (keys_same c.in_ok-key.key.items c.in_ok-first_key.first_key.items) ∙ sym c.if-eq.ensures in
@@ -30,7 +29,7 @@ returns c =
     λ shape index.
     let tells : Some c.in-Some.first ≡ place_under c.args.self.now.first_rows c.code_of-code.result = grind (arith, common_steps) in
     let counted : c.in_ok-place.place ≡ length c.args.rows.now = grind (arith, common_steps) in
-    let copied : map cell_of_key c.in_ok-first_key.first_key.items ≡ filter_map (slice_get (get_or c.args.rows.now c.in-Some.first [])) c.args.self.now.columns.items
+    let copied : map cell_of_key c.in_ok-first_key.first_key.items ≡ cells_at (get_or c.args.rows.now c.in-Some.first []) c.args.self.now.columns.items
     = rw (sym c.in_ok-first_row.ensures) c.in_ok-first_key.ensures in
     let other : cells_eq (cells_of_key c.in_ok-key.key) (cells_of_key c.in_ok-first_key.first_key) ≡ false
     = sym (keys_same c.in_ok-key.key.items c.in_ok-first_key.first_key.items) ∙ sym c.if-eq.ensures in

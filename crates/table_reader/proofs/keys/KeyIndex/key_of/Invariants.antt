@@ -1,7 +1,6 @@
-use Rattle.std.proofs.Common.{◌≡◌, take, map, slice_get}
-use Rattle.std.specs.List.{filter_map}
-use Rattle.table_reader.specs.FirstRows.{cell_of_key}
+use Rattle.std.proofs.Common.{◌≡◌, take, map}
+use Rattle.table_reader.specs.FirstRows.{cell_of_key, cells_at}
 use Rattle.table_reader.proofs.keys.KeyIndex.key_of.Given as goal
 
-abbrev pub invariant-loop-at : goal.invariant-loop-at
-invariant-loop-at l = map cell_of_key l.key.items ≡ filter_map (slice_get l.row) (take l.at-index l.self.columns.items)
+abbrev pub invariant-loop-place : goal.invariant-loop-place
+invariant-loop-place l = map cell_of_key l.key.items ≡ cells_at l.row (take l.place-index l.self.columns.items)

@@ -1,5 +1,0 @@
-use Rattle.canon.specs.Runs.{HaveOneRank}
-use Rattle.canon.proofs.runs.run_end.Given as goal
-
-abbrev pub invariant-loop-end : goal.invariant-loop-end
-invariant-loop-end l = HaveOneRank l.ranks l.start l.end

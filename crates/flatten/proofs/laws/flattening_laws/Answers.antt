@@ -1,0 +1,5 @@
+use Rattle.flatten.proofs.Allowed.{allowed_rows}
+use Rattle.flatten.proofs.laws.flattening_laws.Goals as goal
+
+pub returns : goal.returns
+returns c = record { rows = allowed_rows }

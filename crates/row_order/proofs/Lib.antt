@@ -1,0 +1,6 @@
+pub mod Comparing
+pub mod Rising
+pub mod Counting
+mod Ranking
+mod Refining
+mod Ordered

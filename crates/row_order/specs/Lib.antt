@@ -1,0 +1,4 @@
+pub mod Keys
+pub mod Heads
+pub mod Ranks
+pub mod Runs

@@ -1,0 +1,4 @@
+pub mod Cutting
+pub mod Depths
+pub mod Fronts
+pub mod Standing

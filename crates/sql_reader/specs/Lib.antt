@@ -1,0 +1,6 @@
+pub mod Fronts
+pub mod Needs
+pub mod Parts
+pub mod Runs
+pub mod Steps
+pub mod Symbols

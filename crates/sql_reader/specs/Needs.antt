@@ -1,0 +1,75 @@
+-- How deep a text is at least that begins with what was read, by numbers that are kept with the unfinished forms.
+use Rattle.std.specs.Prelude.{ℕ, suc, ◌+◌, max, Bool, leb, List, [], ◌∷◌, Option, Some, None}
+use Rattle.sql_reader.specs.Parts.{Part, Begun, Base, Named}
+use Rattle.sql_reader.specs.Steps.{Form, Paren, Minus, Not, When, Then, Else, Right, Item, OrderKey, Where, NotExists, Position, AtStart, BehindWith, AtDef, AtDefName, AtDefAs, WantSelect, AtUnion, Want, AtName, AtDot, AtCase, AtExists, Have, AtRow, AtRowOpen, AtRowClose, AtOver, InOver, AtOrder, AtValue, AtAs, HaveItems, AtSource, AtSourceName, AtSourceAs, AtSemi, Ready, State, On}
+
+-- how many levels a form is: the query of NOT EXISTS is one of its own
+abbrev pub size : Form → ℕ
+size (NotExists p) = 2
+size f = 1
+
+-- the levels round what the forms stand round, that of the outermost query included
+abbrev pub height : List Form → ℕ
+height [] = 1
+height (f ∷ k) = size f + height k
+
+-- how deep the query is with this SELECT, when nothing comes any more
+abbrev pub begun_depth : Begun → ℕ
+begun_depth g = max g.before.depth (suc g.depth)
+
+-- how deep the form is at least for what it holds
+abbrev pub held : Form → ℕ
+held (Then p t) = suc t.depth
+held (Else p t y) = suc (max t.depth y.depth)
+held (Right l p op) = suc l.depth
+held (Item g) = begun_depth g
+held (OrderKey ks g) = max (begun_depth g) (suc ks.depth)
+held (Where g from) = begun_depth g
+held f = 0
+
+-- how deep a text is at least that the forms stand in, the innermost first
+abbrev pub needs : List Form → ℕ
+needs [] = 0
+needs (f ∷ k) = max (needs k) (held f + height k)
+
+-- behind the WITH query that is being read a main query has to come
+abbrev pub named_needs : Option Named → ℕ
+named_needs None = 0
+named_needs (Some n) = 2
+
+abbrev pub base_needs : Base → ℕ
+base_needs b = max b.depth (named_needs b.name)
+
+-- where an expression has to begin: a numbering is less, behind SELECT or a comma
+abbrev pub want_hole : List Form → ℕ
+want_hole (Item g ∷ k) = 0
+want_hole k = 1
+
+-- how deep what was begun inside the forms is at least
+abbrev pub hole : Position → List Form → ℕ
+hole (WantSelect q) k = max q.depth 1
+hole (AtUnion q) k = max q.depth 1
+hole Want k = want_hole k
+hole (AtCase p) k = 2
+hole (AtExists p) k = 3
+hole (Have s) k = s.depth
+hole AtRow k = 0
+hole AtRowOpen k = 0
+hole AtRowClose k = 0
+hole AtOver k = 0
+hole InOver k = 0
+hole (AtValue v) k = v.depth
+hole (AtAs v) k = v.depth
+hole (HaveItems g from) k = begun_depth g
+hole (AtSource g from) k = begun_depth g
+hole (AtSourceName g from n) k = begun_depth g
+hole (AtSourceAs g from n) k = begun_depth g
+hole (AtSemi q) k = q.depth
+hole (Ready q) k = q.depth
+hole at k = 1
+
+abbrev pub least_depth : State → ℕ
+least_depth (On b k at) = max (base_needs b) (max (needs k) (hole at k + height k))
+
+abbrev pub fits : ℕ → State → Bool
+fits d st = leb (least_depth st) d
