@@ -7,7 +7,8 @@ use Rattle.nq_model.specs.declared.table.Cell.{Cell}
 use Rattle.nq_model.specs.declared.table.Schema.{Schema}
 use Rattle.nq_ir.specs.Meanings.{rows_in}
 use Rattle.nq_ir.specs.Lets.{FlatRow, LetFormTree, FormGives, IsLetFormOf}
-use Rattle.nq_ir.specs.WellFormed.{AreTablesOf, column_names}
+use Rattle.nq_model.specs.SchemaTables.{AreTablesOf}
+use Rattle.nq_ir.specs.WellFormed.{column_names}
 use Rattle.nq_ir.proofs.Stored.{uniform}
 use Rattle.shred_types.specs.Columns.{answer_columns, row_cells}
 use Rattle.sql_profile.specs.AllowedAnswers.{TreeAllows, WithsAllow, tables_of}
