@@ -79,15 +79,14 @@ module _ {I X : Type 0} (eq : I → I → Bool) (outer : List Cell → I) (rows 
             let old = g i in
             let next = first_under eq firsts index in
             let chain : IsChain longer (first_under eq firsts i) old.0 = subst (λ (l : List ℕ). IsChain l (first_under eq firsts i) old.0) (sym put.next) (chain_kept nexts (next ∷ []) (first_under eq firsts i) old.0 old.1) in
-            let at : get_or longer (length nexts) 0 ≡ first_under eq firsts i = ap (λ (l : List ℕ). get_or l (length nexts) 0) put.next ∙ get_last nexts next ∙ same_first firsts index i e in
-            (
+            let at : get_or longer (length nexts) 0 ≡ first_under eq firsts i = ap (λ (l : List ℕ). get_or l (length nexts) 0) put.next ∙ get_last nexts next ∙ same_first firsts index i e in (
               length nexts ∷ old.0,
               (
                 put.first i ∙ ap (λ t. cond t (suc (length nexts)) (first_under eq firsts i)) e,
                 omega (arith, length-append nexts (next ∷ []), ap length put.next),
-                subst (λ p. IsChain longer p old.0) (sym at) chain
+                subst (λ p. IsChain longer p old.0) (sym at) chain,
               ),
-              ap (λ (l : AnswerRows). row_before rows (length nexts) ∷ l) old.2
+              ap (λ (l : AnswerRows). row_before rows (length nexts) ∷ l) old.2,
             )
         go false e =
             let old = g i in

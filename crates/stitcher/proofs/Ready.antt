@@ -66,10 +66,10 @@ base_there S q l typed is =
     let A = element_of S.elements q in
     ⊎_elim (λ h. h)
     (λ past.
-        let int_there : get_or (leaf_types A) l column.Int ≡ column.Int = sym ((typed q l is).1 column.Int) ∙ got_past (S.columns q) n column.Int past in
-        let bool_there : get_or (leaf_types A) l column.Bool ≡ column.Bool = sym ((typed q l is).1 column.Bool) ∙ got_past (S.columns q) n column.Bool past in
-        let one : column.Int ≡ column.Bool = sym int_there ∙ got_any (leaf_types A) l column.Int column.Bool (omega (arith, is.1, types_long A)) ∙ bool_there in
-        absurd (let no : ⊥ = cc in no))
+    let int_there : get_or (leaf_types A) l column.Int ≡ column.Int = sym ((typed q l is).1 column.Int) ∙ got_past (S.columns q) n column.Int past in
+    let bool_there : get_or (leaf_types A) l column.Bool ≡ column.Bool = sym ((typed q l is).1 column.Bool) ∙ got_past (S.columns q) n column.Bool past in
+    let one : column.Int ≡ column.Bool = sym int_there ∙ got_any (leaf_types A) l column.Int column.Bool (omega (arith, is.1, types_long A)) ∙ bool_there in
+    absurd (let no : ⊥ = cc in no))
     (cases_lt n (length (S.columns q)))
 
 -- a row that fits has a cell for each column

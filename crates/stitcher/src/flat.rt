@@ -6,7 +6,8 @@ ghost use Rattle.stitcher.specs.Schemes.{element_of};
 ghost use Rattle.stitcher.specs.FlatNumbers.{level_of, with_leaf, with_slot, with_part, with_parts, int_at, flat_numbers};
 
 use crate::scheme::IndexScheme;
-use nq_model::{CellRef, ColumnType, Label, List, Memory, Rows, Ty};
+use nq_model::{CellRef, ColumnType, Label, List, Memory, Ty};
+use rows::Rows;
 use std::alloc::Global;
 
 /// The columns of one path: those of its answer, the columns of the base parts of its element, counted from

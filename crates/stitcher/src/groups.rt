@@ -6,7 +6,8 @@ ghost use Rattle.stitcher.specs.Groups.{first_under, AreGrouped, GoesOn, IsPutIn
 
 use crate::scheme::IndexScheme;
 use indexmap::IndexMap;
-use nq_model::{List, Memory, Rows};
+use nq_model::{List, Memory};
+use rows::Rows;
 use std::alloc::Global;
 use std::hash::Hash;
 

@@ -3,7 +3,8 @@ ghost use Rattle.std.specs.Prelude.{◌≡◌, ◌<◌, [], IfOk, length, slice_
 ghost use Rattle.nq_model.specs.Cells.{RowFits};
 ghost use Rattle.stitcher.specs.Schemes.{Scheme, IsPath, IsLeaf, IsSlot, BasesAreTyped};
 
-use nq_model::{ColumnType, List, Memory, Rows};
+use nq_model::{ColumnType, List, Memory};
+use rows::Rows;
 use std::alloc::Global;
 use std::hash::Hash;
 

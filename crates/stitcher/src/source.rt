@@ -12,7 +12,8 @@ use crate::groups::{Groups, group};
 use crate::scheme::IndexScheme;
 use crate::spans::push_spans;
 use crate::walk::Walk;
-use nq_model::{CellRef, List, Memory, Rows, Text, Ty, Value};
+use nq_model::{CellRef, List, Memory, Text, Ty, Value};
+use rows::Rows;
 use sql_profile::Answer;
 use std::alloc::Global;
 
