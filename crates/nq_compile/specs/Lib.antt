@@ -1,0 +1,2 @@
+pub mod Shreds
+pub mod Texts
