@@ -1,5 +1,5 @@
 -- What an accepted query means, by the term to which it unfolds.
-use Rattle.std.proofs.Common.{◌≡◌, List, [], refl, sym, ap, ◌∙◌, subst}
+use Rattle.std.proofs.Common.{◌≡◌, List, [], refl, sym, subst}
 use Rattle.nq_model.specs.Databases.{FilledTable, database}
 use Rattle.nq_model.specs.Meaning.{meaning}
 use Rattle.nq_model.specs.Proper.{IsProperTerm}
