@@ -28,7 +28,7 @@ use Rattle.nq_ir.proofs.Scopes.{numbers_append}
 use Rattle.nq_ir.proofs.Stored.{columns_differ}
 use Rattle.shred_types.specs.Columns.{element_columns, fields_columns, answer_columns}
 use Rattle.sql_profile.specs.Trees.{ExprTree, ExprTrees, QueryTree, ValueTree, plain, number}
-use Rattle.sql_profile.specs.Scope.{Shapes, Aliases, found, among, names_in, SourcesHave, HasType, QueryHas, OthersHave, SelectHas, ItemsHave, ValueHas, KeysHave, WithsHave, IsWellScoped}
+use Rattle.sql_profile.specs.Scope.{Shapes, Aliases, found, among, names_in, SourcesHave, HasType, QueryHas, OthersHave, SelectHas, ItemsHave, ValueHas, KeysHave, WithsHave, IsWellScoped, shapes_of_schema}
 use Rattle.flatten.specs.Names.{with_name, alias, let_alias, outer_column, number_name, answer_name}
 use Rattle.flatten.specs.Exprs.{column_expr, source_of, order_keys}
 use Rattle.flatten.specs.Emitted.{in_gens, withs_from, shape_values, shapes_values, answer_items, around_number, after_let, strand_values, strand_select, parts_query, zero_value, empty_query, main_query, emitted, flattened, answer_shape_from, answer_shape}
@@ -241,10 +241,6 @@ module _ (S : List TableShape) (differ : (t : Label) → LabelsDiffer (column_na
         let c = chain f.lets 1 R x (λ j b. new j) h.lets in
         (c.known, c.withs, main_typed c.known c.extends f.element f.lets c.held f.parts h.parts)
 
--- the tables of a schema by name
-abbrev shapes_of_schema : List TableShape → Shapes
-shapes_of_schema shapes = map (λ shape. (shape.name, shape.columns)) shapes
-
 schema_extends : (S : List TableShape) → Extends S (shapes_of_schema S)
 schema_extends [] t h = absurd (cc)
 schema_extends (s ∷ ss) t h = go (bytes_eq t s.name) h (schema_extends ss t)
@@ -258,6 +254,6 @@ no_with [] p j = refl
 no_with (s ∷ ss) p j = ap₂ (λ y z. y || z) (with_not j s.name (no_dots s.name p.0.named.no_dot)) (no_with ss p.1 j)
 
 -- the tree of a let form is well scoped over its schema
-pub tree_scoped : (schema : Schema) (f : LetFormTree) → IsProperSchema schema → IsLetFormOf schema f → IsWellScoped (map (λ shape. (shape.name, shape.columns)) schema.tables) (flattened schema f) (answer_shape (answer_columns f.element))
+pub tree_scoped : (schema : Schema) (f : LetFormTree) → IsProperSchema schema → IsLetFormOf schema f → IsWellScoped (shapes_of_schema schema.tables) (flattened schema f) (answer_shape (answer_columns f.element))
 tree_scoped schema f proper form =
     tree_typed schema.tables (columns_differ schema proper) (table_dotless schema proper) (shapes_of_schema schema.tables) (schema_extends schema.tables) (no_with schema.tables (recursion_from_All IsProperShape schema.tables proper.proper)) f (fine_form schema f form)
