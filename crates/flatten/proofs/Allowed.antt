@@ -1,7 +1,7 @@
 -- The answers that SQL allows to the tree of a let form, over the tables of a schema.
-use Rattle.std.proofs.Common.{◌≡◌, List, map, refl, sym, ap, ◌∙◌, subst}
-use Rattle.nq_model.specs.Databases.{FilledTable, database}
-use Rattle.nq_model.specs.NamedRows.{Label, NamedTables, named_table}
+use Rattle.std.proofs.Common.{◌≡◌, List, map, refl, ap, subst}
+use Rattle.nq_model.specs.Databases.{database}
+use Rattle.nq_model.specs.NamedRows.{NamedTables, named_table}
 use Rattle.nq_model.specs.SchemaTables.{AreTablesOf}
 use Rattle.nq_model.specs.Tables.{IsProperSchema}
 use Rattle.nq_model.specs.declared.table.Cell.{Cell}
@@ -11,7 +11,7 @@ use Rattle.nq_ir.specs.Lets.{FlatRow, LetFormTree, FormGives, IsLetFormOf}
 use Rattle.nq_ir.specs.WellFormed.{column_names}
 use Rattle.nq_ir.proofs.Stored.{uniform}
 use Rattle.shred_types.specs.Columns.{answer_columns, row_cells}
-use Rattle.sql_profile.specs.AllowedAnswers.{TreeAllows, WithsAllow, tables_of}
+use Rattle.sql_profile.specs.AllowedAnswers.{TreeAllows, WithsAllow}
 use Rattle.sql_profile.specs.Servers.{held_of}
 use Rattle.sql_profile.proofs.HeldTables.{held_filled}
 use Rattle.flatten.specs.Emitted.{flattened}

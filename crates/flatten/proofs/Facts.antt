@@ -1,5 +1,5 @@
 -- What is known of the strands of a well-formed form.
-use Rattle.std.proofs.Common.{◌≡◌, ℕ, zero, suc, ◌<◌, ◌^◌, List, [], ◌∷◌, ◌++◌, map, length, refl, sym, ap, ap₂, ◌∙◌, subst, Bool, true, false, cond, nat_eq, append_assoc, arith, Option, Some, None, Contains, IsSome, true≢false}
+use Rattle.std.proofs.Common.{◌≡◌, ℕ, suc, ◌<◌, ◌^◌, List, [], ◌∷◌, ◌++◌, refl, sym, ap, ap₂, ◌∙◌, subst, Bool, true, false, cond, nat_eq, append_assoc, arith, Some, Contains, IsSome}
 use Rattle.std.specs.List.{AllByRecursion as Each}
 use Rattle.std.specs.Str.{bytes_eq}
 use Rattle.std.proofs.lemmas.Bool.Decides.{Decides-eqb}
@@ -18,7 +18,7 @@ use Rattle.nq_ir.specs.declared.base.Gen.{Gen}
 use Rattle.nq_ir.specs.Trees.{BaseTree, literal, column, unary, binary, choose, empty, Conds, no_cond, and_cond, Tests, no_test, test, BodyTree, plain_body, rec_body, bag_body, Bodies, no_body, with_body, Comps, no_comp, comp, ShapeTree, plain_shape, rec_shape, index_shape, Shapes, no_shape, with_shape}
 use Rattle.nq_ir.specs.Spots.{StrandTree, shaped, both, shape_of, shape_of_fields, shape_leaves, shape_leaves_in}
 use Rattle.nq_ir.specs.WellFormed.{IsNumber, body_tags, bodies_tags, comps_tags, BaseHas, CondsHave, TestsHave, BodyHas, BodiesHave, CompsHave, AreTables, column_type_in, gen_columns, table_columns, numbers, base_numbers, conds_numbers, tests_numbers, body_numbers, bodies_numbers, comps_numbers}
-use Rattle.nq_ir.proofs.Distinct.{Among, Apart, Distinct, Sub, among_left, among_right, distinct_apart, distinct_sub, each_among, each_join, each_left, each_right, each_sub, first, later, sub_append, sub_before, sub_left, sub_refl, sub_right}
+use Rattle.nq_ir.proofs.Distinct.{Apart, Distinct, Sub, among_left, among_right, distinct_apart, distinct_sub, each_among, each_join, each_left, each_right, each_sub, first, later, sub_append, sub_before, sub_left, sub_refl, sub_right}
 use Rattle.nq_ir.proofs.Equal.{nat_same}
 use Rattle.nq_ir.proofs.Levels.{AllBody, AllComps, AllFields}
 use Rattle.nq_ir.proofs.Scopes.{Inside, inside_append, distinct_join, from_inside, numbers_append}

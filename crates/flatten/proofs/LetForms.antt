@@ -1,7 +1,6 @@
 -- What is known of the let form of a well-formed form at a path.
-use Rattle.std.proofs.Common.{◌≡◌, ℕ, ◌≤◌, List, [], ◌∷◌, ◌++◌, map, length, refl, sym, subst}
+use Rattle.std.proofs.Common.{◌≡◌, ◌≤◌, List, [], ◌∷◌, ◌++◌, map, length, refl, sym, subst}
 use Rattle.std.specs.List.{AllByRecursion as Each}
-use Rattle.nq_model.specs.Bags.{Reordered}
 use Rattle.nq_model.specs.Tables.{IsProperSchema}
 use Rattle.nq_model.specs.Types.{TypeTree, int, bool, text, rec, bag, fun, FieldTypes, none, field}
 use Rattle.nq_model.specs.declared.table.ColumnType.TheVariants as column_type
@@ -17,8 +16,8 @@ use Rattle.nq_ir.specs.Meanings.{EachBoth}
 use Rattle.nq_ir.specs.Parts.{element_types}
 use Rattle.nq_ir.specs.Paths.{paths, element_at}
 use Rattle.nq_ir.specs.Spots.{StrandTree, PlacedComp, shaped, shape_leaves, shape_leaves_in, by_tag, strands_at, levels}
-use Rattle.nq_ir.specs.Shredded.{ShreddedTree, shredded, IsShreddedOf}
-use Rattle.nq_ir.specs.Lets.{LetTree, PartTree, LetFormTree, insert_lets, lets_of, parts_on, let_around, strand_of, IsLetFormOf}
+use Rattle.nq_ir.specs.Shredded.{ShreddedTree, shredded}
+use Rattle.nq_ir.specs.Lets.{PartTree, LetFormTree, insert_lets, lets_of, parts_on, strand_of, IsLetFormOf}
 use Rattle.nq_ir.specs.WellFormed.{IsWellFormed, BodyHas, comps_numbers}
 use Rattle.nq_ir.proofs.Distinct.{distinct, among_map, each_among, each_join}
 use Rattle.nq_ir.proofs.Insert.{Around, each_let, lets_known, strands_again}

@@ -1,5 +1,5 @@
 -- A text can spell the tree of a let form.
-use Rattle.std.proofs.Common.{◌≡◌, ℕ, zero, suc, ◌+◌, ◌≤◌, ◌<◌, ◌^◌, List, [], ◌∷◌, ◌++◌, map, length, refl, sym, ap, ◌∙◌, subst, Bool, true, false, cond, nat_eq, arith, append-nil, pos, Option, Some, None, IsSome}
+use Rattle.std.proofs.Common.{◌≡◌, ℕ, zero, suc, ◌+◌, ◌≤◌, ◌<◌, ◌^◌, List, [], ◌∷◌, ◌++◌, map, length, refl, sym, subst, Bool, true, false, cond, nat_eq, arith, append-nil, Some, IsSome}
 use Rattle.std.specs.List.{AllByRecursion as Each}
 use Rattle.std.specs.Str.{bytes_eq}
 use Rattle.std.proofs.lemmas.Bool.Decides.{Decides-eqb}
@@ -25,13 +25,13 @@ use Rattle.nq_ir.proofs.Distinct.{each_left, each_right, each_join}
 use Rattle.nq_ir.proofs.LevelTypes.{both_append}
 use Rattle.nq_ir.proofs.Scopes.{numbers_append}
 use Rattle.shred_types.specs.Columns.{element_columns, fields_columns, answer_columns}
-use Rattle.sql_profile.specs.Trees.{ExprTree, ExprTrees, ItemTrees, ValueTree, plain, number, QueryTree}
+use Rattle.sql_profile.specs.Trees.{ExprTree, ExprTrees, ValueTree}
 use Rattle.sql_profile.specs.Spellable.{HasWritableNames, IsSpellableExpr, IsSpellableQuery, AreSpellableSelects, IsSpellableSelect, IsSpellableKeep, HasSpellableItems, AreSpellableItems, IsSpellableValue, AreSpellableKeys, IsSpellableWith, IsSpellable}
 use Rattle.flatten.specs.Names.{alias, let_alias, outer_column}
 use Rattle.flatten.specs.Exprs.{literal_expr, column_expr, source_of, base_expr, conds_keep, joined, tests_query, order_keys}
-use Rattle.flatten.specs.Emitted.{in_gens, none_outer, let_items, let_select, withs_from, shape_values, shapes_values, answer_items, around_number, after_let, strand_values, strand_select, parts_query, zero_value, empty_query, main_query, flattened}
-use Rattle.flatten.proofs.Facts.{ShapeHas, ShapesHave, ScopeFacts, StrandFacts, FitScope, FitStrand}
-use Rattle.flatten.proofs.LetForms.{FineStrand, FineForm, fine_form}
+use Rattle.flatten.specs.Emitted.{in_gens, none_outer, let_items, let_select, withs_from, shape_values, shapes_values, answer_items, around_number, after_let, strand_select, parts_query, zero_value, main_query, flattened}
+use Rattle.flatten.proofs.Facts.{ShapeHas, ShapesHave, ScopeFacts, FitScope}
+use Rattle.flatten.proofs.LetForms.{FineStrand, fine_form}
 use Rattle.flatten.proofs.WrittenNames.{proper_writable, with_writable, alias_writable, outer_writable, let_writable, number_writable, one_writable, answer_writable}
 
 -- a generator's number and the name of its column
@@ -220,8 +220,7 @@ module _ (S : List TableShape) (proper : Each IsProperShape S) where
       let keys = keys_spelled outer (columns_in (column_names S) sc) (columns_fit sc all) in
       let fits = fits_all sc all in
       let values = shape_spelled outer sc fits c.tag n.tag (order_keys outer (columns_in (column_names S) sc)) keys c.shape a h.shape n.leaves in
-      let more : 2 + length (element_columns a) ≤ 2 ^ 63 = omega (arith, few) in
-      (
+      let more : 2 + length (element_columns a) ≤ 2 ^ 63 = omega (arith, few) in (
         (answer_writable 0 (omega arith), (c.parent, refl, n.parent), (answer_writable 1 (omega arith), around_spelled from, answer_spelled 2 (shape_values outer c.tag (order_keys outer (columns_in (column_names S) sc)) c.shape) (element_columns a) values more)),
         after_spelled from c.gens b h.facts.tables n.own_gens,
         keep_spelled outer sc c.conds fits h.facts.conds_typed n.own_conds,
