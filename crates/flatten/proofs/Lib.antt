@@ -14,3 +14,4 @@ pub mod ScopeLets
 pub mod ScopeTree
 pub mod WrittenNames
 pub mod Spellable
+pub mod Examples
