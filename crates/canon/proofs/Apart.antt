@@ -12,7 +12,7 @@ use Rattle.nq_model.specs.Types.{TypeTree, FieldTypes}
 use Rattle.nq_model.specs.Values.{Nested, Fields, Elements}
 use Rattle.nq_model.specs.Canonical.{doubled_quotes, written, written_fields, written_elements}
 use Rattle.nq_model.specs.declared.table.Cell.TheVariants as cell
-use Rattle.canon.specs.Typed.{HasType, FieldsHaveTypes, ElementsHaveType}
+use Rattle.nq_model.specs.ValueTypes.{IsOfType, FieldsAreOfTypes, ElementsAreOfType}
 use Rattle.canon.specs.Texts.{Ends}
 
 -- digits end where something else begins
@@ -136,7 +136,7 @@ bytes_differ : (a b : ℕ) (x y : List ℕ) → a ≢ b → a ∷ x ≡ b ∷ y 
 bytes_differ a b x y h e = h (first_bytes a b x y e)
 
 -- the text of no value begins with a closing brace
-not_closing : (t : TypeTree) (v : Nested) (x y : List ℕ) → HasType t v → written v ++ x ≡ codes "}" ++ y → ⊥
+not_closing : (t : TypeTree) (v : Nested) (x y : List ℕ) → IsOfType t v → written v ++ x ≡ codes "}" ++ y → ⊥
 not_closing TypeTree.int (Nested.base (cell.Int (pos n))) x y h e = let b = decimal_begins n 125 x y (omega (arith, h.sfits)) e in omega (arith, b)
 not_closing TypeTree.int (Nested.base (cell.Int (negsuc n))) x y h e = bytes_differ 45 125 _ _ (λ r. omega (arith, r)) e
 not_closing TypeTree.bool (Nested.base (cell.Bool true)) x y h e = bytes_differ 116 125 _ _ (λ r. omega (arith, r)) e
@@ -172,7 +172,7 @@ field_apart l m v w fs gs x y same value later e =
     (cc, s.1)
 
 mutual
-  pub apart : (t : TypeTree) (v w : Nested) (x y : List ℕ) → HasType t v → HasType t w → Ends x → Ends y → written v ++ x ≡ written w ++ y → (v ≡ w) × (x ≡ y)
+  pub apart : (t : TypeTree) (v w : Nested) (x y : List ℕ) → IsOfType t v → IsOfType t w → Ends x → Ends y → written v ++ x ≡ written w ++ y → (v ≡ w) × (x ≡ y)
   apart TypeTree.int (Nested.base (cell.Int m)) (Nested.base (cell.Int n)) x y h k p q e =
       let r = integers_apart m n x y h k p q e in (ap (λ z. Nested.base (cell.Int z)) r.0, r.1)
   apart TypeTree.bool (Nested.base (cell.Bool true)) (Nested.base (cell.Bool true)) x y h k p q e =
@@ -197,19 +197,19 @@ mutual
       (ap Nested.bag r.0, r.1)
   apart t v w x y h k p q e = absurd (assumption (h, k))
 
-  fields_apart : (ts : FieldTypes) (fs gs : Fields) (x y : List ℕ) → FieldsHaveTypes ts fs → FieldsHaveTypes ts gs → written_fields fs ++ (codes ")" ++ x) ≡ written_fields gs ++ (codes ")" ++ y) → (fs ≡ gs) × (x ≡ y)
+  fields_apart : (ts : FieldTypes) (fs gs : Fields) (x y : List ℕ) → FieldsAreOfTypes ts fs → FieldsAreOfTypes ts gs → written_fields fs ++ (codes ")" ++ x) ≡ written_fields gs ++ (codes ")" ++ y) → (fs ≡ gs) × (x ≡ y)
   fields_apart FieldTypes.none Fields.none Fields.none x y h k e = (refl, append_cancel_left (codes ")") x y e)
   fields_apart (FieldTypes.field a t ts) (Fields.field l v fs) (Fields.field m w gs) x y h k e =
       field_apart l m v w fs gs x y (sym h.0 ∙ k.0) (apart t v w (later_fields fs ++ (codes ")" ++ x)) (later_fields gs ++ (codes ")" ++ y)) h.1 k.1 (fields_end fs x) (fields_end gs y)) (later_fields_apart ts fs gs x y h.2 k.2) (sym (first_field_then l v fs (codes ")" ++ x)) ∙ e ∙ first_field_then m w gs (codes ")" ++ y))
   fields_apart ts fs gs x y h k e = absurd (assumption (h, k))
 
-  later_fields_apart : (ts : FieldTypes) (fs gs : Fields) (x y : List ℕ) → FieldsHaveTypes ts fs → FieldsHaveTypes ts gs → later_fields fs ++ (codes ")" ++ x) ≡ later_fields gs ++ (codes ")" ++ y) → (fs ≡ gs) × (x ≡ y)
+  later_fields_apart : (ts : FieldTypes) (fs gs : Fields) (x y : List ℕ) → FieldsAreOfTypes ts fs → FieldsAreOfTypes ts gs → later_fields fs ++ (codes ")" ++ x) ≡ later_fields gs ++ (codes ")" ++ y) → (fs ≡ gs) × (x ≡ y)
   later_fields_apart FieldTypes.none Fields.none Fields.none x y h k e = (refl, append_cancel_left (codes ")") x y e)
   later_fields_apart (FieldTypes.field a t ts) (Fields.field l v fs) (Fields.field m w gs) x y h k e =
       field_apart l m v w fs gs x y (sym h.0 ∙ k.0) (apart t v w (later_fields fs ++ (codes ")" ++ x)) (later_fields gs ++ (codes ")" ++ y)) h.1 k.1 (fields_end fs x) (fields_end gs y)) (later_fields_apart ts fs gs x y h.2 k.2) (append_cancel_left (codes ", ") _ _ (sym (next_field_then l v fs (codes ")" ++ x)) ∙ e ∙ next_field_then m w gs (codes ")" ++ y)))
   later_fields_apart ts fs gs x y h k e = absurd (assumption (h, k))
 
-  elements_apart : (t : TypeTree) (vs ws : Elements) (x y : List ℕ) → ElementsHaveType t vs → ElementsHaveType t ws → written_elements vs ++ (codes "}" ++ x) ≡ written_elements ws ++ (codes "}" ++ y) → (vs ≡ ws) × (x ≡ y)
+  elements_apart : (t : TypeTree) (vs ws : Elements) (x y : List ℕ) → ElementsAreOfType t vs → ElementsAreOfType t ws → written_elements vs ++ (codes "}" ++ x) ≡ written_elements ws ++ (codes "}" ++ y) → (vs ≡ ws) × (x ≡ y)
   elements_apart t Elements.end Elements.end x y h k e = (refl, append_cancel_left (codes "}") x y e)
   elements_apart t Elements.end (Elements.more w ws) x y h k e =
       absurd (not_closing t w (later_elements ws ++ (codes "}" ++ y)) x k.0 (sym (e ∙ first_element_then w ws (codes "}" ++ y))))
@@ -220,7 +220,7 @@ mutual
       let s = later_elements_apart t vs ws x y h.1 k.1 r.1 in
       (ap₂ Elements.more r.0 s.0, s.1)
 
-  later_elements_apart : (t : TypeTree) (vs ws : Elements) (x y : List ℕ) → ElementsHaveType t vs → ElementsHaveType t ws → later_elements vs ++ (codes "}" ++ x) ≡ later_elements ws ++ (codes "}" ++ y) → (vs ≡ ws) × (x ≡ y)
+  later_elements_apart : (t : TypeTree) (vs ws : Elements) (x y : List ℕ) → ElementsAreOfType t vs → ElementsAreOfType t ws → later_elements vs ++ (codes "}" ++ x) ≡ later_elements ws ++ (codes "}" ++ y) → (vs ≡ ws) × (x ≡ y)
   later_elements_apart t Elements.end Elements.end x y h k e = (refl, append_cancel_left (codes "}") x y e)
   later_elements_apart t Elements.end (Elements.more w ws) x y h k e =
       absurd (bytes_differ 125 44 _ _ (λ r. omega (arith, r)) e)

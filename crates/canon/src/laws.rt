@@ -3,7 +3,7 @@ ghost use Rattle.std.specs.Prelude.{◌≡◌, ◌++◌, ◌↔◌, List, ℕ};
 ghost use Rattle.nq_model.specs.Types.{TypeTree};
 ghost use Rattle.nq_model.specs.Values.{Nested, Same};
 ghost use Rattle.nq_model.specs.Canonical.{canonical, written, canonical_text};
-ghost use Rattle.canon.specs.Typed.{HasType};
+ghost use Rattle.nq_model.specs.ValueTypes.{IsOfType};
 ghost use Rattle.canon.specs.Sorted.{IsSortedDeep};
 ghost use Rattle.canon.specs.Texts.{Ends};
 
@@ -12,14 +12,14 @@ ghost use Rattle.canon.specs.Texts.{Ends};
 pub fn form_laws()
     ensures sorted { (v : Nested) → IsSortedDeep (canonical v) }
     ensures settled { (v : Nested) → IsSortedDeep v → canonical v ≡ v }
-    ensures typed { (t : TypeTree) (v : Nested) → HasType t v → HasType t (canonical v) }
+    ensures typed { (t : TypeTree) (v : Nested) → IsOfType t v → IsOfType t (canonical v) }
 {}
 
 /// Texts of values of one type tell their values, and where they end in a longer text. So the canonical
 /// texts of two values of one type are equal exactly where the values are the same nested multiset.
 pub fn text_laws()
-    ensures told { (t : TypeTree) (v w : Nested) (x y : List ℕ) → HasType t v → HasType t w → Ends x → Ends y
+    ensures told { (t : TypeTree) (v w : Nested) (x y : List ℕ) → IsOfType t v → IsOfType t w → Ends x → Ends y
         → written v ++ x ≡ written w ++ y → (v ≡ w) × (x ≡ y) }
-    ensures same { (t : TypeTree) (v w : Nested) → HasType t v → HasType t w
+    ensures same { (t : TypeTree) (v w : Nested) → IsOfType t v → IsOfType t w
         → (canonical_text v ≡ canonical_text w) ↔ Same v w }
 {}

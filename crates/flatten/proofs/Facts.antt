@@ -1,5 +1,5 @@
 -- What is known of the strands of a well-formed form.
-use Rattle.std.proofs.Common.{◌≡◌, ℕ, zero, suc, ◌<◌, List, [], ◌∷◌, ◌++◌, map, length, refl, sym, ap, ap₂, ◌∙◌, subst, Bool, true, false, cond, nat_eq, append_assoc, arith, Option, Some, None, Contains, IsSome, true≢false}
+use Rattle.std.proofs.Common.{◌≡◌, ℕ, suc, ◌<◌, ◌^◌, List, [], ◌∷◌, ◌++◌, refl, sym, ap, ap₂, ◌∙◌, subst, Bool, true, false, cond, nat_eq, append_assoc, arith, Some, Contains, IsSome}
 use Rattle.std.specs.List.{AllByRecursion as Each}
 use Rattle.std.specs.Str.{bytes_eq}
 use Rattle.std.proofs.lemmas.Bool.Decides.{Decides-eqb}
@@ -17,8 +17,8 @@ use Rattle.nq_model.proofs.Numberings.{each_map}
 use Rattle.nq_ir.specs.declared.base.Gen.{Gen}
 use Rattle.nq_ir.specs.Trees.{BaseTree, literal, column, unary, binary, choose, empty, Conds, no_cond, and_cond, Tests, no_test, test, BodyTree, plain_body, rec_body, bag_body, Bodies, no_body, with_body, Comps, no_comp, comp, ShapeTree, plain_shape, rec_shape, index_shape, Shapes, no_shape, with_shape}
 use Rattle.nq_ir.specs.Spots.{StrandTree, shaped, both, shape_of, shape_of_fields, shape_leaves, shape_leaves_in}
-use Rattle.nq_ir.specs.WellFormed.{BaseHas, CondsHave, TestsHave, BodyHas, BodiesHave, CompsHave, AreTables, column_type_in, gen_columns, table_columns, numbers, base_numbers, conds_numbers, tests_numbers, body_numbers, bodies_numbers, comps_numbers}
-use Rattle.nq_ir.proofs.Distinct.{Among, Apart, Distinct, Sub, among_left, among_right, distinct_apart, distinct_sub, each_among, each_join, each_left, each_right, each_sub, first, later, sub_append, sub_before, sub_left, sub_refl, sub_right}
+use Rattle.nq_ir.specs.WellFormed.{IsNumber, body_tags, bodies_tags, comps_tags, BaseHas, CondsHave, TestsHave, BodyHas, BodiesHave, CompsHave, AreTables, column_type_in, gen_columns, table_columns, numbers, base_numbers, conds_numbers, tests_numbers, body_numbers, bodies_numbers, comps_numbers}
+use Rattle.nq_ir.proofs.Distinct.{Apart, Distinct, Sub, among_left, among_right, distinct_apart, distinct_sub, each_among, each_join, each_left, each_right, each_sub, first, later, sub_append, sub_before, sub_left, sub_refl, sub_right}
 use Rattle.nq_ir.proofs.Equal.{nat_same}
 use Rattle.nq_ir.proofs.Levels.{AllBody, AllComps, AllFields}
 use Rattle.nq_ir.proofs.Scopes.{Inside, inside_append, distinct_join, from_inside, numbers_append}
@@ -298,6 +298,55 @@ module _ (S : List TableShape) where
 
   pub form_facts : (cs : Comps) (a : TypeTree) → Distinct (comps_numbers cs) → CompsHave S [] cs a → AllComps (λ c. StrandFacts (shaped c)) 0 [] no_cond cs
   form_facts cs a d h = facts_comps 0 [] no_cond [] cs a (record { tables = tt; differ = tt; typed = tt; tests = tt }) (λ n m. m) d h
+
+-- the numbers of a scope fit
+pub record FitScope (gens : List Gen) (conds : Conds) : Type 0 where
+  pub gens_fit : Each IsNumber (numbers gens)
+  pub conds_fit : Each IsNumber (conds_numbers conds)
+
+-- the tags and numbers of a strand fit
+pub record FitStrand (d : StrandTree) : Type 0 where
+  pub around : FitScope d.outer_gens d.outer_conds
+  pub parent : d.parent < 2 ^ 63
+  pub tag : d.tag < 2 ^ 63
+  pub own_gens : Each IsNumber (numbers d.gens)
+  pub own_conds : Each IsNumber (conds_numbers d.conds)
+  pub leaves : Each (λ b. Each IsNumber (base_numbers b)) (shape_leaves d.shape)
+
+fit_both : (xs ys : Conds) → Each IsNumber (conds_numbers xs) → Each IsNumber (conds_numbers ys) → Each IsNumber (conds_numbers (both xs ys))
+fit_both no_cond ys h k = k
+fit_both (and_cond x xs) ys h k = each_join IsNumber (base_numbers x) (conds_numbers (both xs ys)) (each_left IsNumber (base_numbers x) (conds_numbers xs) h) (fit_both xs ys (each_right IsNumber (base_numbers x) (conds_numbers xs) h) k)
+
+mutual
+  fit_comps : (p : ℕ) (og : List Gen) (oc : Conds) (cs : Comps) → p < 2 ^ 63 → FitScope og oc → Each IsNumber (comps_tags cs) → Each IsNumber (comps_numbers cs) → AllComps (λ c. FitStrand (shaped c)) p og oc cs
+  fit_comps p og oc no_comp b s t n = tt
+  fit_comps p og oc (comp u gens conds body cs) b s t n =
+      let G = numbers gens in
+      let C = conds_numbers conds in
+      let B = body_numbers body in
+      let R = comps_numbers cs in
+      let own_gens = each_left IsNumber G (C ++ (B ++ R)) n in
+      let n1 = each_right IsNumber G (C ++ (B ++ R)) n in
+      let own_conds = each_left IsNumber C (B ++ R) n1 in
+      let n2 = each_right IsNumber C (B ++ R) n1 in
+      let inner : FitScope (og ++ gens) (both oc conds) = record { gens_fit = subst (Each IsNumber) (sym (numbers_append og gens)) (each_join IsNumber (numbers og) G s.gens_fit own_gens); conds_fit = fit_both oc conds s.conds_fit own_conds } in (
+        record { around = s; parent = b; tag = t.0.1; own_gens = own_gens; own_conds = own_conds; leaves = leaf_numbers IsNumber body (each_left IsNumber B R n2) },
+        fit_body u (og ++ gens) (both oc conds) body t.0.1 inner (each_left IsNumber (body_tags body) (comps_tags cs) t.1) (each_left IsNumber B R n2),
+        fit_comps p og oc cs b s (each_right IsNumber (body_tags body) (comps_tags cs) t.1) (each_right IsNumber B R n2),
+      )
+
+  fit_body : (p : ℕ) (og : List Gen) (oc : Conds) (body : BodyTree) → p < 2 ^ 63 → FitScope og oc → Each IsNumber (body_tags body) → Each IsNumber (body_numbers body) → AllBody (λ c. FitStrand (shaped c)) p og oc body
+  fit_body p og oc (plain_body x) b s t n = tt
+  fit_body p og oc (rec_body fs) b s t n = fit_fields p og oc fs b s t n
+  fit_body p og oc (bag_body e cs) b s t n = fit_comps p og oc cs b s t n
+
+  fit_fields : (p : ℕ) (og : List Gen) (oc : Conds) (fs : Bodies) → p < 2 ^ 63 → FitScope og oc → Each IsNumber (bodies_tags fs) → Each IsNumber (bodies_numbers fs) → AllFields (λ c. FitStrand (shaped c)) p og oc fs
+  fit_fields p og oc no_body b s t n = tt
+  fit_fields p og oc (with_body l x fs) b s t n =
+      (fit_body p og oc x b s (each_left IsNumber (body_tags x) (bodies_tags fs) t) (each_left IsNumber (body_numbers x) (bodies_numbers fs) n), fit_fields p og oc fs b s (each_right IsNumber (body_tags x) (bodies_tags fs) t) (each_right IsNumber (body_numbers x) (bodies_numbers fs) n))
+
+pub form_fits : (cs : Comps) → Each IsNumber (comps_tags cs) → Each IsNumber (comps_numbers cs) → AllComps (λ c. FitStrand (shaped c)) 0 [] no_cond cs
+form_fits cs t n = fit_comps 0 [] no_cond cs (omega arith) (record { gens_fit = tt; conds_fit = tt }) t n
 
 -- A shape has the element type in a scope.
 abbrev mutual

@@ -1,7 +1,6 @@
 -- What is known of the let form of a well-formed form at a path.
-use Rattle.std.proofs.Common.{◌≡◌, ℕ, ◌≤◌, List, [], ◌∷◌, ◌++◌, map, length, refl, sym, subst}
+use Rattle.std.proofs.Common.{◌≡◌, ◌≤◌, List, [], ◌∷◌, ◌++◌, map, length, refl, sym, subst}
 use Rattle.std.specs.List.{AllByRecursion as Each}
-use Rattle.nq_model.specs.Bags.{Reordered}
 use Rattle.nq_model.specs.Tables.{IsProperSchema}
 use Rattle.nq_model.specs.Types.{TypeTree, int, bool, text, rec, bag, fun, FieldTypes, none, field}
 use Rattle.nq_model.specs.declared.table.ColumnType.TheVariants as column_type
@@ -17,9 +16,9 @@ use Rattle.nq_ir.specs.Meanings.{EachBoth}
 use Rattle.nq_ir.specs.Parts.{element_types}
 use Rattle.nq_ir.specs.Paths.{paths, element_at}
 use Rattle.nq_ir.specs.Spots.{StrandTree, PlacedComp, shaped, shape_leaves, shape_leaves_in, by_tag, strands_at, levels}
-use Rattle.nq_ir.specs.Shredded.{ShreddedTree, shredded, IsShreddedOf}
-use Rattle.nq_ir.specs.Lets.{LetTree, PartTree, LetFormTree, insert_lets, lets_of, parts_on, let_around, strand_of, IsLetFormOf}
-use Rattle.nq_ir.specs.WellFormed.{IsWellFormed, comps_numbers}
+use Rattle.nq_ir.specs.Shredded.{ShreddedTree, shredded}
+use Rattle.nq_ir.specs.Lets.{PartTree, LetFormTree, insert_lets, lets_of, parts_on, strand_of, IsLetFormOf}
+use Rattle.nq_ir.specs.WellFormed.{IsWellFormed, BodyHas, comps_numbers}
 use Rattle.nq_ir.proofs.Distinct.{distinct, among_map, each_among, each_join}
 use Rattle.nq_ir.proofs.Insert.{Around, each_let, lets_known, strands_again}
 use Rattle.nq_ir.proofs.Levels.{levels_all}
@@ -27,7 +26,7 @@ use Rattle.nq_ir.proofs.LevelTypes.{StrandsTyped, levels_typed}
 use Rattle.nq_ir.proofs.Paths.{proper, shred, shred_levels, elements_are}
 use Rattle.nq_ir.proofs.Scopes.{StrandGood, all_scopes, all_tags, look, strands_good}
 use Rattle.nq_ir.proofs.Whole.{tags_apart, fits}
-use Rattle.flatten.proofs.Facts.{ScopeFacts, StrandFacts, ShapeHas, ShapesHave, form_facts, shape_typed, gens_dotless, base_dotless, conds_dotless}
+use Rattle.flatten.proofs.Facts.{ScopeFacts, StrandFacts, FitScope, FitStrand, form_fits, ShapeHas, ShapesHave, form_facts, shape_typed, gens_dotless, base_dotless, conds_dotless}
 use Rattle.flatten.proofs.Agree.{Dotless}
 use Rattle.flatten.proofs.PartItems.{FitsShape, FitsShapes}
 use Rattle.flatten.proofs.Withs.{LetGood, PartGood, FormGood}
@@ -35,11 +34,13 @@ use Rattle.flatten.proofs.Withs.{LetGood, PartGood, FormGood}
 -- what is known of a strand whose elements have the type a
 pub record FineStrand (S : List TableShape) (a : TypeTree) (d : StrandTree) : Type 0 where
   pub facts : StrandFacts S d
+  pub fit : FitStrand d
   pub shape : ShapeHas S (d.outer_gens ++ d.gens) d.shape a
 
 -- what is known of a let form
 pub record FineForm (S : List TableShape) (f : LetFormTree) : Type 0 where
   pub lets : Each (λ l. ScopeFacts S l.gens l.conds) f.lets
+  pub fit : Each (λ l. FitScope l.gens l.conds) f.lets
   pub parts : Each (λ p. (p.from ≤ length f.lets) × FineStrand S f.element (strand_of f.lets p)) f.parts
 
 each_two : {A : Type 0} (P Q : A → Type 0) (xs : List A) → Each P xs → Each Q xs → Each (λ x. P x × Q x) xs
@@ -72,6 +73,9 @@ module _ (schema : Schema) (form : FormTree) (w : IsWellFormed schema.tables for
   level_facts : Each (λ here. Each (λ c. StrandFacts schema.tables (shaped c)) here) (levels a form.comps)
   level_facts = levels_all (λ c. StrandFacts schema.tables (shaped c)) a form.comps (form_facts schema.tables form.comps a (distinct (comps_numbers form.comps) w.numbers_differ) w.typed)
 
+  level_fits : Each (λ here. Each (λ c. FitStrand (shaped c)) here) (levels a form.comps)
+  level_fits = levels_all (λ c. FitStrand (shaped c)) a form.comps (form_fits form.comps w.tags_fit w.numbers_fit)
+
   level_scopes : Each (λ here. Each (StrandGood (look (all_scopes form.comps)) (all_tags form.comps)) here) (levels a form.comps)
   level_scopes = levels_all (StrandGood (look (all_scopes form.comps)) (all_tags form.comps)) a form.comps (strands_good schema.tables a form.comps w.typed (tags_apart schema form w) (distinct (comps_numbers form.comps) w.numbers_differ))
 
@@ -87,8 +91,12 @@ module _ (schema : Schema) (form : FormTree) (w : IsWellFormed schema.tables for
     fine_here : Each (FineStrand schema.tables (element_at (bag a) p)) (strands_at a form.comps p)
     fine_here =
         let facts : Each (λ c. StrandFacts schema.tables (shaped c)) here = each_among (λ (l : List PlacedComp). Each (λ c. StrandFacts schema.tables (shaped c)) l) (among_map (shred a form.comps) m) (subst (λ (z : List (List PlacedComp)). Each (λ l. Each (λ c. StrandFacts schema.tables (shaped c)) l) z) (sym at_levels) level_facts) in
+        let fits : Each (λ c. FitStrand (shaped c)) here = each_among (λ (l : List PlacedComp). Each (λ c. FitStrand (shaped c)) l) (among_map (shred a form.comps) m) (subst (λ (z : List (List PlacedComp)). Each (λ l. Each (λ c. FitStrand (shaped c)) l) z) (sym at_levels) level_fits) in
         let types : StrandsTyped schema.tables (element_at (bag a) p) here = both_among (StrandsTyped schema.tables) (element_at (bag a)) (shred a form.comps) m level_types in
-        let fine = each_mapped shaped (λ c. StrandFacts schema.tables (shaped c) × _) (FineStrand schema.tables (element_at (bag a) p)) (λ c k. record { facts = k.0; shape = shape_typed schema.tables (c.outer_gens ++ c.gens) c.body (element_at (bag a) p) k.1 }) here (each_two (λ c. StrandFacts schema.tables (shaped c)) _ here facts types) in
+        let Typed : PlacedComp → Type 0 = λ c. BodyHas schema.tables (c.outer_gens ++ c.gens) c.body (element_at (bag a) p) in
+        let Known : PlacedComp → Type 0 = λ c. StrandFacts schema.tables (shaped c) × FitStrand (shaped c) in
+        let known = each_two (λ c. StrandFacts schema.tables (shaped c)) (λ c. FitStrand (shaped c)) here facts fits in
+        let fine = each_mapped shaped (λ c. Known c × Typed c) (FineStrand schema.tables (element_at (bag a) p)) (λ c k. record { facts = k.0.0; fit = k.0.1; shape = shape_typed schema.tables (c.outer_gens ++ c.gens) c.body (element_at (bag a) p) k.1 }) here (each_two Known Typed here known types) in
         each_reordered (FineStrand schema.tables (element_at (bag a) p)) (map shaped here) (by_tag (map shaped here)) (reordered_sorted _ (map shaped here)) fine
 
     around_here : Each (Around (look (all_scopes form.comps))) (strands_at a form.comps p)
@@ -104,6 +112,7 @@ module _ (schema : Schema) (form : FormTree) (w : IsWellFormed schema.tables for
         let parts = each_unmapped (strand_of (lets_of ds)) (FineStrand schema.tables (element_at (bag a) p)) (parts_on (lets_of ds) ds) (subst (λ (z : List StrandTree). Each (FineStrand schema.tables (element_at (bag a) p)) z) (sym again) fine_here) in
         record {
           lets = each_let (λ l. ScopeFacts schema.tables l.gens l.conds) ds (each_map (FineStrand schema.tables (element_at (bag a) p)) (λ d. ScopeFacts schema.tables d.outer_gens d.outer_conds) (λ d k. k.facts.around) ds fine_here);
+          fit = each_let (λ l. FitScope l.gens l.conds) ds (each_map (FineStrand schema.tables (element_at (bag a) p)) (λ d. FitScope d.outer_gens d.outer_conds) (λ d k. k.fit.around) ds fine_here);
           parts = each_two (λ q. q.from ≤ length (lets_of ds)) (λ q. FineStrand schema.tables (element_at (bag a) p) (strand_of (lets_of ds) q)) (parts_on (lets_of ds) ds) (lets_known ds) parts;
         }
 

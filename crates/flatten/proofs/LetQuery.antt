@@ -1,5 +1,5 @@
 -- A WITH query gives the kept choices of its let with their numbers, in any order.
-use Rattle.std.proofs.Common.{◌≡◌, ℕ, suc, ◌<◌, ◌^◌, List, [], ◌∷◌, ◌++◌, map, refl, sym, ap, ap₂, ◌∙◌, subst, Bool, true, false, cond, filter, zip, pos, append-nil, length}
+use Rattle.std.proofs.Common.{◌≡◌, ℕ, ◌<◌, ◌^◌, List, [], ◌∷◌, ◌++◌, map, refl, sym, ap, ap₂, ◌∙◌, subst, Bool, true, false, cond, filter, zip, pos, append-nil, length}
 use Rattle.nq_model.specs.Bags.{Pick, here, there, Reordered}
 use Rattle.nq_model.specs.NamedRows.{Label, NamedTables, cell_under}
 use Rattle.nq_model.specs.Numberings.{Numbers, key_lt}
@@ -13,7 +13,7 @@ use Rattle.nq_ir.specs.Meanings.{Env, row_of, choices, all_true, kept}
 use Rattle.nq_ir.specs.Lets.{LetTree, LetRow, LetGives, Deals, columns_in}
 use Rattle.nq_ir.proofs.Nested.{map_id}
 use Rattle.nq_ir.proofs.TellsApart.{cells_of}
-use Rattle.sql_profile.specs.AllowedAnswers.{Scope, expr_value, key_of, kept_combinations, keeps, ItemsGive, SelectGives, QueryGives, beside}
+use Rattle.sql_profile.specs.AllowedAnswers.{Scope, expr_value, key_of, kept_combinations, keeps, ItemsGive, QueryGives, beside}
 use Rattle.sql_profile.specs.Trees.{no_select, then_select}
 use Rattle.flatten.specs.Exprs.{column_expr, source_of, conds_keep, order_keys}
 use Rattle.flatten.specs.Emitted.{none_outer, let_items, let_select}

@@ -12,3 +12,6 @@ pub mod Allowed
 pub mod ScopeExprs
 pub mod ScopeLets
 pub mod ScopeTree
+pub mod WrittenNames
+pub mod Spellable
+pub mod Examples

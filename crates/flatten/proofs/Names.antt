@@ -48,7 +48,7 @@ raised_above : (xs : List ℕ) → Each (λ c. 48 ≤ c) (map (λ d. 48 + d) xs)
 raised_above [] = tt
 raised_above (x ∷ xs) = (omega arith, raised_above xs)
 
-number_text_above : (k : ℕ) → Each (λ c. 48 ≤ c) (number_text k)
+pub number_text_above : (k : ℕ) → Each (λ c. 48 ≤ c) (number_text k)
 number_text_above k = raised_above (digits_of 10 k)
 
 -- up to the first dot

@@ -1,11 +1,9 @@
 -- The SELECT of a part gives the rows that the let form allows.
-use Rattle.std.proofs.Common.{◌≡◌, ℕ, zero, suc, ◌+◌, ◌<◌, ◌^◌, List, [], ◌∷◌, ◌++◌, map, refl, sym, ap, ap₂, ◌∙◌, subst, Bool, false, length, pos, append-nil, arith, filter, cond}
+use Rattle.std.proofs.Common.{◌≡◌, ℕ, zero, suc, List, [], ◌∷◌, ◌++◌, map, refl, sym, ap, ap₂, ◌∙◌, subst, Bool, length, pos, append-nil, arith, filter, cond}
 use Rattle.std.specs.List.{AllByRecursion as Each}
 use Rattle.nq_model.specs.NamedRows.{Label, NamedTables, cell_under, rows_named}
-use Rattle.nq_model.specs.Numberings.{Numbers, key_lt}
 use Rattle.nq_model.specs.Types.{TypeTree}
 use Rattle.nq_model.specs.declared.table.Cell.{Cell}
-use Rattle.nq_model.specs.declared.table.Cell.TheVariants as cell
 use Rattle.nq_model.proofs.Numberings.{length_map, each_map}
 use Rattle.nq_ir.specs.Trees.{BaseTree}
 use Rattle.nq_ir.specs.Meanings.{Env, choices, all_true, kept, value}

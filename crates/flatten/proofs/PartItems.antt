@@ -1,21 +1,19 @@
 -- The element columns of a part are the base parts and inner bags of its rows, laid out.
-use Rattle.std.proofs.Common.{◌≡◌, ℕ, zero, suc, ◌+◌, ◌<◌, ◌^◌, List, [], ◌∷◌, ◌++◌, map, refl, sym, ap, ap₂, ◌∙◌, subst, Bool, length, pos, append_assoc, length-append, get_or, arith}
+use Rattle.std.proofs.Common.{◌≡◌, ℕ, zero, suc, ◌+◌, ◌<◌, ◌^◌, List, [], ◌∷◌, ◌++◌, map, refl, sym, ap, ap₂, ◌∙◌, subst, Bool, length, append_assoc, length-append, get_or, arith}
 use Rattle.std.specs.List.{AllByRecursion as Each}
 use Rattle.nq_model.specs.NamedRows.{NamedTables, no_cell}
-use Rattle.nq_model.specs.Numberings.{Numbers, key_lt}
 use Rattle.nq_model.specs.Types.{TypeTree, int, bool, text, rec, bag, fun, FieldTypes, none, field}
 use Rattle.nq_model.specs.declared.table.Cell.{Cell}
-use Rattle.nq_model.specs.declared.table.Cell.TheVariants as cell
 use Rattle.nq_model.proofs.Numberings.{length_map}
 use Rattle.nq_ir.specs.Trees.{BaseTree, literal, ShapeTree, plain_shape, rec_shape, index_shape, Shapes, no_shape, with_shape}
-use Rattle.nq_ir.specs.Meanings.{Tables, Env, value}
+use Rattle.nq_ir.specs.Meanings.{Tables, value}
 use Rattle.nq_ir.specs.Parts.{leaves, leaves_in, slots, slots_in}
 use Rattle.nq_ir.specs.Spots.{StrandTree, shape_leaves, shape_leaves_in, shape_slots, shape_slots_in}
 use Rattle.nq_ir.specs.Lets.{FlatRow, LetRow, Deals, part_rows, head_of, tail_of}
 use Rattle.nq_ir.proofs.Spots.{found, get_or_map}
 use Rattle.shred_types.specs.Columns.{laid, laid_fields, number_cell}
 use Rattle.sql_profile.specs.AllowedAnswers.{Scope, expr_value, key_of, ValueGives, ItemsGive, beside}
-use Rattle.sql_profile.specs.Trees.{ExprTrees, ValueTree, plain, number}
+use Rattle.sql_profile.specs.Trees.{ExprTrees, ValueTree}
 use Rattle.flatten.specs.Exprs.{base_expr}
 use Rattle.flatten.specs.Emitted.{shape_values, shapes_values, answer_items}
 

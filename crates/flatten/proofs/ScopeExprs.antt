@@ -1,5 +1,5 @@
 -- Emitted expressions, conditions and tests keep the scope rules and have the types of their terms.
-use Rattle.std.proofs.Common.{◌≡◌, ℕ, List, [], ◌∷◌, ◌++◌, map, refl, sym, ap, ap₂, ◌∙◌, subst, Bool, true, false, cond, nat_eq, ◌||◌, Option, Some, None, IsSome}
+use Rattle.std.proofs.Common.{◌≡◌, ℕ, List, [], ◌∷◌, ◌++◌, map, refl, sym, ap, ap₂, ◌∙◌, Bool, true, false, cond, nat_eq, ◌||◌, Some, IsSome}
 use Rattle.std.specs.List.{AllByRecursion as Each}
 use Rattle.std.specs.Str.{bytes_eq}
 use Rattle.std.proofs.lemmas.Bool.Decides.{Decides-eqb}
@@ -9,7 +9,7 @@ use Rattle.nq_model.specs.Typing.{shape_named}
 use Rattle.nq_model.specs.declared.table.Cell.{Cell}
 use Rattle.nq_model.specs.declared.table.Cell.TheVariants as cell
 use Rattle.nq_model.specs.declared.table.ColumnType.{ColumnType}
-use Rattle.nq_model.specs.declared.table.ColumnType.TheVariants.{Int, Bool as Truth, Text}
+use Rattle.nq_model.specs.declared.table.ColumnType.TheVariants.{Int, Bool as Truth}
 use Rattle.nq_model.specs.declared.table.TableShape.{TableShape}
 use Rattle.nq_model.specs.declared.term.Binary.TheVariants.{And}
 use Rattle.nq_model.specs.Cells.{column_type_of}
@@ -17,8 +17,8 @@ use Rattle.nq_ir.specs.declared.base.Gen.{Gen}
 use Rattle.nq_ir.specs.Trees.{BaseTree, literal, column, unary, binary, choose, empty, Conds, no_cond, and_cond, Tests, no_test, test}
 use Rattle.nq_ir.specs.WellFormed.{BaseHas, CondsHave, TestsHave, AreTables, column_type_in, gen_columns, table_columns, numbers}
 use Rattle.nq_ir.proofs.Distinct.{Distinct}
-use Rattle.sql_profile.specs.Trees.{ExprTree, SelectTree, select, ItemTrees}
-use Rattle.sql_profile.specs.Scope.{Shapes, Aliases, found, among, SourcesHave, HasType, QueryHas, OthersHave, SelectHas, KeepHas, ItemsHave}
+use Rattle.sql_profile.specs.Trees.{ExprTree, select}
+use Rattle.sql_profile.specs.Scope.{Shapes, Aliases, found, among, SourcesHave, HasType, OthersHave, SelectHas, KeepHas}
 use Rattle.flatten.specs.Names.{alias, let_alias, outer_column, one_name}
 use Rattle.flatten.specs.Exprs.{literal_expr, column_expr, source_of, one_item, base_expr, conds_keep, joined, tests_query}
 use Rattle.flatten.proofs.Names.{aliases_apart, not_let, nat_flip}

@@ -1,5 +1,5 @@
 -- A WITH query keeps the scope rules and has the columns of its generators, and a number.
-use Rattle.std.proofs.Common.{◌≡◌, ℕ, List, [], ◌∷◌, ◌++◌, map, refl, sym, ap, ap₂, ◌∙◌, subst, Bool, true, false, cond, flat_map, nat_eq, ◌&&◌, ◌||◌, append_assoc, append-nil, Some, None}
+use Rattle.std.proofs.Common.{◌≡◌, ℕ, List, [], ◌∷◌, ◌++◌, map, refl, ap, ap₂, ◌∙◌, subst, Bool, true, false, cond, flat_map, nat_eq, ◌&&◌, ◌||◌, append_assoc, append-nil, Some, None}
 use Rattle.std.specs.List.{AllByRecursion as Each}
 use Rattle.std.specs.Str.{bytes_eq}
 use Rattle.std.proofs.lemmas.List.{map-append}
@@ -20,7 +20,7 @@ use Rattle.sql_profile.specs.Scope.{Shapes, Aliases, found, among, HasType, Quer
 use Rattle.flatten.specs.Names.{outer_column, number_name}
 use Rattle.flatten.specs.Exprs.{column_expr, order_keys}
 use Rattle.flatten.specs.Emitted.{none_outer, let_items, let_select}
-use Rattle.flatten.proofs.Names.{columns_apart, number_not, own_number, not_number, nat_flip}
+use Rattle.flatten.proofs.Names.{columns_apart, number_not, own_number, nat_flip}
 use Rattle.flatten.proofs.Facts.{ScopeFacts}
 use Rattle.flatten.proofs.ScopeExprs.{Extends, own_aliases, sources_have, none_seen, ShowsTypes, shows_types_more, keep_typed}
 use Rattle.flatten.proofs.Withs.{inner_conds}

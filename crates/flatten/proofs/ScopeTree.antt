@@ -1,9 +1,7 @@
 -- The tree of a let form keeps the scope rules and has the columns at its path.
-use Rattle.std.proofs.Common.{◌≡◌, ℕ, zero, suc, ◌+◌, ◌<◌, ◌≤◌, List, [], ◌∷◌, ◌++◌, map, refl, sym, ap, ap₂, ◌∙◌, subst, Bool, true, false, cond, nat_eq, length, get_or, pos, arith, append-nil, ◌||◌, Option, Some, None, IsSome}
+use Rattle.std.proofs.Common.{◌≡◌, ℕ, zero, suc, ◌+◌, ◌<◌, ◌≤◌, List, [], ◌∷◌, ◌++◌, map, refl, sym, ap, ap₂, ◌∙◌, subst, Bool, true, false, cond, nat_eq, length, get_or, arith, ◌||◌, Some, IsSome}
 use Rattle.std.specs.List.{AllByRecursion as Each}
 use Rattle.std.specs.Str.{bytes_eq}
-use Rattle.std.proofs.lemmas.Bool.Decides.{Decides-eqb}
-use Rattle.std.proofs.lemmas.Slice.Eq.{bytes_eq-Decides}
 use Rattle.std.proofs.lemmas.List.Elements.{recursion_from_All}
 use Rattle.nq_model.specs.NamedRows.{Label}
 use Rattle.nq_model.specs.Tables.{Columns, types_of, IsProperSchema, IsProperShape}
@@ -19,7 +17,7 @@ use Rattle.nq_ir.specs.Trees.{ShapeTree, plain_shape, rec_shape, index_shape, Sh
 use Rattle.nq_ir.specs.Meanings.{EachBoth}
 use Rattle.nq_ir.specs.Spots.{StrandTree, shape_leaves, shape_leaves_in}
 use Rattle.nq_ir.specs.Lets.{LetTree, PartTree, LetFormTree, no_let, let_of, strand_of, columns_in, IsLetFormOf}
-use Rattle.nq_ir.specs.WellFormed.{column_type_in, gen_columns, table_columns, column_names, columns_or_none, numbers, AreTables}
+use Rattle.nq_ir.specs.WellFormed.{column_type_in, gen_columns, table_columns, column_names, columns_or_none, numbers}
 use Rattle.nq_ir.proofs.Distinct.{Distinct, distinct_apart, distinct_sub, sub_right, each_left, each_right}
 use Rattle.nq_ir.proofs.Equal.{nat_same, nat_differ}
 use Rattle.nq_ir.proofs.LevelTypes.{both_append}
@@ -27,14 +25,14 @@ use Rattle.nq_ir.proofs.Paths.{LabelsDiffer}
 use Rattle.nq_ir.proofs.Scopes.{numbers_append}
 use Rattle.nq_ir.proofs.Stored.{columns_differ}
 use Rattle.shred_types.specs.Columns.{element_columns, fields_columns, answer_columns}
-use Rattle.sql_profile.specs.Trees.{ExprTree, ExprTrees, QueryTree, ValueTree, plain, number}
-use Rattle.sql_profile.specs.Scope.{Shapes, Aliases, found, among, names_in, SourcesHave, HasType, QueryHas, OthersHave, SelectHas, ItemsHave, ValueHas, KeysHave, WithsHave, IsWellScoped}
+use Rattle.sql_profile.specs.Trees.{ExprTree, ExprTrees, ValueTree}
+use Rattle.sql_profile.specs.Scope.{Shapes, Aliases, found, among, names_in, HasType, QueryHas, OthersHave, SelectHas, ItemsHave, ValueHas, KeysHave, WithsHave, IsWellScoped, shapes_of_schema}
 use Rattle.flatten.specs.Names.{with_name, alias, let_alias, outer_column, number_name, answer_name}
-use Rattle.flatten.specs.Exprs.{column_expr, source_of, order_keys}
-use Rattle.flatten.specs.Emitted.{in_gens, withs_from, shape_values, shapes_values, answer_items, around_number, after_let, strand_values, strand_select, parts_query, zero_value, empty_query, main_query, emitted, flattened, answer_shape_from, answer_shape}
+use Rattle.flatten.specs.Exprs.{column_expr, order_keys}
+use Rattle.flatten.specs.Emitted.{in_gens, withs_from, shape_values, shapes_values, answer_items, around_number, strand_values, strand_select, parts_query, zero_value, empty_query, main_query, emitted, flattened, answer_shape_from, answer_shape}
 use Rattle.flatten.proofs.Names.{let_not, own_let, withs_apart, with_not, not_with, NoDot, answers_apart}
 use Rattle.flatten.proofs.Exprs.{Inner}
-use Rattle.flatten.proofs.Facts.{TestsApart, ScopeFacts, StrandFacts, ShapeHas, ShapesHave, fresh, turned, table_dotless, no_dots}
+use Rattle.flatten.proofs.Facts.{TestsApart, ScopeFacts, ShapeHas, ShapesHave, fresh, turned, table_dotless, no_dots}
 use Rattle.flatten.proofs.LetForms.{FineStrand, FineForm, fine_form}
 use Rattle.flatten.proofs.ScopeExprs.{Extends, own_aliases, sources_have, none_seen, ShowsTypes, base_typed, keep_typed}
 use Rattle.flatten.proofs.ScopeLets.{let_shape, own_shows, all_keys_have, let_typed, number_found, outer_found}
@@ -241,10 +239,6 @@ module _ (S : List TableShape) (differ : (t : Label) → LabelsDiffer (column_na
         let c = chain f.lets 1 R x (λ j b. new j) h.lets in
         (c.known, c.withs, main_typed c.known c.extends f.element f.lets c.held f.parts h.parts)
 
--- the tables of a schema by name
-abbrev shapes_of_schema : List TableShape → Shapes
-shapes_of_schema shapes = map (λ shape. (shape.name, shape.columns)) shapes
-
 schema_extends : (S : List TableShape) → Extends S (shapes_of_schema S)
 schema_extends [] t h = absurd (cc)
 schema_extends (s ∷ ss) t h = go (bytes_eq t s.name) h (schema_extends ss t)
@@ -258,6 +252,6 @@ no_with [] p j = refl
 no_with (s ∷ ss) p j = ap₂ (λ y z. y || z) (with_not j s.name (no_dots s.name p.0.named.no_dot)) (no_with ss p.1 j)
 
 -- the tree of a let form is well scoped over its schema
-pub tree_scoped : (schema : Schema) (f : LetFormTree) → IsProperSchema schema → IsLetFormOf schema f → IsWellScoped (map (λ shape. (shape.name, shape.columns)) schema.tables) (flattened schema f) (answer_shape (answer_columns f.element))
+pub tree_scoped : (schema : Schema) (f : LetFormTree) → IsProperSchema schema → IsLetFormOf schema f → IsWellScoped (shapes_of_schema schema.tables) (flattened schema f) (answer_shape (answer_columns f.element))
 tree_scoped schema f proper form =
     tree_typed schema.tables (columns_differ schema proper) (table_dotless schema proper) (shapes_of_schema schema.tables) (schema_extends schema.tables) (no_with schema.tables (recursion_from_All IsProperShape schema.tables proper.proper)) f (fine_form schema f form)

@@ -1,5 +1,5 @@
 -- The answers that SQL allows to the tree of a let form are rows that the let form allows, laid out in columns.
-use Rattle.std.proofs.Common.{◌≡◌, ℕ, zero, suc, ◌+◌, ◌<◌, ◌≤◌, List, [], ◌∷◌, ◌++◌, map, refl, sym, ap, ap₂, ◌∙◌, subst, Bool, true, false, cond, length, zip, pos, get_or, arith}
+use Rattle.std.proofs.Common.{◌≡◌, ℕ, zero, suc, ◌+◌, ◌<◌, ◌≤◌, List, [], ◌∷◌, ◌++◌, map, refl, sym, ap, ap₂, ◌∙◌, subst, false, cond, length, zip, get_or, arith}
 use Rattle.std.specs.List.{AllByRecursion as Each}
 use Rattle.std.proofs.lemmas.List.{map-append}
 use Rattle.nq_model.specs.Bags.{Reordered}
@@ -23,7 +23,7 @@ use Rattle.sql_profile.specs.Trees.{ExprTrees, QueryTree, ItemTrees, no_item, th
 use Rattle.flatten.specs.Names.{with_name, outer_column}
 use Rattle.flatten.specs.Exprs.{source_of, conds_keep, order_keys}
 use Rattle.flatten.specs.Emitted.{in_gens, none_outer, let_items, withs_from, answer_items, strand_values, around_number, after_let, parts_query, zero_value, main_query, emitted}
-use Rattle.flatten.proofs.Names.{withs_apart, not_with, NoDot}
+use Rattle.flatten.proofs.Names.{withs_apart, not_with}
 use Rattle.flatten.proofs.Exprs.{by_name, Inner, InnerAll, InnerTests}
 use Rattle.flatten.proofs.LetQuery.{let_cells, let_query_gives, reordered_from_map}
 use Rattle.flatten.proofs.PartItems.{FitsShape}

@@ -8,9 +8,9 @@ use Rattle.nq_model.specs.declared.table.ColumnType.{ColumnType}
 use Rattle.nq_model.specs.declared.table.ColumnType.TheVariants as column_type
 use Rattle.nq_model.specs.declared.table.Schema.{Schema}
 use Rattle.nq_ir.specs.declared.base.Gen.{Gen}
-use Rattle.nq_ir.specs.Trees.{Conds, ShapeTree, plain_shape, rec_shape, index_shape, Shapes, no_shape, with_shape}
+use Rattle.nq_ir.specs.Trees.{ShapeTree, plain_shape, rec_shape, index_shape, Shapes, no_shape, with_shape}
 use Rattle.nq_ir.specs.Spots.{StrandTree}
-use Rattle.nq_ir.specs.Lets.{LetTree, PartTree, LetFormTree, let_of, strand_of, columns_in}
+use Rattle.nq_ir.specs.Lets.{LetTree, PartTree, LetFormTree, strand_of, columns_in}
 use Rattle.nq_ir.specs.WellFormed.{column_names}
 use Rattle.shred_types.specs.Columns.{answer_columns}
 use Rattle.sql_profile.specs.Trees.{SourceTree, ExprTree, int, bool, text, column, ExprTrees, QueryTree, no_select, then_select, SelectTree, select, keep_if, ItemTrees, no_item, then_item, ValueTree, plain, number, WithTree, SqlTree}

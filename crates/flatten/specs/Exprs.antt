@@ -8,7 +8,7 @@ use Rattle.nq_model.specs.declared.table.Cell.TheVariants as cell
 use Rattle.nq_model.specs.declared.term.Binary.TheVariants.{And}
 use Rattle.nq_ir.specs.declared.base.Gen.{Gen}
 use Rattle.nq_ir.specs.Trees.{BaseTree, literal, column, unary, binary, choose, empty, Conds, no_cond, and_cond, Tests, no_test, test}
-use Rattle.sql_profile.specs.Trees.{SourceTree, ExprTree, ExprTrees, no_expr, then_expr, QueryTree, no_select, then_select, SelectTree, select, KeepTree, keep_all, keep_if, ItemTrees, no_item, then_item, ValueTree, plain}
+use Rattle.sql_profile.specs.Trees.{SourceTree, ExprTree, ExprTrees, no_expr, then_expr, QueryTree, no_select, then_select, select, KeepTree, keep_all, keep_if, ItemTrees, no_item, then_item, plain}
 use Rattle.flatten.specs.Names.{alias, let_alias, outer_column, one_name}
 
 abbrev pub literal_expr : Cell → ExprTree

@@ -1,7 +1,7 @@
 -- The names in the text of a let form.
 --
 -- A dot stands in the names of WITH queries and of their columns, and in no name of a table.
-use Rattle.std.specs.Prelude.{ℕ, zero, suc, ◌+◌, List, [], ◌∷◌, ◌++◌, map}
+use Rattle.std.specs.Prelude.{ℕ, zero, suc, ◌+◌, [], ◌∷◌, ◌++◌, map}
 use Rattle.std.specs.Int.Digits.{digits_of}
 use Rattle.nq_model.specs.NamedRows.{Label}
 

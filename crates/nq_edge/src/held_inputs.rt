@@ -4,6 +4,7 @@ ghost use Rattle.nq_model.specs.Orders.{AreDistinct};
 ghost use Rattle.nq_edge.specs.Edge.{bytes_at, FetchCounts, FetchTells, FetchAnswers};
 
 use crate::inputs::{FetchFault, Inputs};
+use listed_calls::is_next_listed;
 use nq_model::{List, Memory, Text};
 use std::alloc::Global;
 
@@ -17,7 +18,8 @@ pub struct HeldInputs {
 }
 
 impl HeldInputs {
-    ghost use Rattle.nq_edge.specs.HeldInputs.{held_files, held_failing, held_fetched, held_faults, number_after, fails_next, FailsWhere};
+    ghost use Rattle.listed_calls.specs.Calls.{FailsWhere};
+    ghost use Rattle.nq_edge.specs.HeldInputs.{held_files, held_failing, fails_next, is_failure};
 
     /// Inputs that hold these files. The calls with these numbers fail, and so do those with a name
     /// that is not held; no other call fails. Calls are counted from 1. One that finds too little
@@ -41,22 +43,13 @@ impl HeldInputs {
         })
     }
 
-    // The number of the next call.
-    fn next_call(&self) -> Option<u64>
-        ensures { result ≡ number_after (length (held_fetched self.now)) }
-    {
-        (self.fetched.len() as u64).checked_add(1)
-    }
-
     // What the next call answers.
     fn answer(&self, alloc: Global, name: &str, limit: u64) -> Result<List<u8>, FetchFault>
         ensures bound { IfOk result (λ bytes. length bytes ≤ limit) }
         ensures right { FetchAnswers (bytes_at (held_files self.now) name.now) limit result }
-        ensures failed { FailsWhere (fails_next self.now name.now) result }
+        ensures failed { FailsWhere is_failure (fails_next self.now name.now) result }
     {
-        if let Some(call) = self.next_call()
-            && self.failing.as_slice().contains(&call)
-        {
+        if is_next_listed(self.failing.as_slice(), self.fetched.len() as u64) {
             return Err(FetchFault::Failed);
         }
         match bytes_under(self.files.as_slice(), name) {
@@ -92,7 +85,8 @@ fn bytes_under<'a>(files: &'a [(Text, List<u8>)], name: &str) -> Option<&'a List
 }
 
 impl Inputs for HeldInputs {
-    ghost use Rattle.nq_edge.specs.HeldInputs.{held_files, held_failing, held_fetched, held_faults, fails_next, FailsWhere};
+    ghost use Rattle.listed_calls.specs.Calls.{FailsWhere};
+    ghost use Rattle.nq_edge.specs.HeldInputs.{held_files, held_failing, held_fetched, held_faults, fails_next, is_failure};
 
     ghost held = { λ inputs. Some (held_files inputs) };
 
@@ -111,7 +105,7 @@ impl Inputs for HeldInputs {
         ensures same { held_files self.new ≡ held_files self.old }
 
         // Which calls fail, so that a test can tell.
-        ensures failed { FailsWhere (fails_next self.old name.now) result }
+        ensures failed { FailsWhere is_failure (fails_next self.old name.now) result }
         ensures failing { held_failing self.new ≡ held_failing self.old }
     {
         match self.answer(alloc, name, limit) {

@@ -5,6 +5,7 @@ ghost use Rattle.nq_model.specs.Terms.{PlacedNode, at, placed, placed_fields};
 ghost use Rattle.nq_model.specs.Unfolding.{contract_apply, contract_field, picked};
 ghost use Rattle.nq_plain.specs.Stepping.{Then};
 
+use crate::subst::subst;
 use nq_model::{Label, Memory, Node, Term, boxed};
 use std::alloc::Global;
 
@@ -25,7 +26,7 @@ fn contract_apply(
     ensures { IfOk result (λ made. option_map placed made ≡ contract_apply place (placed func.now) (placed arg.now)) }
 {
     match &func.node {
-        Node::Fun { taken: _, body } => Ok(Some(body.subst(alloc, arg, 0)?)),
+        Node::Fun { taken: _, body } => Ok(Some(subst(alloc, body, arg, 0)?)),
         Node::If { test, yes, no } => {
             let test = boxed(alloc, test.copy(alloc)?)?;
             let yes = boxed(alloc, applied(alloc, place, yes, arg)?)?;
@@ -158,6 +159,6 @@ pub fn step_bind(
             term: Term { place, node },
         });
     }
-    let term = body.subst(alloc, &value, 0)?;
+    let term = subst(alloc, &body, &value, 0)?;
     Ok(Stepped { moved: true, term })
 }

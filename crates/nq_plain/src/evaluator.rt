@@ -12,7 +12,9 @@ use crate::elements::{append, elements_in};
 use crate::records::{field_in, put_field};
 use crate::scope::Scope;
 use crate::tables::table_meaning;
-use nq_model::{Label, List, Memory, Node, Schema, Term, Value, binary_value, is_true, unary_value};
+use nq_model::{
+    Label, List, Memory, Node, Schema, Term, Value, binary_value, is_true, unary_value,
+};
 use rows::Table;
 use std::alloc::Global;
 

@@ -8,7 +8,9 @@ mod elements;
 mod evaluator;
 mod records;
 mod scope;
+mod shift;
 mod stepper;
+mod subst;
 mod tables;
 
 pub use contraction::Stepped;

@@ -1,8 +1,9 @@
 -- The table that a query names, among the tables that its inputs come to.
 use Rattle.std.proofs.Common.{◌≡◌, ℕ, ◌+◌, ◌-◌, suc, Bool, true, false, cond, List, [], ◌∷◌, ◌++◌, map, length, nat_lt, Option, Some, None, Result, Ok, Err, slice_get, find, bytes_eq, refl, sym, ap, ◌∙◌, subst, append_assoc, append-nil, arith}
 use Rattle.nq_model.specs.Databases.{rows_value}
-use Rattle.nq_model.specs.Meaning.{meaning}
-use Rattle.nq_model.specs.Terms.{PlacedTerm, PlacedNode, at, bare}
+use Rattle.nq_model.specs.QueryMeaning.{Means}
+use Rattle.nq_model.specs.Terms.{PlacedTerm, PlacedNode, at}
+use Rattle.nq_model.specs.Unfolding.{here}
 use Rattle.nq_model.specs.declared.table.Cell.{Cell}
 use Rattle.nq_model.specs.declared.table.Schema.{Schema}
 use Rattle.nq_model.specs.declared.table.TableShape.{TableShape}
@@ -10,7 +11,7 @@ use Rattle.nq_edge.specs.Edge.{Files, bytes_at}
 use Rattle.nq_types.proofs.TableFacts.{bytes_eq_other}
 use Rattle.sql_profile.specs.declared.server.Loaded.{Loaded}
 use Rattle.nq_top.specs.Commands.{file_of}
-use Rattle.nq_top.specs.Meanings.{meaning_at, query_meaning}
+use Rattle.nq_top.specs.Meanings.{meaning_at, asked_value}
 use Rattle.sql_profile.specs.Servers.{filled_of}
 use Rattle.nq_top.specs.Reading.{rows_read}
 use Rattle.nq_top.specs.Judging.{Judgement, at_once, refused, accepted, judged, fetched_then, read_then, tables_judged, loaded_as, table_named, place_named, run_judged}
@@ -95,12 +96,17 @@ finds name (shape ∷ shapes) (table ∷ tables) same =
         let next : 1 + place_named name shapes ≡ suc (place_named name shapes) = omega arith in
         ap (λ (n : ℕ). meaning_at (slice_get (table ∷ tables) n)) next ∙ later
 
--- what the named table means is what the query means
+-- the value of the named table is what the query means
 pub run_means : (files : Files) (folder : List ℕ) (schema : Schema) (term : PlacedTerm) (tables : List Loaded) (asked : ℕ)
-    → (run_judged files folder schema term).verdict ≡ accepted tables asked → query_meaning tables asked ≡ meaning (map filled_of tables) [] (bare term)
-unfolding table_named query_meaning
+    → (run_judged files folder schema term).verdict ≡ accepted tables asked → Means (map filled_of tables) term (asked_value tables asked)
+unfolding table_named asked_value
 run_means files folder schema (at p (PlacedNode.table name)) tables asked is =
     let named = names_tables files folder schema.tables 67108864 [] (place_named name schema.tables) tables asked is in
     let P : List Loaded → Type 0 = λ ts. map (λ (t : Loaded). t.name) ts ≡ map (λ (s : TableShape). s.name) schema.tables in
-    ap (λ (n : ℕ). meaning_at (slice_get tables n)) named.same ∙ finds name schema.tables tables (subst P (sym named.all) named.names)
+    record {
+      plain_term = at p (PlacedNode.table name);
+      unfolds = record { steps = here; ended = refl };
+      plain = tt;
+      is = ap (λ (n : ℕ). meaning_at (slice_get tables n)) named.same ∙ finds name schema.tables tables (subst P (sym named.all) named.names);
+    }
 run_means files folder schema (at p _) tables asked is = absurd (cc)

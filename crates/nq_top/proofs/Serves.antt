@@ -22,7 +22,7 @@ use Rattle.sql_profile.proofs.ScanNames.{allowed_among}
 use Rattle.nq_top.proofs.Loads.{can_load}
 use Rattle.nq_top.proofs.Meaning.{allowed_value}
 use Rattle.nq_top.specs.Gathering.{AreServable}
-use Rattle.nq_top.specs.Meanings.{answer_value, meaning_at, query_meaning}
+use Rattle.nq_top.specs.Meanings.{answer_value, meaning_at, asked_value}
 use Rattle.nq_top.specs.Loading.{LoadFails}
 use Rattle.nq_top.specs.Serving.{ServerState, AnswerFails, ServesText, AnswersBadly, AnswerTells, RefusalServes, ServeTells}
 use Rattle.nq_top.specs.declared.refusal.ServerRefusal.{ServerRefusal}
@@ -56,8 +56,8 @@ allowed_rows tables asked table text rows servable is scan allows =
     allowed_among tables table rows servable.names_differ servable.unquoted (asked, servable.among, sym is) (subst (λ (t : List ℕ). Allows tables t rows) scan allows)
 
 meaning_text : (tables : List Loaded) (asked : ℕ) (table : Loaded) (value : Nested) → slice_get tables asked ≡ Some table
-    → canonical value ≡ canonical (table_value table.columns table.rows) → canonical_text value ≡ canonical_text (query_meaning tables asked)
-unfolding query_meaning
+    → canonical value ≡ canonical (table_value table.columns table.rows) → canonical_text value ≡ canonical_text (asked_value tables asked)
+unfolding asked_value
 meaning_text tables asked table value is same =
     ap (λ (v : Nested). written v ++ codes "\n") (same ∙ ap (λ (t : Option Loaded). canonical (meaning_at t)) (sym is))
 

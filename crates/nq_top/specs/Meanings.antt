@@ -1,4 +1,4 @@
--- What a query of a table means over tables, and the value that an answer stands for.
+-- The value of a table that a server is asked for, and the value that an answer stands for.
 use Rattle.std.specs.Prelude.{ℕ, Bool, false, ◌&&◌, List, [], ◌∷◌, map, filter, pos, slice_get, Option, Some, None}
 use Rattle.std.specs.Ordering.{int_eq}
 use Rattle.nq_model.specs.Tables.{table_value}
@@ -8,13 +8,14 @@ use Rattle.nq_model.specs.declared.table.Cell.TheVariants.{Int}
 use Rattle.canon.specs.Rows.{row_record}
 use Rattle.sql_profile.specs.declared.server.Loaded.{Loaded}
 
--- the meaning of `table t`, where t is the table at a place: the bag of its rows
+-- the value of a table: the bag of its rows
 abbrev pub meaning_at : Option Loaded → Nested
 meaning_at None = bag_of []
 meaning_at (Some table) = table_value table.columns table.rows
 
-unfoldable pub query_meaning : List Loaded → ℕ → Nested
-query_meaning tables asked = meaning_at (slice_get tables asked)
+-- the value of the table at the place that is asked for
+unfoldable pub asked_value : List Loaded → ℕ → Nested
+asked_value tables asked = meaning_at (slice_get tables asked)
 
 -- the outer index of a row is that of the top, tag 0 and number 1
 abbrev pub is_top : List Cell → Bool

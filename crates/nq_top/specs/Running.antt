@@ -9,7 +9,7 @@ use Rattle.sql_profile.specs.Servers.{Asks, RoseBelow}
 use Rattle.sql_profile.specs.declared.server.Loaded.{Loaded}
 use Rattle.nq_top.specs.Gathering.{Told, InputCounts, Judges, RefusalTells}
 use Rattle.nq_top.specs.Judging.{Judgement, Verdict, missing, refused, written, accepted}
-use Rattle.nq_top.specs.Meanings.{query_meaning}
+use Rattle.nq_top.specs.Meanings.{asked_value}
 use Rattle.nq_top.specs.Noting.{Notes}
 use Rattle.nq_top.specs.Refusals.{status_of}
 use Rattle.nq_top.specs.Serving.{ServerState, RefusalCounts, RefusalBlames}
@@ -106,7 +106,7 @@ Tells served judgement old new out_old out_new (Err refusal.OutputFailed) = Writ
 -- what is known of a server that is not seen again: the text of an honest one is that of what the query
 -- means, and its answers fit
 abbrev pub Means : Bool → Served
-Means honest tables asked (Ok text) = honest ≡ true → text ≡ canonical_text (query_meaning tables asked)
+Means honest tables asked (Ok text) = honest ≡ true → text ≡ canonical_text (asked_value tables asked)
 Means honest tables asked (Err r) = RefusalBlames honest r
 
 -- 4. what a status says

@@ -11,7 +11,7 @@ use Rattle.sql_profile.specs.Fits.{IsFirstMisfit}
 use Rattle.sql_profile.specs.Scans.{scan_text, scan_types}
 use Rattle.sql_profile.specs.Servers.{Asks, with_ask, RoseBelow}
 use Rattle.sql_profile.specs.declared.server.Loaded.{Loaded}
-use Rattle.nq_top.specs.Meanings.{answer_value, query_meaning}
+use Rattle.nq_top.specs.Meanings.{answer_value, asked_value}
 use Rattle.nq_top.specs.declared.gathered.Gathered.{Gathered}
 use Rattle.nq_top.specs.declared.gathered.Gathered.TheVariants as gathered
 use Rattle.nq_top.specs.declared.refusal.ServerRefusal.{ServerRefusal}
@@ -47,7 +47,7 @@ pub record ServesText (tables : List Loaded) (asked : ℕ) (old new : ServerStat
   pub was_asked : WasAsked tables asked old new table rows
   pub fits : All (RowFits (scan_types table.columns)) rows
   pub of_answer : text ≡ canonical_text (answer_value (names_of (by_label table.columns)) rows)
-  pub of_meaning : honest ≡ true → text ≡ canonical_text (query_meaning tables asked)
+  pub of_meaning : honest ≡ true → text ≡ canonical_text (asked_value tables asked)
 
 -- the server holds the tables before the named one, and was not asked
 pub record FailsTable (tables : List Loaded) (old new : ServerState) (name : List ℕ) : Type 0 where

@@ -1,9 +1,9 @@
 -- One row more among the groups.
-use Rattle.std.proofs.Common.{◌≡◌, ℕ, zero, suc, ◌+◌, ◌-◌, ◌<◌, ◌≤◌, List, [], ◌∷◌, ◌++◌, refl, sym, ap, ap₂, ◌∙◌, subst, Bool, true, false, cond, map, filter, get_or, length, drop, drop-cons, arith, length-append}
+use Rattle.std.proofs.Common.{◌≡◌, ℕ, zero, suc, ◌+◌, ◌-◌, ◌<◌, ◌≤◌, List, [], ◌∷◌, ◌++◌, refl, sym, ap, ◌∙◌, subst, Bool, true, false, cond, map, filter, get_or, length, drop, drop-cons, arith, length-append}
 use Rattle.std.proofs.Math.Seq.{drop-length}
 use Rattle.std.specs.Cmp.{IsEquivalence}
 use Rattle.std.specs.Option.{unwrap_or}
-use Rattle.indexmap.specs.IndexMap.{IndexMap, get, get_by}
+use Rattle.indexmap.specs.IndexMap.{IndexMap, get_by}
 use Rattle.nq_model.specs.declared.table.Cell.{Cell}
 use Rattle.stitcher.specs.Schemes.{AnswerRows}
 use Rattle.stitcher.specs.Groups.{first_under, IsChain, GoesOn, row_before, AreGrouped, IsPutInFront}

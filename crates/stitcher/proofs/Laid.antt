@@ -35,7 +35,7 @@ same_test m n =
     (λ e. (Decides-int_eq (pos m) (pos n)).1 (ap pos ((Decides-eqb m n).0 e)))
 
 mutual
-  types_length : (A : TypeTree) → length (element_types A) ≡ bags A
+  pub types_length : (A : TypeTree) → length (element_types A) ≡ bags A
   types_length int = refl
   types_length bool = refl
   types_length text = refl

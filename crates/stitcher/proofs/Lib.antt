@@ -4,5 +4,6 @@ pub mod Reading
 pub mod Stitched
 pub mod Grouping
 pub mod Ready
+pub mod Walking
 pub mod Examples
 mod Witness

@@ -1,5 +1,5 @@
 -- Answers, their groups, and the cells of base parts.
-use Rattle.std.proofs.Common.{◌≡◌, ℕ, zero, suc, ◌+◌, ◌-◌, ◌<◌, ◌≤◌, List, [], ◌∷◌, ◌++◌, refl, sym, ap, ◌∙◌, subst, Bool, map, get_or, length, length-append, arith, inl, inr, ◌⊎◌, ⊎_elim, eq-or-lt_of_le}
+use Rattle.std.proofs.Common.{◌≡◌, ℕ, zero, suc, ◌-◌, ◌<◌, ◌≤◌, List, [], ◌∷◌, ◌++◌, refl, sym, ap, ◌∙◌, subst, Bool, get_or, length, length-append, arith, ⊎_elim, eq-or-lt_of_le}
 use Rattle.std.proofs.lemmas.Bool.{cases_lt}
 use Rattle.std.proofs.lemmas.List.{length-map}
 use Rattle.nq_model.specs.Cells.{RowFits, column_type_of}
@@ -7,11 +7,11 @@ use Rattle.nq_model.specs.declared.table.Cell.{Cell}
 use Rattle.nq_model.specs.declared.table.ColumnType.{ColumnType}
 use Rattle.nq_model.specs.declared.table.ColumnType.TheVariants as column
 use Rattle.nq_model.specs.Types.{TypeTree, FieldTypes, int, bool, text, rec, bag, fun, none, field}
-use Rattle.nq_ir.specs.Parts.{leaves, leaves_in, bags}
+use Rattle.nq_ir.specs.Parts.{leaves, leaves_in}
 use Rattle.shred_types.specs.Places.{leaf_types, leaf_types_in}
 use Rattle.sql_profile.specs.declared.answer.Answer.{Answer}
 use Rattle.stitcher.specs.Schemes.{Scheme, AnswerRows, IsLeaf, BasesAreTyped, element_of}
-use Rattle.stitcher.specs.Stitching.{rows_of, spans_of, AreFitting, HasGroups, EachInGroups}
+use Rattle.stitcher.specs.Stitching.{rows_of, AreFitting, HasGroups, EachInGroups}
 use Rattle.stitcher.specs.declared.groups.Groups.{Groups}
 
 pub rows_at : (answers : List Answer) (q : ℕ) (d : Answer) → q < length answers → get_or (rows_of answers) q [] ≡ (get_or answers q d).rows

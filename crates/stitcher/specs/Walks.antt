@@ -4,7 +4,7 @@ use Rattle.nq_model.specs.Types.{TypeTree, FieldTypes, int, bool, text, rec, bag
 use Rattle.nq_model.specs.Values.{Nested, Fields}
 use Rattle.nq_model.specs.declared.table.Cell.{Cell}
 use Rattle.nq_ir.specs.Building.{element, element_fields}
-use Rattle.nq_ir.specs.Parts.{leaves, slots, bags, bags_in}
+use Rattle.nq_ir.specs.Parts.{leaves, slots, bags}
 use Rattle.stitcher.specs.Schemes.{Scheme, AnswerRows, answers, element_of}
 use Rattle.stitcher.specs.declared.walk.Walk.{Walk}
 

@@ -79,6 +79,7 @@ fn elements<S: IndexScheme>(
 
 // The value of a part of an element, where a walk stands, which is then past it.
 #[cycle(element)]
+#[tactic(auto, using(nq_model::proofs::Terms::type_of_record, nq_model::proofs::Trees::nested_record, nq_model::proofs::Trees::nested_bag))]
 fn element<S: IndexScheme>(
     alloc: Global,
     from: &Source<'_, S>,

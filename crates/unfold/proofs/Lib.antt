@@ -13,3 +13,4 @@ pub mod Confluence
 pub mod Scopes
 pub mod Together
 pub mod Walks
+pub mod Meanings

@@ -1,7 +1,15 @@
-// The laws of unfolding, on a function that does nothing.
+// The laws of unfolding, each on a function that does nothing.
+ghost use Rattle.nq_model.specs.Databases.{FilledTable, database};
+ghost use Rattle.nq_model.specs.Proper.{IsProperTerm};
+ghost use Rattle.nq_model.specs.QueryMeaning.{Means};
+ghost use Rattle.nq_model.specs.SchemaTables.{AreTablesOf};
+ghost use Rattle.nq_model.specs.Tables.{IsProperSchema};
 ghost use Rattle.nq_model.specs.Types.{TypeTree};
 ghost use Rattle.nq_model.specs.Terms.{PlacedTerm, bare};
-ghost use Rattle.std.specs.Prelude.{◌≡◌, Some, None};
+ghost use Rattle.nq_model.specs.ValueTypes.{IsOfType};
+ghost use Rattle.nq_model.specs.Values.{Nested, IsProper};
+ghost use Rattle.nq_model.specs.declared.table.Cell.{Cell};
+ghost use Rattle.std.specs.Prelude.{◌≡◌, List, Some, None};
 ghost use Rattle.nq_model.specs.Unfolding.{Unfolds, step};
 ghost use Rattle.nq_model.specs.Typing.{IsAccepted};
 ghost use Rattle.nq_model.specs.declared.table.Schema.{Schema};
@@ -21,4 +29,14 @@ pub fn unfolding_is_confluent()
     ensures ends { (t u : PlacedTerm) → step t ≡ None → Contracts t u → ⊥ }
     ensures meets { (t u v : PlacedTerm) → Contractions t u → Contractions t v → (w : PlacedTerm) × Contractions u w × Contractions v w }
     ensures one { (t u v : PlacedTerm) → Unfolds t u → Contractions t v → step v ≡ None → v ≡ u }
+{}
+
+/// An accepted query means one value, and no other, over any tables. Over tables of a proper schema the value of a proper
+/// query is of the query's type, and its labels rise.
+pub fn query_meanings()
+    ensures one { (schema : Schema) (t : PlacedTerm) (a : TypeTree) → IsAccepted schema (bare t) a → (tables : List FilledTable)
+        → (v : Nested) × Means tables t v × ((w : Nested) → Means tables t w → w ≡ v) }
+    ensures typed { (schema : Schema) (t : PlacedTerm) (a : TypeTree) → IsProperSchema schema → IsProperTerm (bare t) → IsAccepted schema (bare t) a
+        → (tables : List (List (List Cell))) → AreTablesOf schema.tables tables
+        → (v : Nested) → Means (database schema.tables tables) t v → IsOfType a v × IsProper v }
 {}

@@ -17,4 +17,4 @@ mod uses;
 mod walk;
 
 pub use answer::{DEEPEST, unfold};
-pub use laws::{unfolding_ends, unfolding_is_confluent};
+pub use laws::{query_meanings, unfolding_ends, unfolding_is_confluent};

@@ -44,11 +44,11 @@ pub(crate) fn take(alloc: Global, under: u64, slot: &mut Slot) -> Result<Built<T
     } else {
         match &slot.value {
             Some(value) => {
-                let term = value.term.shift(alloc, under, 0)?;
-                Ok(Built {
-                    term,
+                let copy = Built {
+                    term: value.term.copy(alloc)?,
                     deep: value.deep,
-                })
+                };
+                moved(alloc, under, copy)
             }
             None => Err(Memory),
         }

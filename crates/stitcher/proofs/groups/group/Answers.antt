@@ -1,4 +1,4 @@
-use Rattle.std.proofs.Common.{◌≡◌, ◌-◌, ◌≤◌, arith, length, get_or, []}
+use Rattle.std.proofs.Common.{◌-◌, arith}
 use Rattle.stitcher.proofs.Grouping.{none_going, one_more, all_grouped}
 use Rattle.stitcher.proofs.groups.group.Goals as goal
 

@@ -1,6 +1,5 @@
-use Rattle.std.proofs.Common.{◌≡◌, arith, List, All, sym, subst, ap, [], ◌∷◌, length, length-append}
+use Rattle.std.proofs.Common.{arith, All, sym, subst, ap, [], ◌∷◌, length, length-append}
 use Rattle.nq_model.specs.Cells.{RowFits}
-use Rattle.nq_model.specs.declared.table.Cell.{Cell}
 use Rattle.stitcher.specs.Schemes.{AnswerRows}
 use Rattle.stitcher.specs.Stitching.{rows_of, HasGroups, EachInGroups}
 use Rattle.stitcher.proofs.Ready.{rows_at, one_group_more}
