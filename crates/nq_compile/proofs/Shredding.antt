@@ -29,7 +29,6 @@ use Rattle.sql_profile.specs.Texts.{Spells, TextAllows}
 use Rattle.sql_profile.specs.Tokens.{First}
 use Rattle.sql_profile.specs.Trees.{PlacedSql, SqlTree, bare}
 use Rattle.sql_profile.specs.declared.server.Loaded.{Loaded}
-use Rattle.sql_profile.proofs.HeldTables.{held_filled}
 use Rattle.sql_profile.proofs.Spelled.{printed_spelled}
 use Rattle.sql_profile.proofs.TextLaws.{at_most_one_tree}
 use Rattle.flatten.specs.Emitted.{flattened, answer_shape}
@@ -39,7 +38,7 @@ use Rattle.stitcher.specs.FlatNumbers.{flat_numbers, AreLaidOut}
 use Rattle.stitcher.specs.Schemes.{AnswerRows, Reads, element_of, stitched}
 use Rattle.stitcher.proofs.Stitched.{read_is_mean, flat_reads}
 use Rattle.nq_compile.specs.Shreds.{IsScopedText, Shreds, form_means}
-use Rattle.nq_compile.specs.Texts.{text_at, texts_of}
+use Rattle.nq_compile.specs.Texts.{text_at, texts_of, CanSpell}
 
 -- SQL allows to the text of a tree what it allows to the tree
 tree_allows : (tree : SqlTree) (held : List Loaded) (rows : List (List Cell)) → IsSpellable tree → IsUtf8 (printed tree) → TextAllows First held (printed tree) rows → TreeAllows held tree rows
@@ -67,11 +66,7 @@ module _ (schema : Schema) (proper_schema : IsProperSchema schema) (form : FormT
     is = refl;
   }
 
-  -- what the texts at the paths need to be spelled
-  abbrev pub CanSpell : List Step → Type 0
-  CanSpell path = IsSpellable (flattened schema (let_form path)) × IsUtf8 (text_at schema form path)
-
-  text_scoped : (path : List Step) → Among path (paths (bag form.element)) → CanSpell path → IsScopedText schema (columns_at (bag form.element) path) (text_at schema form path)
+  text_scoped : (path : List Step) → Among path (paths (bag form.element)) → CanSpell schema form path → IsScopedText schema (columns_at (bag form.element) path) (text_at schema form path)
   text_scoped path among can =
       let back = printed_spelled (flattened schema (let_form path)) can.0 can.1 in
       let types = columns_at (bag form.element) path in
@@ -84,7 +79,7 @@ module _ (schema : Schema) (proper_schema : IsProperSchema schema) (form : FormT
         typed = types_named 0 types;
       }
 
-  texts_scoped : (ps : List (List Step)) → ((path : List Step) → Among path ps → Among path (paths (bag form.element))) → Each CanSpell ps →
+  texts_scoped : (ps : List (List Step)) → ((path : List Step) → Among path ps → Among path (paths (bag form.element))) → Each (CanSpell schema form) ps →
       EachBoth (λ path text. IsScopedText schema (columns_at (bag form.element) path) text) ps (map (text_at schema form) ps)
   texts_scoped [] within can = refl
   texts_scoped (p ∷ ps) within can = (text_scoped p (within p first) can.0, texts_scoped ps (λ path among. within path (later among)) can.1)
@@ -99,13 +94,13 @@ module _ (schema : Schema) (proper_schema : IsProperSchema schema) (form : FormT
       give : EachBoth Gives ps rows
       laid : AreLaidOut (map (element_at (bag form.element)) ps) rows answers
 
-    text_gives : (path : List Step) (answer : AnswerRows) → Among path (paths (bag form.element)) → CanSpell path → TextAllows First (held_of schema.tables tables) (text_at schema form path) answer →
+    text_gives : (path : List Step) (answer : AnswerRows) → Among path (paths (bag form.element)) → CanSpell schema form path → TextAllows First (held_of schema.tables tables) (text_at schema form path) answer →
         (rows : List FlatRow) × Gives path rows × (answer ≡ map (row_cells (element_at (bag form.element) path)) rows)
     text_gives path answer among can allows =
-        allowed_rows schema tables (held_of schema.tables tables) (let_form path) answer proper_schema stored (held_filled schema.tables tables) (is_let_form path among)
+        allowed_rows schema tables (let_form path) answer proper_schema stored (is_let_form path among)
         (tree_allows (flattened schema (let_form path)) (held_of schema.tables tables) answer can.0 can.1 allows)
 
-    texts_give : (ps : List (List Step)) (answers : List AnswerRows) → ((path : List Step) → Among path ps → Among path (paths (bag form.element))) → Each CanSpell ps →
+    texts_give : (ps : List (List Step)) (answers : List AnswerRows) → ((path : List Step) → Among path ps → Among path (paths (bag form.element))) → Each (CanSpell schema form) ps →
         EachBoth (TextAllows First (held_of schema.tables tables)) (map (text_at schema form) ps) answers → HoldsRows ps answers
     texts_give [] answers within can allows = record { rows = []; give = refl; laid = λ q. let P : List AnswerRows → Type 0 = λ a. get_or a q [] ≡ [] in subst P (sym allows) refl }
     texts_give (p ∷ ps) [] within can allows = absurd allows
@@ -118,7 +113,7 @@ module _ (schema : Schema) (proper_schema : IsProperSchema schema) (form : FormT
           laid = laid_more (element_at (bag form.element) p) (map (element_at (bag form.element)) ps) here.0 rest.rows answer answers here.2 rest.laid;
         }
 
-    pub answers_mean : (answers : List AnswerRows) → Each CanSpell (paths (bag form.element)) → EachBoth (TextAllows First (held_of schema.tables tables)) (texts_of schema form) answers →
+    pub answers_mean : (answers : List AnswerRows) → Each (CanSpell schema form) (paths (bag form.element)) → EachBoth (TextAllows First (held_of schema.tables tables)) (texts_of schema form) answers →
         Same (stitched (flat_numbers (element_types (bag form.element))) form.element answers) (form_meaning (rows_in (database schema.tables tables)) form)
     answers_mean answers can allows =
         let all = texts_give (paths (bag form.element)) answers (λ path among. among) can allows in
@@ -129,7 +124,7 @@ module _ (schema : Schema) (proper_schema : IsProperSchema schema) (form : FormT
         (flat_reads schema form tables all.rows answers proper_schema well stored all.give laid)
 
   -- the texts shred the form
-  pub texts_shred : Each CanSpell (paths (bag form.element)) → Shreds schema form.element (texts_of schema form) (form_means form)
+  pub texts_shred : Each (CanSpell schema form) (paths (bag form.element)) → Shreds schema form.element (texts_of schema form) (form_means form)
   texts_shred can = record {
     scoped = texts_scoped (paths (bag form.element)) (λ path among. among) can;
     stitched = λ tables stored answers allows v means.

@@ -18,13 +18,11 @@ ghost use Rattle.sql_profile.specs.Texts.{TextAllows};
 ghost use Rattle.sql_profile.specs.Tokens.{First};
 ghost use Rattle.stitcher.specs.FlatNumbers.{flat_numbers};
 ghost use Rattle.stitcher.specs.Schemes.{AnswerRows, stitched};
-ghost use Rattle.nq_compile.proofs.Shredding.{CanSpell};
-ghost use Rattle.nq_compile.specs.Texts.{texts_of};
+ghost use Rattle.nq_compile.specs.Shreds.{Shreds, form_means};
+ghost use Rattle.nq_compile.specs.Texts.{texts_of, CanSpell};
 
-/// Over all tables of a proper schema, answers that SQL allows to the texts of a well-formed form stitch to its meaning.
+/// The texts of a well-formed form over a proper schema shred it, where they can be spelled.
 pub fn compiling_laws()
-    ensures { (schema : Schema) (proper : IsProperSchema schema) (form : FormTree) (well : IsWellFormed schema.tables form) (tables : List (List (List Cell)))
-        → AreTablesOf schema.tables tables → (answers : List AnswerRows) → Each (CanSpell schema proper form well) (paths (bag form.element))
-        → EachBoth (TextAllows First (held_of schema.tables tables)) (texts_of schema form) answers
-        → Same (stitched (flat_numbers (element_types (bag form.element))) form.element answers) (form_meaning (rows_in (database schema.tables tables)) form) }
+    ensures { (schema : Schema) (form : FormTree) → IsProperSchema schema → IsWellFormed schema.tables form
+        → Each (CanSpell schema form) (paths (bag form.element)) → Shreds schema form.element (texts_of schema form) (form_means form) }
 {}
