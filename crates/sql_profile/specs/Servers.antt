@@ -2,7 +2,7 @@
 use Rattle.std.specs.Prelude.{◌≡◌, ◌<◌, ◌-◌, ◌^◌, ◌⊎◌, ℕ, List, [], ◌∷◌, ◌++◌, map, Option, Result, Ok, Err}
 use Rattle.std.specs.Option.{option_map}
 use Rattle.nq_model.specs.Databases.{FilledTable}
-use Rattle.nq_model.specs.declared.table.Table.{Table}
+use Rattle.nq_model.specs.declared.table.Cell.{Cell}
 use Rattle.nq_model.specs.declared.table.TableShape.{TableShape}
 use Rattle.sql_profile.specs.declared.answer.Answer.{Answer}
 use Rattle.sql_profile.specs.declared.server.Loaded.{Loaded}
@@ -36,8 +36,8 @@ table_names tables = map (λ table. table.name) tables
 abbrev pub filled_of : Loaded → FilledTable
 filled_of table = record { name = table.name; columns = table.columns; rows = table.rows }
 
--- the tables of a schema, one to each shape, as a server is loaded with them
-abbrev pub held_of : List TableShape → List Table → List Loaded
+-- the tables of a schema with these rows, one to each shape, as a server is loaded with them
+abbrev pub held_of : List TableShape → List (List (List Cell)) → List Loaded
 held_of [] tables = []
 held_of (shape ∷ shapes) [] = []
-held_of (shape ∷ shapes) (table ∷ tables) = record { name = shape.name; columns = shape.columns; rows = table.rows } ∷ held_of shapes tables
+held_of (shape ∷ shapes) (rows ∷ tables) = record { name = shape.name; columns = shape.columns; rows = rows } ∷ held_of shapes tables

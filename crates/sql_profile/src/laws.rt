@@ -9,7 +9,6 @@ ghost use Rattle.nq_model.specs.Numberings.{Rises, key_lt};
 ghost use Rattle.nq_model.specs.Orders.{AreDistinct};
 ghost use Rattle.nq_model.specs.Tables.{Columns, names_of, types_of};
 ghost use Rattle.nq_model.specs.declared.table.Cell.{Cell};
-ghost use Rattle.nq_model.specs.declared.table.Table.{Table};
 ghost use Rattle.nq_model.specs.declared.table.TableShape.{TableShape};
 ghost use Rattle.nq_model.specs.NamedRows.{NamedTables};
 ghost use Rattle.sql_profile.specs.AllowedAnswers.{Scope, TreeAllows, ValueGives};
@@ -107,7 +106,7 @@ pub fn printing_laws()
 /// The tables that are loaded of a schema, one to each shape and in its order, have its shapes, and queries
 /// see them as its tables.
 pub fn loaded_laws()
-    ensures shapes { (shapes : List TableShape) (tables : List Table) → length tables ≡ length shapes
+    ensures shapes { (shapes : List TableShape) (tables : List (List (List Cell))) → length tables ≡ length shapes
         → shapes_of (held_of shapes tables) ≡ shapes_of_schema shapes }
-    ensures filled { (shapes : List TableShape) (tables : List Table) → map filled_of (held_of shapes tables) ≡ database shapes tables }
+    ensures filled { (shapes : List TableShape) (tables : List (List (List Cell))) → map filled_of (held_of shapes tables) ≡ database shapes tables }
 {}
