@@ -4,6 +4,7 @@ use Rattle.std.specs.List.{AllByRecursion as Each, prefix_len}
 use Rattle.std.proofs.lemmas.Bool.Decides.{nat_tests}
 use Rattle.std.proofs.lemmas.List.{length-drop}
 use Rattle.std.proofs.lemmas.List.Sums.{prefix_len-le-length}
+use Rattle.text_fronts.proofs.Literals.{literal_within}
 use Rattle.nq_model.specs.SchemaTokens.{is_white, begins_word, is_word_byte, is_comment_byte}
 use Rattle.nq_model.specs.QueryTokens.{Token, Word, Value, Number, is_order_mark, value_from, Stop, NoToken, TooLarge, Front, Gap, Takes, Stops, is_digit, is_quote, begins_with, symbols, symbol_front, word_front, number_front, literal_len, literal_front, front, with_token, go_on, tokens_from}
 
@@ -41,53 +42,6 @@ begins_within (c ∷ cs) (b ∷ bs) e = let r = begins_within cs bs (and_second 
 symbol_moves : (table : List (List ℕ × (ℕ → Token))) (bs : List ℕ) → Each (λ s. 1 ≤ length s.0) table → Moving (length bs) (symbol_front table bs)
 symbol_moves [] bs e = stopped (length bs) NoToken
 symbol_moves (s ∷ ss) bs e = either (length bs) (begins_with s.0 bs) (Takes (length s.0) s.1) (symbol_front ss bs) (λ h. taken (length bs) (length s.0) s.1 e.0 (begins_within s.0 bs h)) (symbol_moves ss bs e.1)
-
--- a literal closes at a quote
-abbrev pub Closes : Bool → List ℕ → ℕ → Type 0
-Closes after bs n = ((n ≡ 0) × (after ≡ true)) ⊎ ((1 ≤ n) × (n ≤ length bs) × (get_or bs (n - 1) 0 ≡ 39))
-
-one_more : (after : Bool) (b : ℕ) (bs : List ℕ) (n m : ℕ) → (after ≡ true → b ≡ 39) → Closes after bs n → m ≡ suc n → Closes false (b ∷ bs) m
-one_more after b bs n m q (inl z) e =
-    inr (omega (arith, e), omega (arith, e, z.0), let g : m - 1 ≡ 0 = omega (arith, e, z.0) in rw g (q z.1))
-one_more after b bs n m q (inr h) e =
-    let g : m - 1 ≡ suc (n - 1) = omega (arith, e, h.0) in
-    let l = h.1 in
-    inr (omega (arith, e), omega (arith, e, l), rw g h.2)
-
-from_false : (b : ℕ) (bs : List ℕ) (m : ℕ) → Closes false bs m → Closes true bs m
-from_false b bs m (inl z) = absurd (cc)
-from_false b bs m (inr h) = inr h
-
-is_39 : (b : ℕ) → is_quote b ≡ true → b ≡ 39
-is_39 b e = grind (arith, nat_tests)
-
-some_is : (o : Option ℕ) (m : ℕ) → option_map suc o ≡ Some m → (n : ℕ) × (o ≡ Some n) × (m ≡ suc n)
-some_is None m e = absurd (cc)
-some_is (Some n) m e = (n, refl, sym (some_same (suc n) m e))
-  where
-    some_same : (a b : ℕ) → Some a ≡ Some b → a ≡ b
-    some_same a b e = cc
-
-pub literal_closes : (after : Bool) (bs : List ℕ) (m : ℕ) → literal_len after bs ≡ Some m → Closes after bs m
-literal_closes false [] m e = absurd (cc)
-literal_closes true [] m e = inl (some_zero m e, refl)
-  where
-    some_zero : (m : ℕ) → Some 0 ≡ Some m → m ≡ 0
-    some_zero m e = cc
-literal_closes false (b ∷ bs) m e =
-    let s = some_is (literal_len (is_quote b) bs) m e in
-    one_more (is_quote b) b bs s.0 m (is_39 b) (literal_closes (is_quote b) bs s.0 s.1) s.2
-literal_closes true (b ∷ bs) m e = by (is_quote b) refl e (λ n h. literal_closes false bs n h)
-  where
-    some_zero : (m : ℕ) → Some 0 ≡ Some m → m ≡ 0
-    some_zero m e = cc
-
-    by : (q : Bool) → is_quote b ≡ q → (if q then option_map suc (literal_len false bs) else Some 0) ≡ Some m → ((n : ℕ) → literal_len false bs ≡ Some n → Closes false bs n) → Closes true (b ∷ bs) m
-    by true h g r = let s = some_is (literal_len false bs) m g in from_false b (b ∷ bs) m (one_more false b bs s.0 m (λ x. absurd (cc)) (r s.0 s.1) s.2)
-    by false h g r = inl (some_zero m g, refl)
-
-literal_within : (bs : List ℕ) (m : ℕ) → literal_len false bs ≡ Some m → m ≤ length bs
-literal_within bs m e = elim (literal_closes false bs m e) [ inl z ↦ omega (arith, z.0) | inr h ↦ h.1 ]
 
 literal_moves : (bs : List ℕ) (o : Option ℕ) → literal_len false bs ≡ o → Moving (suc (length bs)) (literal_front o bs)
 literal_moves bs None e = stopped (suc (length bs)) NoToken

@@ -1,5 +1,5 @@
 -- What the reader says of the front of a text, and of its tokens.
-use Rattle.std.specs.Prelude.{◌≡◌, ℕ, List, map, ◌≤◌, Result, Ok, Err, ⊤}
+use Rattle.std.specs.Prelude.{◌≡◌, ℕ, List, map, Result, Ok, Err, ⊤}
 use Rattle.nq_model.specs.QueryTokens as query
 use Rattle.query_syntax.specs.Symbols.{operator_view, symbol_view, token_view}
 use Rattle.query_syntax.specs.declared.front.Front.{Front}
@@ -24,10 +24,6 @@ Cuts (Err code.Memory) cut = ⊤
 Cuts (Err (code.Token p)) cut = cut ≡ Err (p, query.NoToken)
 Cuts (Err (code.IntRange p)) cut = cut ≡ Err (p, query.TooLarge)
 Cuts (Err _) cut = ⊥
-
--- a digit
-abbrev pub IsDigit : ℕ → Type 0
-IsDigit b = (48 ≤ b) × (b ≤ 57)
 
 -- the token of a symbol at a place
 abbrev pub mark_token : Mark → ℕ → query.Token

@@ -8,13 +8,13 @@ ghost use Rattle.query_syntax.specs.Symbols.{operator_view};
 
 use crate::fault::SyntaxFault;
 use crate::lower_labels;
-use crate::lower_literal::literal;
 use crate::lower_type::lower_type;
 use crate::symbol::Operator;
 use crate::syntax::{FieldName, Syntax};
 use nq_model::{Label, List, Memory, Node, Term, boxed};
 use std::alloc::Global;
 use std::collections::BTreeSet;
+use text_fronts::unquoted;
 
 /// The term of a syntax tree, in which the index of a variable is how many binders stand inside its own.
 /// `Unbound` or `TwiceLabel` at the first variable in the text that has no binder, or label that stands
@@ -40,7 +40,7 @@ fn lower_under(alloc: Global, syntax: Syntax, scope: &mut List<Label>) -> Result
     match syntax {
         Syntax::Number { place, number } => Ok(term(place, Node::Int(number.value as i64))),
         Syntax::Literal { place, spelled } => {
-            let text = literal(alloc, spelled.as_str())?;
+            let text = unquoted(alloc, spelled.as_str())?;
             Ok(term(place, Node::Text(text)))
         }
         Syntax::Truth { place, truth } => Ok(term(place, Node::Bool(truth))),

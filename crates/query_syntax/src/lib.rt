@@ -6,7 +6,6 @@ mod front;
 mod indexes;
 mod lexer;
 mod lower_labels;
-mod lower_literal;
 mod lower_type;
 mod marks;
 mod symbol;

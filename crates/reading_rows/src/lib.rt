@@ -1,4 +1,4 @@
-//! Worked schema texts, table texts, query texts and programs, with what they are read as: tests alone, over
+//! Worked schema texts, table texts, query texts, SQL texts and programs, with what they are read as: tests alone, over
 //! the calls that are checked elsewhere.
 #![tactic(auto)]
 
@@ -8,6 +8,8 @@ mod programs;
 mod queries;
 #[cfg(test)]
 mod schemas;
+#[cfg(test)]
+mod statements;
 #[cfg(test)]
 mod syntax;
 #[cfg(test)]

@@ -21,10 +21,10 @@ pub fn columns_at(alloc: Global, of: &Ty, path: &Path) -> Result<List<ColumnType
     Ok(columns)
 }
 
-// The element type of the bag at a path, if there is one.
+/// The element type of the bag at a path, if there is one.
 #[cycle(element)]
 #[tactic(auto, using(nq_model::proofs::Terms::type_of_record))]
-fn element_at<'a>(of: &'a Ty, steps: &[Step]) -> Option<&'a Ty>
+pub fn element_at<'a>(of: &'a Ty, steps: &[Step]) -> Option<&'a Ty>
     ensures { MatchOption result (element_at (type_tree of.now) steps.now ≡ int) (λ element. type_tree element.now ≡ element_at (type_tree of.now) steps.now) }
 {
     match (steps.split_first(), of) {

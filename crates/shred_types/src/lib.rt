@@ -5,6 +5,6 @@ mod columns;
 mod laws;
 mod walk;
 
-pub use columns::columns_at;
+pub use columns::{columns_at, element_at};
 pub use laws::path_laws;
 pub use walk::paths;

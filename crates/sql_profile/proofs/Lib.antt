@@ -27,3 +27,4 @@ pub mod Laid
 pub mod Spelled
 pub mod TokenHolds
 pub mod HeldTables
+pub mod Parts

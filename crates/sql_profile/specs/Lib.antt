@@ -13,3 +13,4 @@ pub mod NumberedKeys
 pub mod WritableNames
 pub mod Printed
 pub mod Spellable
+pub mod Parts

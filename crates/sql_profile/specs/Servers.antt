@@ -36,8 +36,8 @@ table_names tables = map (λ table. table.name) tables
 abbrev pub filled_of : Loaded → FilledTable
 filled_of table = record { name = table.name; columns = table.columns; rows = table.rows }
 
--- the tables of a schema, one to each shape, as a server is loaded with them
+-- the tables of a schema with these rows, one to each shape, as a server is loaded with them
 abbrev pub held_of : List TableShape → List (List (List Cell)) → List Loaded
 held_of [] tables = []
 held_of (shape ∷ shapes) [] = []
-held_of (shape ∷ shapes) (table ∷ tables) = record { name = shape.name; columns = shape.columns; rows = table } ∷ held_of shapes tables
+held_of (shape ∷ shapes) (rows ∷ tables) = record { name = shape.name; columns = shape.columns; rows = rows } ∷ held_of shapes tables

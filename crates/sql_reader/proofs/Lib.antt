@@ -1,4 +1,6 @@
 pub mod Cutting
 pub mod Depths
 pub mod Fronts
+pub mod Putting
+pub mod Reaching
 pub mod Standing

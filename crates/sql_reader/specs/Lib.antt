@@ -1,6 +1,12 @@
 pub mod Fronts
 pub mod Needs
+pub mod Parsing
 pub mod Parts
+pub mod Reading
 pub mod Runs
+pub mod Settling
+pub mod Stacks
+pub mod States
 pub mod Steps
 pub mod Symbols
+pub mod Views

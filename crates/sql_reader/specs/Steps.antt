@@ -82,18 +82,32 @@ joined (Not p) s = negation p s
 joined (Right l p op) s = binary l p op s
 joined f s = s
 
--- behind the whole query that no form stands round: the WITH query of a name, or the main query
-abbrev pub after_outer : Option Named → Base → Selects → Token → Option State
-after_outer (Some n) b q (Close c) = Some (On (add_with b n q) [] BehindWith)
-after_outer None b q (Semi p) = Some (On b [] (AtSemi q))
-after_outer None b q (End p) = Some (On b [] (Ready q))
-after_outer n b q t = None
+-- the WITH query of this name is whole; the main query ends with no `)`
+abbrev pub end_def : Option Named → Base → Selects → Option State
+end_def (Some n) b q = Some (On (add_with b n q) [] BehindWith)
+end_def None b q = None
+
+-- a `)` behind a whole query
+abbrev pub close_query : List Form → Base → Selects → Option State
+close_query [] b q = end_def b.name b q
+close_query (NotExists p ∷ k) b q = Some (On b k (Have (not_exists p q)))
+close_query (f ∷ k) b q = None
+
+-- the main query is whole, if that is what is read
+abbrev pub main_ends : Option Named → Base → Position → Option State
+main_ends None b at = Some (On b [] at)
+main_ends (Some n) b at = None
+
+abbrev pub end_main : List Form → Base → Position → Option State
+end_main [] b at = main_ends b.name b at
+end_main (f ∷ k) b at = None
 
 -- behind a whole query
 abbrev pub after_query : Base → List Form → Selects → Token → Option State
 after_query b k q (Key u Union) = Some (On b k (AtUnion q))
-after_query b (NotExists p ∷ k) q (Close c) = Some (On b k (Have (not_exists p q)))
-after_query b [] q t = after_outer b.name b q t
+after_query b k q (Close c) = close_query k b q
+after_query b k q (Semi p) = end_main k b (AtSemi q)
+after_query b k q (End p) = end_main k b (Ready q)
 after_query b k q t = None
 
 -- behind a whole order key
@@ -102,22 +116,40 @@ after_key b k ks g (Comma p) = Some (On b (OrderKey ks g ∷ k) Want)
 after_key b k ks g (Close p) = Some (On b (Item g ∷ k) (AtValue (numbering ks)))
 after_key b k ks g t = None
 
+-- a token that is no operator, behind the expression that a form stands round
+abbrev pub behind : Form → Base → List Form → Part → Token → Option State
+behind Paren b k s (Close q) = Some (On b k (Have (in_parens s)))
+behind (When p) b k s (Key h sql.Then) = Some (On b (Then p s ∷ k) Want)
+behind (Then p t) b k s (Key e sql.Else) = Some (On b (Else p t s ∷ k) Want)
+behind (Else p t y) b k s (Key z Stop) = Some (On b k (Have (choice p t y s)))
+behind (Item g) b k s (Key a As) = Some (On b (Item g ∷ k) (AtAs (plain s)))
+behind (OrderKey ks g) b k s t = after_key b k (add_key ks s) g t
+behind (Where g from) b k s t = after_query b k (add_select g from (keep_if_at s.tree) s.depth) t
+behind f b k s t = None
+
+abbrev pub behind_top : Base → List Form → Part → Token → Option State
+behind_top b [] s t = None
+behind_top b (f ∷ k) s t = behind f b k s t
+
 -- a token behind an expression that no form around takes for whole
 abbrev pub shift : Base → List Form → Part → Token → Option State
 shift b k s (Oper p op) = cond (leb (left_level op) s.level) (Some (On b (Right s p op ∷ k) Want)) None
-shift b (Paren ∷ k) s (Close q) = Some (On b k (Have (in_parens s)))
-shift b (When p ∷ k) s (Key h sql.Then) = Some (On b (Then p s ∷ k) Want)
-shift b (Then p t ∷ k) s (Key e sql.Else) = Some (On b (Else p t s ∷ k) Want)
-shift b (Else p t y ∷ k) s (Key z Stop) = Some (On b k (Have (choice p t y s)))
-shift b (Item g ∷ k) s (Key a As) = Some (On b (Item g ∷ k) (AtAs (plain s)))
-shift b (OrderKey ks g ∷ k) s t = after_key b k (add_key ks s) g t
-shift b (Where g from ∷ k) s t = after_query b k (add_select g from (keep_if_at s.tree) s.depth) t
-shift b k s t = None
+shift b k s t = behind_top b k s t
 
 -- a token behind a whole expression: forms that are open to the right end before it
 abbrev pub after : Base → List Form → Part → Token → Option State
 after b [] s t = shift b [] s t
 after b (f ∷ k) s t = cond (ends f t) (after b k (joined f s) t) (shift b (f ∷ k) s t)
+
+-- EXISTS behind NOT
+abbrev pub start_exists : List Form → Base → Option State
+start_exists (Not p ∷ k) b = Some (On b k (AtExists p))
+start_exists k b = None
+
+-- ROW_NUMBER behind SELECT or a comma
+abbrev pub start_row : List Form → Base → Option State
+start_row (Item g ∷ k) b = Some (On b (Item g ∷ k) AtRow)
+start_row k b = None
 
 -- a token where an expression begins
 abbrev pub start : Base → List Form → Token → Option State
@@ -127,8 +159,8 @@ start b k (Open p) = Some (On b (Paren ∷ k) Want)
 start b k (Oper p Sub) = Some (On b (Minus p ∷ k) Want)
 start b k (Key p Case) = Some (On b k (AtCase p))
 start b k (Key p sql.Not) = cond (leb (asks k) 3) (Some (On b (Not p ∷ k) Want)) None
-start b (Not p ∷ k) (Key e Exists) = Some (On b k (AtExists p))
-start b (Item g ∷ k) (Key r RowNumber) = Some (On b (Item g ∷ k) AtRow)
+start b k (Key e Exists) = start_exists k b
+start b k (Key r RowNumber) = start_row k b
 start b k t = None
 
 -- where a SELECT begins
@@ -198,8 +230,12 @@ in_over b k (Close q) = Some (On b k (AtValue (numbering no_keys)))
 in_over b k (Key o Order) = Some (On b k AtOrder)
 in_over b k t = None
 
+abbrev pub first_key : List Form → Base → Option State
+first_key (Item g ∷ k) b = Some (On b (OrderKey no_keys g ∷ k) Want)
+first_key k b = None
+
 abbrev pub at_order : Base → List Form → Token → Option State
-at_order b (Item g ∷ k) (Key y By) = Some (On b (OrderKey no_keys g ∷ k) Want)
+at_order b k (Key y By) = first_key k b
 at_order b k t = None
 
 -- behind what an item is
@@ -207,8 +243,13 @@ abbrev pub at_value : Value → Base → List Form → Token → Option State
 at_value v b k (Key a As) = Some (On b k (AtAs v))
 at_value v b k t = None
 
+-- the item is whole with its name
+abbrev pub named_item : List Form → Base → Value → Named → Option State
+named_item (Item g ∷ k) b v n = Some (On b k (HaveItems (add_item g v n) []))
+named_item k b v n = None
+
 abbrev pub at_as : Value → Base → List Form → Token → Option State
-at_as v b (Item g ∷ k) (Name p n) = Some (On b k (HaveItems (add_item g v (named p n)) []))
+at_as v b k (Name p n) = named_item k b v (named p n)
 at_as v b k t = None
 
 -- a comma behind items or sources: another of them

@@ -1,12 +1,30 @@
 //! Reads SQL texts: their tokens one after the other, with a stack of unfinished forms.
 #![tactic(auto)]
 
+mod begin;
+mod behind;
+mod between;
+mod extent;
 mod fault;
+mod fits;
+mod form;
 mod front;
+mod levels;
 mod lexer;
+mod lists;
 mod marks;
+mod moves;
+mod numbering;
+mod part;
+mod queries;
+mod read;
+mod selects;
+mod settle;
+mod sql;
+mod stack;
+mod state;
+mod step;
 mod token;
 
 pub use fault::SqlFault;
-pub use lexer::tokens;
-pub use token::{Mark, Symbol, Token, Whole};
+pub use sql::read_sql;

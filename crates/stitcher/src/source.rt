@@ -3,7 +3,7 @@ ghost use Rattle.std.specs.Prelude.{◌≡◌, ◌<◌, ◌-◌, [], All, IfOk, 
 ghost use Rattle.nq_model.specs.CellRefs.{cell_seen};
 ghost use Rattle.nq_model.specs.Types.{type_tree};
 ghost use Rattle.nq_model.specs.Values.{nested, base};
-ghost use Rattle.nq_ir.specs.Meanings.{no_cell};
+ghost use Rattle.nq_model.specs.NamedRows.{no_cell};
 ghost use Rattle.stitcher.specs.Schemes.{IsLeaf, IsPath, IsSlot, element_of};
 ghost use Rattle.stitcher.specs.Stitching.{rows_of, AreAnswersOf, AreFitting, AreInGroups, IsReady};
 ghost use Rattle.stitcher.specs.Walks.{row_of, past_leaf, past_slot};

@@ -2,7 +2,8 @@ use Rattle.std.proofs.Common.{◌∙◌, sym, arith}
 use Rattle.std.proofs.lemmas.List.Sums.{prefix_len-le-length}
 use Rattle.nq_model.specs.SchemaTokens.{is_word_byte, is_comment_byte}
 use Rattle.nq_model.specs.QueryTokens.{is_digit}
-use Rattle.query_syntax.proofs.Fronts.{not_equal, word_there, lengths, rest_there, word_utf8, digits_all}
+use Rattle.text_fronts.proofs.Fronts.{lengths, rest_there, digits_all}
+use Rattle.query_syntax.proofs.Fronts.{not_equal, word_there, word_utf8}
 use Rattle.query_syntax.proofs.front.front_of.Goals as goal
 
 pub overflow_add-result : goal.overflow_add-result
@@ -35,13 +36,13 @@ pub word_front-requires-clause-utf8 : goal.word_front-requires-clause-utf8
 word_front-requires-clause-utf8 c =
     word_utf8 c.args.first c.args.rest.now c.args.bytes.now c.word_len.result c.requires.parts (sym c.begins_word.ensures ∙ c.if-begins_word.true) c.word_len.ensures
 
-pub overflow_add-number_len : goal.overflow_add-number_len
-overflow_add-number_len c =
+pub overflow_add-digits_len : goal.overflow_add-digits_len
+overflow_add-digits_len c =
     let l = lengths c.args.text.now c.args.bytes.now c.args.rest.now c.args.place c.args.first c.requires.there c.requires.parts in
     let short = l.1 in
     let few = prefix_len-le-length is_digit c.args.rest.now in
     let fits = c.requires.fits in
-    let size = c.number_len.ensures in
+    let size = c.digits_len.ensures in
     omega (arith, short, few, fits, size)
 
 pub number_front-requires-clause-within :
@@ -50,13 +51,13 @@ number_front-requires-clause-within c =
     let l = lengths c.args.text.now c.args.bytes.now c.args.rest.now c.args.place c.args.first c.requires.there c.requires.parts in
     let long = l.0 in
     let few = prefix_len-le-length is_digit c.args.rest.now in
-    let size = c.number_len.ensures in
+    let size = c.digits_len.ensures in
     omega (arith, long, few, size)
 
 pub number_front-requires-clause-digits :
     goal.number_front-requires-clause-digits
 number_front-requires-clause-digits c =
-    digits_all c.args.first c.args.rest.now c.args.bytes.now c.number_len.result c.requires.parts (sym c.is_digit.ensures ∙ c.if-is_digit.true) c.number_len.ensures
+    digits_all c.args.first c.args.rest.now c.args.bytes.now c.digits_len.result c.requires.parts (sym c.is_digit.ensures ∙ c.if-is_digit.true) c.digits_len.ensures
 
 pub literal_front-requires-clause-rest : goal.literal_front-requires-clause-rest
 literal_front-requires-clause-rest c =

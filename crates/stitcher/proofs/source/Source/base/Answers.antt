@@ -1,5 +1,5 @@
 use Rattle.std.proofs.Common.{◌∙◌, ap}
-use Rattle.nq_ir.specs.Meanings.{no_cell}
+use Rattle.nq_model.specs.NamedRows.{no_cell}
 use Rattle.nq_model.specs.Values.{base}
 use Rattle.nq_model.specs.declared.table.Cell.TheVariants as cell
 use Rattle.std.proofs.Common.{pos}

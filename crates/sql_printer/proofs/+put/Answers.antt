@@ -1,0 +1,27 @@
+use Rattle.std.proofs.Common.{[], ◌++◌, codes, string_bytes, sym, ap, ◌∙◌}
+use Rattle.sql_profile.specs.Parts.{selects_tree}
+use Rattle.sql_profile.specs.Printed.{printed_query}
+use Rattle.sql_profile.proofs.Parts.{query_is}
+use Rattle.sql_printer.proofs.Items.{item_text, items_joined, key_text, keys_joined, parts_end, select_text, selects_joined}
+use Rattle.sql_printer.proofs.Texts.{three_pieces}
+use Rattle.sql_printer.proofs.+put.Goals as goal
+
+pub expr::put_keys-returns : goal.expr::put_keys-returns
+expr::put_keys-returns t c =
+    parts_end key_text (codes "ORDER BY ") (codes ", ") c.loop-place.place c.args.keys.now (string_bytes c.loop-place.text) _ c.loop-place-test.false c.loop-place.invariant
+    ∙ ap (λ l. string_bytes c.args.text.now ++ l) (keys_joined c.args.keys.now)
+
+pub query::put_items-returns : goal.query::put_items-returns
+query::put_items-returns t c =
+    parts_end item_text [] (codes ", ") c.loop-place.place c.args.items.now (string_bytes c.loop-place.text) _ c.loop-place-test.false c.loop-place.invariant
+    ∙ ap (λ l. string_bytes c.args.text.now ++ l) (items_joined c.args.items.now)
+
+pub query::put_number-returns : goal.query::put_number-returns
+query::put_number-returns t c = three_pieces _ _ _ _ _ _ _ c.in_ok-push_str.ensures.bytes c.in_ok-put_keys.ensures c.in_ok-push_str-2.ensures.bytes
+
+pub query::put_query-returns : goal.query::put_query-returns
+query::put_query-returns t c =
+    let selects = c.as_slice-select-items.result.now in
+    parts_end select_text [] (codes " UNION ALL ") c.loop-place.place selects (string_bytes c.loop-place.text) _ c.loop-place-test.false c.loop-place.invariant
+    ∙ ap (λ l. string_bytes c.args.text.now ++ l) (selects_joined selects)
+    ∙ ap (λ q. string_bytes c.args.text.now ++ printed_query q) (ap selects_tree c.as_slice-select-items.ensures ∙ sym (query_is c.args.query.now))

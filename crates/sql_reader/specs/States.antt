@@ -1,0 +1,52 @@
+-- The states of the reader as what it keeps.
+use Rattle.std.specs.Prelude.{◌≡◌, ⊤, Option, Some, None, Result, Ok, Err}
+use Rattle.nq_model.specs.declared.memory.Memory.{Memory}
+use Rattle.sql_reader.specs.Stacks.{forms}
+use Rattle.sql_reader.specs.Steps as reader
+use Rattle.sql_reader.specs.Views.{base_view, begun_view, name_view, part_view, selects_view, value_view}
+use Rattle.sql_reader.specs.declared.state.Position.{Position}
+use Rattle.sql_reader.specs.declared.state.Position.TheVariants as at
+use Rattle.sql_reader.specs.declared.state.State.{State}
+
+abbrev pub position_view : Position → reader.Position
+position_view at.AtStart = reader.AtStart
+position_view at.BehindWith = reader.BehindWith
+position_view at.AtDef = reader.AtDef
+position_view (at.AtDefName n) = reader.AtDefName (name_view n)
+position_view (at.AtDefAs n) = reader.AtDefAs (name_view n)
+position_view (at.WantSelect q) = reader.WantSelect (selects_view q)
+position_view (at.AtUnion q) = reader.AtUnion (selects_view q)
+position_view at.Want = reader.Want
+position_view (at.AtName n) = reader.AtName (name_view n)
+position_view (at.AtDot n) = reader.AtDot (name_view n)
+position_view (at.AtCase p) = reader.AtCase p
+position_view (at.AtExists p) = reader.AtExists p
+position_view (at.Have s) = reader.Have (part_view s)
+position_view at.AtRow = reader.AtRow
+position_view at.AtRowOpen = reader.AtRowOpen
+position_view at.AtRowClose = reader.AtRowClose
+position_view at.AtOver = reader.AtOver
+position_view at.InOver = reader.InOver
+position_view at.AtOrder = reader.AtOrder
+position_view (at.AtValue v) = reader.AtValue (value_view v)
+position_view (at.AtAs v) = reader.AtAs (value_view v)
+position_view (at.HaveItems g from) = reader.HaveItems (begun_view g) from
+position_view (at.AtSource g from) = reader.AtSource (begun_view g) from
+position_view (at.AtSourceName g from n) = reader.AtSourceName (begun_view g) from (name_view n)
+position_view (at.AtSourceAs g from n) = reader.AtSourceAs (begun_view g) from (name_view n)
+position_view (at.AtSemi q) = reader.AtSemi (selects_view q)
+position_view (at.Ready q) = reader.Ready (selects_view q)
+
+abbrev pub state_view : State → reader.State
+state_view s = reader.On (base_view s.base) (forms s.stack.levels) (position_view s.at)
+
+-- the answer of a step: the state behind the token, or none where it may not stand; want of memory is free
+abbrev pub Steps : Result (Option State) Memory → Option reader.State → Type 0
+Steps (Ok (Some s)) o = o ≡ Some (state_view s)
+Steps (Ok None) o = o ≡ None
+Steps (Err e) o = ⊤
+
+-- the same of a step that takes no memory
+abbrev pub Stays : Option State → Option reader.State → Type 0
+Stays (Some s) o = o ≡ Some (state_view s)
+Stays None o = o ≡ None

@@ -1,0 +1,275 @@
+// Answers, each with the canonical text of the value that they are stitched to.
+use crate::given::Given::{Int, Text};
+use crate::given::{Given, Listed, Shape, answers_of, type_of};
+use canon::{sort_deep, write};
+use nq_model::{Cell, List, Memory, Ty, Value};
+use rows::Rows;
+use sql_profile::Answer;
+use std::alloc::Global;
+use std::test::Fail;
+use stitch_plain::are_answers;
+use stitcher::{FlatNumbers, stitch};
+
+// The base columns of a row, or its bags, follow a tag and a number.
+struct Case {
+    element: &'static Shape,
+    answers: &'static [Listed],
+    text: &'static str,
+}
+
+const PEOPLE: Shape = Shape::Rec(&[
+    ("name", Shape::Text),
+    ("tasks", Shape::Bag(&Shape::Text)),
+]);
+
+const ORGANISATION: Shape = Shape::Rec(&[
+    ("department", Shape::Text),
+    ("employees", Shape::Bag(&PEOPLE)),
+]);
+
+const NAMED: Shape = Shape::Rec(&[("b", Shape::Bag(&Shape::Text)), ("n", Shape::Text)]);
+
+const STAFF: Shape = Shape::Rec(&[("d", Shape::Text), ("es", Shape::Bag(&Shape::Text))]);
+
+const BAGS: Shape = Shape::Bag(&Shape::Bag(&Shape::Int));
+
+const FOUR: &str = "{(department = 'Product', employees = {(name = 'Alex', tasks = {'build'}), (name = 'Bert', tasks = {'build'})}), (department = 'Quality', employees = {}), (department = 'Research', employees = {}), (department = 'Sales', employees = {(name = 'Erik', tasks = {'call', 'enthuse'})})}\n";
+
+const TWICE: &str = "{(d = 'Product', es = {'Alex', 'Bert'}), (d = 'Product', es = {'Alex', 'Bert'})}\n";
+
+const TWO_TASKS: &str = "{(department = 'Product', employees = {(name = 'Alex', tasks = {'build'}), (name = 'Bert', tasks = {'call'})}), (department = 'Product', employees = {(name = 'Alex', tasks = {'build'}), (name = 'Bert', tasks = {'call'})})}\n";
+
+const CASES: [Case; 12] = [
+    Case {
+        element: &ORGANISATION,
+        answers: &[
+            &[
+                &[Int(0), Int(1), Text("Product"), Int(1), Int(1)],
+                &[Int(0), Int(1), Text("Quality"), Int(1), Int(2)],
+                &[Int(0), Int(1), Text("Research"), Int(1), Int(3)],
+                &[Int(0), Int(1), Text("Sales"), Int(1), Int(4)],
+            ],
+            &[
+                &[Int(1), Int(1), Text("Alex"), Int(2), Int(1)],
+                &[Int(1), Int(1), Text("Bert"), Int(2), Int(2)],
+                &[Int(1), Int(4), Text("Erik"), Int(2), Int(3)],
+            ],
+            &[
+                &[Int(2), Int(1), Text("build")],
+                &[Int(2), Int(2), Text("build")],
+                &[Int(2), Int(3), Text("call")],
+                &[Int(2), Int(3), Text("enthuse")],
+            ],
+        ],
+        text: FOUR,
+    },
+    // The same in another order and with other numbers.
+    Case {
+        element: &ORGANISATION,
+        answers: &[
+            &[
+                &[Int(0), Int(1), Text("Sales"), Int(1), Int(1)],
+                &[Int(0), Int(1), Text("Research"), Int(1), Int(2)],
+                &[Int(0), Int(1), Text("Quality"), Int(1), Int(3)],
+                &[Int(0), Int(1), Text("Product"), Int(1), Int(4)],
+            ],
+            &[
+                &[Int(1), Int(4), Text("Bert"), Int(2), Int(1)],
+                &[Int(1), Int(1), Text("Erik"), Int(2), Int(2)],
+                &[Int(1), Int(4), Text("Alex"), Int(2), Int(3)],
+            ],
+            &[
+                &[Int(2), Int(2), Text("enthuse")],
+                &[Int(2), Int(3), Text("build")],
+                &[Int(2), Int(2), Text("call")],
+                &[Int(2), Int(1), Text("build")],
+            ],
+        ],
+        text: FOUR,
+    },
+    // Parents with one number, told apart by their tags.
+    Case {
+        element: &NAMED,
+        answers: &[
+            &[
+                &[Int(0), Int(1), Int(1), Int(1), Text("a")],
+                &[Int(0), Int(1), Int(3), Int(1), Text("b")],
+            ],
+            &[&[Int(1), Int(1), Text("Erik")]],
+        ],
+        text: "{(b = {}, n = 'b'), (b = {'Erik'}, n = 'a')}\n",
+    },
+    Case {
+        element: &NAMED,
+        answers: &[
+            &[
+                &[Int(0), Int(1), Int(3), Int(2), Text("b")],
+                &[Int(0), Int(1), Int(1), Int(2), Text("a")],
+            ],
+            &[&[Int(1), Int(2), Text("Erik")]],
+        ],
+        text: "{(b = {}, n = 'b'), (b = {'Erik'}, n = 'a')}\n",
+    },
+    // Ties, numbered in two ways.
+    Case {
+        element: &STAFF,
+        answers: &[
+            &[
+                &[Int(0), Int(1), Text("Product"), Int(1), Int(1)],
+                &[Int(0), Int(1), Text("Product"), Int(1), Int(2)],
+            ],
+            &[
+                &[Int(1), Int(1), Text("Alex")],
+                &[Int(1), Int(2), Text("Alex")],
+                &[Int(1), Int(1), Text("Bert")],
+                &[Int(1), Int(2), Text("Bert")],
+            ],
+        ],
+        text: TWICE,
+    },
+    Case {
+        element: &STAFF,
+        answers: &[
+            &[
+                &[Int(0), Int(1), Text("Product"), Int(1), Int(2)],
+                &[Int(0), Int(1), Text("Product"), Int(1), Int(1)],
+            ],
+            &[
+                &[Int(1), Int(2), Text("Bert")],
+                &[Int(1), Int(2), Text("Alex")],
+                &[Int(1), Int(1), Text("Bert")],
+                &[Int(1), Int(1), Text("Alex")],
+            ],
+        ],
+        text: TWICE,
+    },
+    Case {
+        element: &ORGANISATION,
+        answers: &[
+            &[
+                &[Int(0), Int(1), Text("Product"), Int(1), Int(1)],
+                &[Int(0), Int(1), Text("Product"), Int(1), Int(2)],
+            ],
+            &[
+                &[Int(1), Int(1), Text("Alex"), Int(2), Int(1)],
+                &[Int(1), Int(2), Text("Alex"), Int(2), Int(2)],
+                &[Int(1), Int(1), Text("Bert"), Int(2), Int(3)],
+                &[Int(1), Int(2), Text("Bert"), Int(2), Int(4)],
+            ],
+            &[
+                &[Int(2), Int(1), Text("build")],
+                &[Int(2), Int(2), Text("build")],
+                &[Int(2), Int(3), Text("call")],
+                &[Int(2), Int(4), Text("call")],
+            ],
+        ],
+        text: TWO_TASKS,
+    },
+    Case {
+        element: &ORGANISATION,
+        answers: &[
+            &[
+                &[Int(0), Int(1), Text("Product"), Int(1), Int(2)],
+                &[Int(0), Int(1), Text("Product"), Int(1), Int(1)],
+            ],
+            &[
+                &[Int(1), Int(2), Text("Bert"), Int(2), Int(4)],
+                &[Int(1), Int(1), Text("Bert"), Int(2), Int(3)],
+                &[Int(1), Int(2), Text("Alex"), Int(2), Int(1)],
+                &[Int(1), Int(1), Text("Alex"), Int(2), Int(2)],
+            ],
+            &[
+                &[Int(2), Int(4), Text("call")],
+                &[Int(2), Int(3), Text("call")],
+                &[Int(2), Int(2), Text("build")],
+                &[Int(2), Int(1), Text("build")],
+            ],
+        ],
+        text: TWO_TASKS,
+    },
+    // Parents that share an index, and a row under an index that none has.
+    Case {
+        element: &STAFF,
+        answers: &[
+            &[
+                &[Int(0), Int(1), Text("P"), Int(1), Int(1)],
+                &[Int(0), Int(1), Text("Q"), Int(1), Int(1)],
+            ],
+            &[
+                &[Int(1), Int(1), Text("Alex")],
+                &[Int(1), Int(3), Text("Bert")],
+            ],
+        ],
+        text: "{(d = 'P', es = {'Alex'}), (d = 'Q', es = {'Alex'})}\n",
+    },
+    // A row that does not stand in the whole value.
+    Case {
+        element: &Shape::Rec(&[("name", Shape::Text)]),
+        answers: &[&[
+            &[Int(0), Int(1), Text("Moon")],
+            &[Int(9), Int(9), Text("Sun")],
+        ]],
+        text: "{(name = 'Moon')}\n",
+    },
+    Case {
+        element: &Shape::Rec(&[]),
+        answers: &[&[
+            &[Int(0), Int(1)],
+            &[Int(0), Int(1)],
+            &[Int(1), Int(1)],
+            &[Int(0), Int(1)],
+        ]],
+        text: "{(), (), ()}\n",
+    },
+    Case {
+        element: &BAGS,
+        answers: &[
+            &[
+                &[Int(0), Int(1), Int(1), Int(2)],
+                &[Int(0), Int(1), Int(1), Int(1)],
+            ],
+            &[
+                &[Int(1), Int(1), Int(2), Int(1)],
+                &[Int(1), Int(1), Int(2), Int(2)],
+                &[Int(1), Int(2), Int(2), Int(3)],
+            ],
+            &[
+                &[Int(2), Int(3), Int(8)],
+                &[Int(2), Int(1), Int(7)],
+                &[Int(2), Int(3), Int(8)],
+            ],
+        ],
+        text: "{{{}, {7}}, {{8, 8}}}\n",
+    },
+];
+
+// The value that the answers are stitched to, if they are answers of the type.
+fn stitched(alloc: Global, of: &Ty, answers: &List<Answer>) -> Result<Option<Value>, Memory> {
+    let scheme = FlatNumbers::new(alloc, of)?;
+    if !are_answers(alloc, &scheme, of, answers.as_slice())? {
+        return Ok(None);
+    }
+    match of {
+        Ty::Bag(_) => Ok(Some(stitch(alloc, &scheme, of, answers)?)),
+        _ => Ok(None),
+    }
+}
+
+fn text_of(alloc: Global, value: Option<Value>) -> Result<List<u8>, Memory> {
+    match value {
+        Some(value) => write(alloc, &sort_deep(alloc, value)?),
+        None => Ok(List::new(alloc)),
+    }
+}
+
+#[test]
+fn gives_the_nested_value(rt: HostRuntime) -> Result<(), Fail> {
+    let alloc = rt.alloc();
+    for case in &CASES {
+        let of = Ty::Bag(nq_model::boxed(alloc, type_of(alloc, case.element)?)?);
+        let answers = answers_of(alloc, case.answers)?;
+        let text = text_of(alloc, stitched(alloc, &of, &answers)?)?;
+        assert!(rt; text.as_slice() == case.text.as_bytes());
+    }
+    Ok(())
+}
