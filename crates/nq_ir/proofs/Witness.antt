@@ -137,7 +137,7 @@ backwards = record {
 }
 
 -- the departments, each with the index of its employees
-pub department_rows : List FlatRow
+unfoldable pub department_rows : List FlatRow
 department_rows =
     record { outer = (0, 1); leaf_cells = product ∷ []; inners = (1, 2) ∷ [] } ∷ record { outer = (0, 1); leaf_cells = product ∷ []; inners = (1, 1) ∷ [] } ∷ []
 
@@ -145,7 +145,7 @@ abbrev name_of : ℕ → List ℕ → FlatRow
 name_of n name = record { outer = (1, n); leaf_cells = word name ∷ []; inners = [] }
 
 -- their employees, each below both
-pub employee_rows : List FlatRow
+unfoldable pub employee_rows : List FlatRow
 employee_rows = name_of 1 (codes "Alex") ∷ name_of 1 (codes "Bert") ∷ name_of 2 (codes "Alex") ∷ name_of 2 (codes "Bert") ∷ []
 
 departments_given : FormGives (column_names org) held (insert_lets (shredded with_names [])) department_rows

@@ -1,5 +1,5 @@
 -- Rows that stand in order by rank are put in order run by run.
-use Rattle.std.proofs.Common.{◌≡◌, ℕ, ◌+◌, ◌-◌, ◌<◌, ◌≤◌, Bool, false, List, ◌∷◌, ◌++◌, map, take, drop, length, get_or, slice_range, refl, sym, ap, ap₂, ◌∙◌, subst, inl, inr, arith, IsPermutation, length-take, length-drop, true≢false}
+use Rattle.std.proofs.Common.{◌≡◌, ℕ, ◌+◌, ◌-◌, ◌<◌, ◌≤◌, Bool, false, List, ◌∷◌, ◌++◌, map, take, drop, length, get_or, refl, sym, ap, ap₂, ◌∙◌, subst, inl, inr, arith, IsPermutation, length-take, length-drop, true≢false}
 use borrow.Rule.Slice.PartMut.{mid_of, post_of, put_mid, same_len_mid}
 use Rattle.std.proofs.lemmas.Bool.{cases_lt}
 use Rattle.std.proofs.lemmas.List.{length-map, get_or-map, take-map, drop-map, map-append, get_or_append_left, get_or-append_right, get_or-take, get_or-drop, get_or_default, length-take-le, drop-drop}

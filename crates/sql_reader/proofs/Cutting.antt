@@ -1,10 +1,10 @@
 -- Tokens are cut off one by one: each piece has a byte, and what is left is a text of its own.
-use Rattle.std.proofs.Common.{◌≡◌, ℕ, zero, suc, ◌+◌, ◌≤◌, Bool, true, false, ◌&&◌, ◌==◌, nat_le, if◌then◌else◌, List, [], ◌∷◌, ◌++◌, length, take, drop, map, Option, Some, None, Result, Ok, Err, refl, ap, sym, ◌∙◌, subst, arith, append_assoc}
+use Rattle.std.proofs.Common.{◌≡◌, ℕ, zero, suc, ◌+◌, ◌≤◌, Bool, true, false, ◌&&◌, ◌==◌, if◌then◌else◌, List, [], ◌∷◌, ◌++◌, length, take, drop, map, Option, Some, None, Result, Ok, Err, refl, ap, sym, ◌∙◌, subst, arith, append_assoc}
 use Rattle.std.specs.List.{AllByRecursion as Each, prefix_len}
 use Rattle.std.proofs.lemmas.List.{length-drop, length-take}
 use Rattle.std.proofs.lemmas.List.Sums.{prefix_len-le-length}
-use Rattle.nq_model.specs.SchemaTokens.{is_white, begins_word, is_word_byte, is_comment_byte}
-use Rattle.sql_profile.specs.Tokens.{First, Token, keywords, capital, same_bytes, begins_with, symbols, symbol_front, word_front, number_front, name_front, is_name_byte, literal_len, literal_front, is_digit, is_quote, is_order_mark, number_from, Value, Number, Name, Literal, Stuck, NoToken, TooLarge, Front, Gap, Takes, Stops, front, with_token, go_on, tokens_from}
+use Rattle.nq_model.specs.SchemaTokens.{is_word_byte, is_comment_byte}
+use Rattle.sql_profile.specs.Tokens.{First, Token, keywords, capital, same_bytes, begins_with, symbols, symbol_front, word_front, number_front, name_front, is_name_byte, literal_len, literal_front, is_digit, Stuck, NoToken, TooLarge, Front, Gap, Takes, Stops, front, with_token, go_on, tokens_from}
 use Rattle.text_fronts.proofs.Literals.{literal_within}
 use Rattle.sql_reader.proofs.Fronts.{same_literal}
 

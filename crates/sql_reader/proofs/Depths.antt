@@ -1,9 +1,9 @@
 -- The depth of the least text of the machine is what the reader's numbers say, and so both give the same answers.
 use Rattle.std.proofs.Common.{◌≡◌, ℕ, suc, ◌+◌, max, Bool, true, false, cond, leb, List, [], ◌∷◌, refl, sym, ◌∙◌, ap, arith, Option, Some, None, option_map}
 use Rattle.nq_model.specs.Machines.{Outcome, Reached, Faulty}
-use Rattle.nq_model.specs.OpenLists.{Unexpected, Deep}
+use Rattle.nq_model.specs.OpenLists.{Deep}
 use Rattle.sql_profile.specs.Tokens.{Token}
-use Rattle.sql_profile.specs.Grammar.{OfSource, FromSyntax, NoFrom, HasFrom, ExprSyntax, OfColumn, OfParens, OfMinus, OfNot, OfNotExists, OfCase, OfBinary, QuerySyntax, MoreSelects, SelectSyntax, OfSelect, NoWhere, HasWhere, ItemsSyntax, ItemSyntax, OfItem, ValueSyntax, Plain, OfRowNumber, Numbering, NoKeys, HasKeys, KeyListSyntax, OneKey, WithSyntax, OfWith, NoWith, HasWith, NoSemi, OfText, depth, selects_depth, choice_depth, items_depth, item_depth, held_depth, key_list_depth, defs_depth, def_depth, text_depth}
+use Rattle.sql_profile.specs.Grammar.{OfSource, FromSyntax, NoFrom, HasFrom, ExprSyntax, OfColumn, OfParens, OfMinus, OfNot, OfNotExists, OfCase, OfBinary, QuerySyntax, MoreSelects, SelectSyntax, OfSelect, NoWhere, HasWhere, ItemsSyntax, ItemSyntax, OfItem, Plain, OfRowNumber, Numbering, NoKeys, HasKeys, OneKey, WithSyntax, OfWith, NoWith, HasWith, NoSemi, OfText, depth, selects_depth, choice_depth, items_depth, item_depth, held_depth, key_list_depth, defs_depth, def_depth, text_depth}
 use Rattle.sql_profile.specs.Machine as machine
 use Rattle.sql_profile.specs.Machine.{Before, Fresh, Behind, ItemHead, AtSelect, AtComma, KeyHead, AtBy, KeyComma, DefHead, AtWith, DefComma, put_select, put_item, put_key, put_source, put_def, Around, InParen, InNeg, InNot, InWhen, InThen, InElse, InRight, InItem, InKey, InWhere, Outside, InMain, InDef, InExists, one, named, numbering, some_name, some_query, some_select, close, close_query, close_items, close_held, close_want}
 use Rattle.sql_reader.specs.Parts.{Base}
@@ -11,8 +11,8 @@ use Rattle.sql_reader.specs.Steps as reader
 use Rattle.sql_reader.specs.Steps.{Form, State}
 use Rattle.sql_reader.specs.Needs.{needs, height, base_needs, least_depth, fits}
 use Rattle.sql_reader.specs.Runs.{turn, run}
-use Rattle.sql_reader.proofs.Standing.{before, begun_of, head_depth, def_depths, key_head, whole_items, from_list, base_of, outer_base, forms_of, outer_forms, stand, steps}
-use Rattle.sql_profile.proofs.GrammarDepths.{depth_pos, selects_pos}
+use Rattle.sql_reader.proofs.Standing.{before, begun_of, head_depth, def_depths, key_head, base_of, outer_base, forms_of, outer_forms, stand, steps}
+use Rattle.sql_profile.proofs.GrammarDepths.{depth_pos}
 
 -- how deep a text is at least in which something of this depth stands inside the forms
 abbrev over : Base → List Form → ℕ → ℕ

@@ -1,5 +1,5 @@
 -- Numbers, literals and names as the shared lexer reads them, keywords letter by letter, and tables of marks.
-use Rattle.std.proofs.Common.{◌≡◌, ℕ, zero, suc, ◌+◌, ◌-◌, ◌*◌, ◌≤◌, ◌<◌, ◌==◌, Bor, Bool, true, false, cond, nat_le, ◌&&◌, one-add, if◌then◌else◌, List, [], ◌∷◌, length, take, drop, get_or, map, codes, ap₂, Option, Some, None, option_map, refl, ap, sym, ◌∙◌, subst, arith}
+use Rattle.std.proofs.Common.{◌≡◌, ℕ, suc, ◌+◌, ◌-◌, ◌*◌, ◌≤◌, ◌<◌, ◌==◌, Bor, Bool, true, false, cond, nat_le, ◌&&◌, if◌then◌else◌, List, [], ◌∷◌, length, take, drop, get_or, map, codes, ap₂, Some, option_map, refl, ap, sym, ◌∙◌, arith}
 use Rattle.std.specs.List.{prefix_len}
 use Rattle.std.proofs.Math.Seq.{drop-cons}
 use Rattle.std.proofs.lemmas.Bool.Decides.{nat_tests}

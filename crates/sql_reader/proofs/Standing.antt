@@ -1,5 +1,5 @@
 -- A state of the machine as what the reader keeps of it. Both take the same steps, and fit the same depths.
-use Rattle.std.proofs.Common.{◌≡◌, ℕ, suc, ◌+◌, max, Bool, true, false, cond, leb, List, [], ◌∷◌, ◌++◌, refl, sym, ◌∙◌, ap, ap₂, arith, append_assoc, append-nil, Option, Some, None, option_map}
+use Rattle.std.proofs.Common.{◌≡◌, ℕ, suc, max, Bool, true, false, cond, leb, List, [], ◌∷◌, ◌++◌, refl, sym, ◌∙◌, ap, ap₂, arith, append_assoc, append-nil, Option, Some, None, option_map}
 use Rattle.nq_model.specs.declared.term.Binary.TheVariants.{Sub}
 use Rattle.sql_profile.specs.declared.tree.Source.{Source}
 use Rattle.sql_profile.specs.Tokens.{Token, Value as Constant, Name, Key, Oper, Open, Close, Comma, Dot, Semi, End, As, Union, All, Select, From, RowNumber, Over, Order, By, Exists, Case, Stop}
@@ -8,7 +8,7 @@ use Rattle.sql_profile.specs.Grammar as grammar
 use Rattle.sql_profile.specs.Grammar.{SourceSyntax, OfSource, SourcesSyntax, OneSource, MoreSources, FromSyntax, NoFrom, HasFrom, ExprSyntax, OfConstant, OfColumn, OfParens, OfMinus, OfNot, OfNotExists, OfCase, OfBinary, QuerySyntax, OneSelect, MoreSelects, SelectSyntax, OfSelect, KeepSyntax, NoWhere, HasWhere, ItemsSyntax, OneItem, MoreItems, ItemSyntax, OfItem, ValueSyntax, Plain, Numbering, NoKeys, HasKeys, KeyListSyntax, OneKey, MoreKeys, WithSyntax, OfWith, WithListSyntax, OneDef, MoreDefs, WithsSyntax, NoWith, HasWith, TextSyntax, OfText, depth, selects_depth, choice_depth, items_depth, held_depth, key_list_depth, withs_depth, defs_depth, text_depth, expr_of, selects_of, select_of, value_of, key_list_of, source_of, sources_of, with_of, with_list_of, first_place, level, left_level}
 use Rattle.sql_profile.specs.Machine as machine
 use Rattle.sql_profile.specs.Machine.{Before, Fresh, Behind, ItemHead, AtSelect, AtComma, KeyHead, AtBy, KeyComma, SourceHead, AtFrom, SourceComma, DefHead, AtWith, DefComma, put_select, put_item, put_key, put_source, put_def, Around, InParen, InNeg, InNot, InWhen, InThen, InElse, InRight, InItem, InKey, InWhere, Outside, InMain, InDef, InExists, binds, level_of, asks}
-use Rattle.sql_profile.specs.Trees.{PlacedSelect, select_at, not_exists_at, number_at, no_select_at, then_select_at, PlacedQuery, query_of, PlacedItems, PlacedItem, no_item_at, then_item_at, item_at, items_of, PlacedExpr, PlacedExprs, none_at, then_at, exprs_of, PlacedWith}
+use Rattle.sql_profile.specs.Trees.{PlacedSelect, select_at, not_exists_at, number_at, no_select_at, query_of, PlacedItem, no_item_at, item_at, items_of, PlacedExpr, none_at, exprs_of, PlacedWith}
 use Rattle.sql_reader.specs.Parts as kept
 use Rattle.sql_reader.specs.Parts.{Named, named, Part, Selects, Keys, Begun, Value, Base, no_selects, no_keys}
 use Rattle.sql_reader.specs.Steps.{Form, Position, State, On}

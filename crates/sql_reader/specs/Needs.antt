@@ -1,7 +1,7 @@
 -- How deep a text is at least that begins with what was read, by numbers that are kept with the unfinished forms.
 use Rattle.std.specs.Prelude.{ℕ, suc, ◌+◌, max, Bool, leb, List, [], ◌∷◌, Option, Some, None}
-use Rattle.sql_reader.specs.Parts.{Part, Begun, Base, Named}
-use Rattle.sql_reader.specs.Steps.{Form, Paren, Minus, Not, When, Then, Else, Right, Item, OrderKey, Where, NotExists, Position, AtStart, BehindWith, AtDef, AtDefName, AtDefAs, WantSelect, AtUnion, Want, AtName, AtDot, AtCase, AtExists, Have, AtRow, AtRowOpen, AtRowClose, AtOver, InOver, AtOrder, AtValue, AtAs, HaveItems, AtSource, AtSourceName, AtSourceAs, AtSemi, Ready, State, On}
+use Rattle.sql_reader.specs.Parts.{Begun, Base, Named}
+use Rattle.sql_reader.specs.Steps.{Form, Then, Else, Right, Item, OrderKey, Where, NotExists, Position, WantSelect, AtUnion, Want, AtCase, AtExists, Have, AtRow, AtRowOpen, AtRowClose, AtOver, InOver, AtValue, AtAs, HaveItems, AtSource, AtSourceName, AtSourceAs, AtSemi, Ready, State, On}
 
 -- how many levels a form is: the query of NOT EXISTS is one of its own
 abbrev pub size : Form → ℕ

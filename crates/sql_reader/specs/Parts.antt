@@ -1,7 +1,7 @@
 -- What the reader keeps of what it read: trees, with how strongly they bind and how deep they are.
 --
 -- It is less than a syntax tree, which keeps every token.
-use Rattle.std.specs.Prelude.{ℕ, suc, max, List, [], ◌∷◌, ◌++◌, pos, Option, Some, None}
+use Rattle.std.specs.Prelude.{ℕ, suc, max, List, [], ◌∷◌, ◌++◌, Option, None}
 use Rattle.nq_model.specs.declared.term.Binary.{Binary}
 use Rattle.nq_model.specs.declared.term.Unary.TheVariants as unary
 use Rattle.sql_profile.specs.declared.tree.Source.{Source}

@@ -1,5 +1,5 @@
 -- What the reader holds as what it keeps.
-use Rattle.std.specs.Prelude.{ℕ, List, map, Option, Some, None}
+use Rattle.std.specs.Prelude.{map, Option}
 use Rattle.std.specs.Option.{option_map}
 use Rattle.sql_profile.specs.declared.tree.Expr.{Expr}
 use Rattle.sql_profile.specs.Trees.{PlacedKeep, keep_of, placed_expr, placed_value, placed_item, placed_select, placed_with}

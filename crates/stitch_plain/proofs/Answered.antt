@@ -1,15 +1,34 @@
 -- Answers that fit, path by path.
-use Rattle.std.proofs.Common.{◌≡◌, ℕ, suc, ◌+◌, ◌<◌, ◌≤◌, List, [], ◌∷◌, sym, ap, ◌∙◌, subst, All, length, get_or, arith, ⊎_elim, eq-or-lt_of_le}
+use Rattle.std.proofs.Common.{◌≡◌, ℕ, suc, ◌+◌, ◌<◌, ◌≤◌, List, [], ◌∷◌, sym, ap, ◌∙◌, subst, All, length, get_or, arith, ⊎_elim, eq-or-lt_of_le, false, Result, Ok, Err, OnOk}
+use Rattle.std.specs.Result.{is_err}
 use Rattle.std.proofs.lemmas.List.{length-map, get_or_past}
 use Rattle.std.proofs.lemmas.Bool.{cases_lt}
 use Rattle.nq_model.specs.Cells.{RowFits}
 use Rattle.nq_model.specs.Types.{TypeTree}
+use Rattle.nq_ir.proofs.Paths.{paths_count}
 use Rattle.nq_ir.specs.Parts.{bags, element_types}
+use Rattle.nq_ir.specs.Paths.{paths}
+use Rattle.nq_ir.specs.declared.path.Path.{Path}
+use Rattle.shred_types.specs.Under.{steps_of}
 use Rattle.sql_profile.specs.declared.answer.Answer.{Answer}
 use Rattle.stitcher.proofs.Laid.{types_length}
 use Rattle.stitcher.proofs.Ready.{rows_at}
 use Rattle.stitcher.specs.Schemes.{Scheme, AnswerRows}
 use Rattle.stitcher.specs.Stitching.{rows_of, AreAnswersOf, AreFitting}
+
+-- what holds where a result is no error
+pub no_error : {A E : Type 0} (P : Type 0) (r : Result A E) → is_err r ≡ false → OnOk r P → P
+no_error P (Ok a) e h = h
+no_error P (Err x) e h = absurd (let no : ⊥ = cc in no)
+
+-- a type has as many paths as bags
+pub paths_counted : (list : List Path) (a : TypeTree) → steps_of list ≡ paths a → length list ≡ bags a
+paths_counted list a e = sym (length-map list (λ (p : Path). p.steps)) ∙ ap length e ∙ paths_count a
+
+pub is_path : {I : Type 0} (S : Scheme I) (a : TypeTree) (n count : ℕ) → S.elements ≡ element_types a → count ≡ bags a → n < count → n < length S.elements
+is_path S a n count of counted h =
+    let long : length S.elements ≡ bags a = ap length of ∙ types_length a in
+    omega (arith, long, counted, h)
 
 -- the answers before a path fit
 abbrev pub FitBefore : {I : Type 0} → Scheme I → List AnswerRows → ℕ → Type 0

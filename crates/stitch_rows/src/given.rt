@@ -34,10 +34,7 @@ pub fn type_of(alloc: Global, shape: &Shape) -> Result<Ty, Memory> {
 }
 
 #[cycle(types)]
-fn fields_of(
-    alloc: Global,
-    fields: &[(&'static str, Shape)],
-) -> Result<List<(Label, Ty)>, Memory> {
+fn fields_of(alloc: Global, fields: &[(&'static str, Shape)]) -> Result<List<(Label, Ty)>, Memory> {
     let mut made = List::new(alloc);
     for field in fields {
         made.push((Label::from_str(alloc, field.0)?, type_of(alloc, &field.1)?))?;

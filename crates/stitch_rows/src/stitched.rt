@@ -17,10 +17,7 @@ struct Case {
     text: &'static str,
 }
 
-const PEOPLE: Shape = Shape::Rec(&[
-    ("name", Shape::Text),
-    ("tasks", Shape::Bag(&Shape::Text)),
-]);
+const PEOPLE: Shape = Shape::Rec(&[("name", Shape::Text), ("tasks", Shape::Bag(&Shape::Text))]);
 
 const ORGANISATION: Shape = Shape::Rec(&[
     ("department", Shape::Text),
@@ -33,11 +30,14 @@ const STAFF: Shape = Shape::Rec(&[("d", Shape::Text), ("es", Shape::Bag(&Shape::
 
 const BAGS: Shape = Shape::Bag(&Shape::Bag(&Shape::Int));
 
-const FOUR: &str = "{(department = 'Product', employees = {(name = 'Alex', tasks = {'build'}), (name = 'Bert', tasks = {'build'})}), (department = 'Quality', employees = {}), (department = 'Research', employees = {}), (department = 'Sales', employees = {(name = 'Erik', tasks = {'call', 'enthuse'})})}\n";
+const FOUR: &str =
+    "{(department = 'Product', employees = {(name = 'Alex', tasks = {'build'}), (name = 'Bert', tasks = {'build'})}), (department = 'Quality', employees = {}), (department = 'Research', employees = {}), (department = 'Sales', employees = {(name = 'Erik', tasks = {'call', 'enthuse'})})}\n";
 
-const TWICE: &str = "{(d = 'Product', es = {'Alex', 'Bert'}), (d = 'Product', es = {'Alex', 'Bert'})}\n";
+const TWICE: &str =
+    "{(d = 'Product', es = {'Alex', 'Bert'}), (d = 'Product', es = {'Alex', 'Bert'})}\n";
 
-const TWO_TASKS: &str = "{(department = 'Product', employees = {(name = 'Alex', tasks = {'build'}), (name = 'Bert', tasks = {'call'})}), (department = 'Product', employees = {(name = 'Alex', tasks = {'build'}), (name = 'Bert', tasks = {'call'})})}\n";
+const TWO_TASKS: &str =
+    "{(department = 'Product', employees = {(name = 'Alex', tasks = {'build'}), (name = 'Bert', tasks = {'call'})}), (department = 'Product', employees = {(name = 'Alex', tasks = {'build'}), (name = 'Bert', tasks = {'call'})})}\n";
 
 const CASES: [Case; 12] = [
     Case {
@@ -271,5 +271,63 @@ fn gives_the_nested_value(rt: HostRuntime) -> Result<(), Fail> {
         let text = text_of(alloc, stitched(alloc, &of, &answers)?)?;
         assert!(rt; text.as_slice() == case.text.as_bytes());
     }
+    Ok(())
+}
+
+// An answer with a row for each number up to this one: these cells, and the number, once or twice.
+fn numbered(alloc: Global, count: i64, first: &[i64], twice: bool) -> Result<Answer, Memory> {
+    let mut rows = Rows::new(alloc);
+    for number in 1..=count {
+        let mut row = List::new(alloc);
+        for cell in first {
+            row.push(Cell::Int(*cell))?;
+        }
+        row.push(Cell::Int(number))?;
+        if twice {
+            row.push(Cell::Int(number))?;
+        }
+        rows.push(row.as_slice())?;
+    }
+    Ok(Answer { rows })
+}
+
+// Whether the value is the record of one bag that holds one number.
+fn is_one(value: &Value, number: i64) -> bool {
+    let Value::Rec(fields) = value else {
+        return false;
+    };
+    let [(label, Value::Bag(bag))] = fields.as_slice() else {
+        return false;
+    };
+    let [Value::Int(one)] = bag.as_slice() else {
+        return false;
+    };
+    label.as_str() == "b" && *one == number
+}
+
+// How many elements stand in order, each the record of its number from 1.
+fn in_order(value: &Value) -> usize {
+    let Value::Bag(elements) = value else {
+        return 0;
+    };
+    let mut count = 0;
+    for element in elements.as_slice() {
+        if is_one(element, count as i64 + 1) {
+            count += 1;
+        }
+    }
+    count
+}
+
+#[test]
+fn many_parents_with_one_child_each(rt: HostRuntime) -> Result<(), Fail> {
+    let alloc = rt.alloc();
+    let element = Shape::Rec(&[("b", Shape::Bag(&Shape::Int))]);
+    let of = Ty::Bag(nq_model::boxed(alloc, type_of(alloc, &element)?)?);
+    let mut answers = List::new(alloc);
+    answers.push(numbered(alloc, 400_000, &[0, 1, 1], false)?)?;
+    answers.push(numbered(alloc, 400_000, &[1], true)?)?;
+    let value = stitched(alloc, &of, &answers)?;
+    assert_eq!(rt; value.map_or(0, |value| in_order(&value)), 400_000);
     Ok(())
 }

@@ -1,5 +1,5 @@
 -- A literal without its doubled quotes, byte by byte.
-use Rattle.std.proofs.Common.{◌≡◌, ℕ, suc, ◌+◌, ◌<◌, ◌++◌, drop, get_or, drop-cons, append_assoc, Bool, true, false, List, [], ◌∷◌, length, refl, sym, ap, ◌∙◌, arith}
+use Rattle.std.proofs.Common.{◌≡◌, ℕ, suc, ◌+◌, ◌<◌, ◌++◌, drop, get_or, drop-cons, append_assoc, Bool, true, false, List, [], ◌∷◌, length, sym, ap, ◌∙◌, arith}
 use Rattle.nq_model.specs.QueryScope.{undoubled}
 use Rattle.nq_model.specs.QueryTokens.{is_quote}
 

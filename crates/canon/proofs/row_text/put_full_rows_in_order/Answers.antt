@@ -1,6 +1,6 @@
-use Rattle.std.proofs.Common.{◌≡◌, ◌≤◌, ◌-◌, ℕ, List, length, subst, ◌∙◌}
+use Rattle.std.proofs.Common.{◌≤◌, ℕ, List, length, subst, ◌∙◌}
 use Rattle.std.proofs.lemmas.List.Sorted.{All-permutation}
-use Rattle.nq_model.specs.Numberings.{Rises, count_from, key_lt}
+use Rattle.nq_model.specs.Numberings.{Rises, key_lt}
 use Rattle.rows.specs.Places.{row_at}
 use Rattle.row_order.specs.Keys.{keys_at}
 use Rattle.canon.proofs.Places.{keys_in_order}

@@ -1,4 +1,4 @@
-use Rattle.std.proofs.Common.{◌+◌, sym, arith}
+use Rattle.std.proofs.Common.{◌+◌, arith}
 use Rattle.std.proofs.lemmas.Str.{IsCharBoundary-after_ascii, IsCharBoundary-before_ascii}
 use Rattle.sql_reader.proofs.Fronts.{name_closes}
 use Rattle.sql_reader.proofs.front.name_front.Goals as goal
