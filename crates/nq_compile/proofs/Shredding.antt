@@ -48,8 +48,8 @@ tree_allows schema s held rows spells allows =
 -- an answer that holds rows, before those that do
 laid_more : (element : TypeTree) (elements : List TypeTree) (rows : List FlatRow) (more : List (List FlatRow)) (answer : AnswerRows) (answers : List AnswerRows) →
     answer ≡ map (row_cells element) rows → AreLaidOut elements more answers → AreLaidOut (element ∷ elements) (rows ∷ more) (answer ∷ answers)
-laid_more element elements rows more answer answers h later zero = h
-laid_more element elements rows more answer answers h later (suc q) = later q
+laid_more element elements rows more answer answers h g zero = h
+laid_more element elements rows more answer answers h g (suc q) = g q
 
 module _ (schema : Schema) (proper_schema : IsProperSchema schema) (form : FormTree) (well : IsWellFormed schema.tables form) where
   is_shredded : (path : List Step) → Among path (paths (bag form.element)) → IsShreddedOf schema (shredded form path)
