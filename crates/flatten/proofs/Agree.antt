@@ -15,7 +15,7 @@ use Rattle.nq_ir.specs.Lets.{FlatRow, LetRow, combos, part_rows, tail_of, head_o
 use Rattle.nq_ir.proofs.Nested.{filter_same}
 use Rattle.nq_ir.proofs.Rows.{RowsOf}
 use Rattle.flatten.specs.Emitted.{in_gens}
-use Rattle.flatten.proofs.Names.{NoDot}
+use Rattle.flatten.proofs.Apart.{NoDot}
 use Rattle.flatten.proofs.PartScope.{has, listed}
 
 -- us has the tables of ts, and maybe others whose names have a dot

@@ -16,7 +16,7 @@ use Rattle.sql_profile.specs.Trees.{ExprTree}
 use Rattle.sql_profile.specs.AllowedAnswers.{Scope, row_at, combinations, expr_value, keeps, keeps_none}
 use Rattle.flatten.specs.Names.{alias, let_alias, outer_column}
 use Rattle.flatten.specs.Exprs.{literal_expr, column_expr, source_of, base_expr, conds_keep, joined, tests_query}
-use Rattle.flatten.proofs.Names.{aliases_apart, not_let}
+use Rattle.flatten.proofs.Apart.{aliases_apart, not_let}
 
 -- the rows of named tables
 abbrev pub by_name : NamedTables → Tables

@@ -23,7 +23,7 @@ use Rattle.nq_ir.proofs.Equal.{nat_same}
 use Rattle.nq_ir.proofs.Levels.{AllBody, AllComps, AllFields}
 use Rattle.nq_ir.proofs.Scopes.{Inside, inside_append, distinct_join, from_inside, numbers_append}
 use Rattle.flatten.specs.Emitted.{in_gens}
-use Rattle.flatten.proofs.Names.{NoDot}
+use Rattle.flatten.proofs.Apart.{NoDot}
 use Rattle.flatten.proofs.Exprs.{Inner, InnerAll, InnerTests}
 use Rattle.flatten.proofs.Agree.{TablesDotless, Dotless, DotlessAll, DotlessTests}
 

@@ -1,4 +1,4 @@
-pub mod Names
+pub mod Apart
 pub mod Exprs
 pub mod LetQuery
 pub mod PartScope
@@ -15,3 +15,5 @@ pub mod ScopeTree
 pub mod WrittenNames
 pub mod Spellable
 pub mod Examples
+pub mod Built
+pub mod Lists

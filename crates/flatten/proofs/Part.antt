@@ -17,7 +17,7 @@ use Rattle.sql_profile.specs.Trees.{ExprTree, ValueTree}
 use Rattle.flatten.specs.Names.{let_alias, number_name, with_name}
 use Rattle.flatten.specs.Exprs.{column_expr, source_of, base_expr, conds_keep, order_keys}
 use Rattle.flatten.specs.Emitted.{in_gens, none_outer, shape_values, strand_values, answer_items, around_number, after_let}
-use Rattle.flatten.proofs.Names.{own_let}
+use Rattle.flatten.proofs.Apart.{own_let}
 use Rattle.flatten.proofs.Exprs.{by_name, scoped, row_shown, expr_is, Inner, InnerAll}
 use Rattle.flatten.proofs.LetQuery.{kept_scoped}
 use Rattle.flatten.proofs.PartItems.{FitsShape, ValuesGive, nameless, in_front, element_gives, zip_rows, front_laid}

@@ -18,7 +18,7 @@ use Rattle.sql_profile.specs.AllowedAnswers.{Scope, row_at, combinations, expr_v
 use Rattle.sql_profile.specs.Trees.{ExprTree}
 use Rattle.flatten.specs.Names.{alias, let_alias, outer_column, number_name}
 use Rattle.flatten.specs.Exprs.{column_expr, source_of, conds_keep}
-use Rattle.flatten.proofs.Names.{let_not, own_let, columns_apart, not_number, number_not, own_number, both_true}
+use Rattle.flatten.proofs.Apart.{let_not, own_let, columns_apart, not_number, number_not, own_number, both_true}
 use Rattle.flatten.proofs.Exprs.{by_name, scoped, row_shown, combinations_are, condition_is, InnerAll}
 use Rattle.flatten.proofs.LetQuery.{let_cells}
 

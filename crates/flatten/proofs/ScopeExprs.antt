@@ -21,7 +21,7 @@ use Rattle.sql_profile.specs.Trees.{ExprTree, select}
 use Rattle.sql_profile.specs.Scope.{Shapes, Aliases, found, among, SourcesHave, HasType, OthersHave, SelectHas, KeepHas}
 use Rattle.flatten.specs.Names.{alias, let_alias, outer_column, one_name}
 use Rattle.flatten.specs.Exprs.{literal_expr, column_expr, source_of, one_item, base_expr, conds_keep, joined, tests_query}
-use Rattle.flatten.proofs.Names.{aliases_apart, not_let, nat_flip}
+use Rattle.flatten.proofs.Apart.{aliases_apart, not_let, nat_flip}
 use Rattle.flatten.proofs.Exprs.{Inner, InnerAll, InnerTests}
 use Rattle.flatten.proofs.Facts.{TestsApart, TestsApartAll, TestsApartIn}
 

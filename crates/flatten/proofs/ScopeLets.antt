@@ -20,7 +20,7 @@ use Rattle.sql_profile.specs.Scope.{Shapes, Aliases, found, among, HasType, Quer
 use Rattle.flatten.specs.Names.{outer_column, number_name}
 use Rattle.flatten.specs.Exprs.{column_expr, order_keys}
 use Rattle.flatten.specs.Emitted.{none_outer, let_items, let_select}
-use Rattle.flatten.proofs.Names.{columns_apart, number_not, own_number, nat_flip}
+use Rattle.flatten.proofs.Apart.{columns_apart, number_not, own_number, nat_flip}
 use Rattle.flatten.proofs.Facts.{ScopeFacts}
 use Rattle.flatten.proofs.ScopeExprs.{Extends, own_aliases, sources_have, none_seen, ShowsTypes, shows_types_more, keep_typed}
 use Rattle.flatten.proofs.Withs.{inner_conds}

@@ -30,7 +30,7 @@ use Rattle.sql_profile.specs.Scope.{Shapes, Aliases, found, among, names_in, Has
 use Rattle.flatten.specs.Names.{with_name, alias, let_alias, outer_column, number_name, answer_name}
 use Rattle.flatten.specs.Exprs.{column_expr, order_keys}
 use Rattle.flatten.specs.Emitted.{in_gens, withs_from, shape_values, shapes_values, answer_items, around_number, strand_values, strand_select, parts_query, zero_value, empty_query, main_query, emitted, flattened, answer_shape_from, answer_shape}
-use Rattle.flatten.proofs.Names.{let_not, own_let, withs_apart, with_not, not_with, NoDot, answers_apart}
+use Rattle.flatten.proofs.Apart.{let_not, own_let, withs_apart, with_not, not_with, NoDot, answers_apart}
 use Rattle.flatten.proofs.Exprs.{Inner}
 use Rattle.flatten.proofs.Facts.{TestsApart, ScopeFacts, ShapeHas, ShapesHave, fresh, turned, table_dotless, no_dots}
 use Rattle.flatten.proofs.LetForms.{FineStrand, FineForm, fine_form}

@@ -23,7 +23,7 @@ use Rattle.sql_profile.specs.Trees.{ExprTrees, QueryTree, ItemTrees, no_item, th
 use Rattle.flatten.specs.Names.{with_name, outer_column}
 use Rattle.flatten.specs.Exprs.{source_of, conds_keep, order_keys}
 use Rattle.flatten.specs.Emitted.{in_gens, none_outer, let_items, withs_from, answer_items, strand_values, around_number, after_let, parts_query, zero_value, main_query, emitted}
-use Rattle.flatten.proofs.Names.{withs_apart, not_with}
+use Rattle.flatten.proofs.Apart.{withs_apart, not_with}
 use Rattle.flatten.proofs.Exprs.{by_name, Inner, InnerAll, InnerTests}
 use Rattle.flatten.proofs.LetQuery.{let_cells, let_query_gives, reordered_from_map}
 use Rattle.flatten.proofs.PartItems.{FitsShape}

@@ -9,7 +9,7 @@ use Rattle.nq_model.specs.Tables.{IsProperName}
 use Rattle.nq_model.proofs.Numberings.{length_map}
 use Rattle.sql_profile.specs.WritableNames.{IsWritableName}
 use Rattle.flatten.specs.Names.{number_text, with_name, let_alias, alias, outer_column, number_name, answer_name, one_name}
-use Rattle.flatten.proofs.Names.{number_text_above}
+use Rattle.flatten.proofs.Apart.{number_text_above}
 
 abbrev Plain : Label → Type 0
 Plain l = Contains l 34 → ⊥
@@ -33,9 +33,10 @@ number_plain : (k : ℕ) → Plain (number_text k)
 number_plain k = plain_digits (number_text k) (number_text_above k)
 
 number_short : (k : ℕ) → k < 2 ^ 63 → length (number_text k) ≤ 19
-number_short k h =
-    let few : length (digits_of 10 k) ≤ 19 = length-digits_of-le 10 19 k (omega arith) (omega (arith, h)) in
-    omega (arith, few, length_map (λ d. 48 + d) (digits_of 10 k))
+number_short zero h = omega arith
+number_short (suc k) h =
+    let few : length (digits_of 10 (suc k)) ≤ 19 = length-digits_of-le 10 19 (suc k) (omega arith) (omega (arith, h)) in
+    omega (arith, few, length_map (λ d. 48 + d) (digits_of 10 (suc k)))
 
 pub proper_writable : (l : Label) → IsProperName l → IsWritableName l
 proper_writable l h = record { some = omega (arith, h.some_byte); few = omega (arith, h.short); no_quote = h.no_quote }

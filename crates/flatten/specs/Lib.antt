@@ -1,3 +1,4 @@
 pub mod Names
 pub mod Exprs
 pub mod Emitted
+pub mod Views

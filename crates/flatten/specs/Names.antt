@@ -5,9 +5,10 @@ use Rattle.std.specs.Prelude.{ℕ, zero, suc, ◌+◌, [], ◌∷◌, ◌++◌, 
 use Rattle.std.specs.Int.Digits.{digits_of}
 use Rattle.nq_model.specs.NamedRows.{Label}
 
--- a number from 1 on, in decimal
+-- a number in decimal
 abbrev pub number_text : ℕ → Label
-number_text k = map (λ d. 48 + d) (digits_of 10 k)
+number_text zero = 48 ∷ []
+number_text (suc k) = map (λ d. 48 + d) (digits_of 10 (suc k))
 
 -- q.k, the WITH query of the let with the number k, from 1
 unfoldable pub with_name : ℕ → Label

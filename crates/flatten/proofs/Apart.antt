@@ -1,13 +1,13 @@
 -- The names in the text of a let form differ.
 use Rattle.nq_ir.proofs.Equal.{nat_same, nat_differ}
-use Rattle.std.proofs.Common.{◌≡◌, ℕ, zero, suc, ◌+◌, ◌≤◌, ◌<◌, List, [], ◌∷◌, ◌++◌, map, refl, sym, ap, ap₂, ◌∙◌, Bool, true, false, nat_eq, ◌&&◌, arith}
+use Rattle.std.proofs.Common.{get_or, cond, ◌≡◌, ℕ, zero, suc, ◌+◌, ◌≤◌, ◌<◌, List, [], ◌∷◌, ◌++◌, map, refl, sym, ap, ap₂, ◌∙◌, Bool, true, false, nat_eq, ◌&&◌, arith}
 use Rattle.std.specs.Str.{bytes_eq}
 use Rattle.std.specs.Int.Digits.{digits_of}
-use Rattle.std.proofs.lemmas.Int.Digits.{same_from_digits_of, digits_of_step}
+use Rattle.std.proofs.lemmas.Int.Digits.{same_from_digits_of, digits_of_step, first_digits_of}
 use Rattle.std.proofs.lemmas.Fmt.{decimal_by_steps}
 use Rattle.std.proofs.lemmas.List.{map-append}
 use Rattle.std.specs.Fmt.{decimal}
-use Rattle.std.specs.Prelude.{◌/◌, ◌%◌, ◌^◌}
+use Rattle.std.specs.Prelude.{◌-◌, ◌/◌, ◌%◌, ◌^◌}
 use Rattle.std.proofs.lemmas.Slice.Eq.{bytes_eq-Decides}
 use Rattle.std.proofs.lemmas.Bool.Decides.{Decides-eqb}
 use Rattle.std.specs.List.{AllByRecursion as Each}
@@ -24,24 +24,47 @@ raised_injective (x ∷ xs) (y ∷ ys) e =
     let t : map (λ d. 48 + d) xs ≡ map (λ d. 48 + d) ys = cc in
     ap₂ (λ a (l : List ℕ). a ∷ l) (omega (arith, h)) (raised_injective xs ys t)
 
+-- the first digit of a number from 1 on is none of zero's
+not_zero : (k : ℕ) → 48 ∷ [] ≡ map (λ d. 48 + d) (digits_of 10 (suc k)) → ⊥
+not_zero k e = go (digits_of 10 (suc k)) (first_digits_of 10 (suc k) (omega arith) (omega arith)) e
+  where
+    go : (ds : List ℕ) → 0 < get_or ds 0 0 → 48 ∷ [] ≡ map (λ d. 48 + d) ds → ⊥
+    go [] h e = absurd (cc)
+    go (d ∷ ds) h e = let f : 48 ≡ 48 + d = cc in omega (arith, f, h)
+
 pub number_text_injective : (j k : ℕ) → number_text j ≡ number_text k → j ≡ k
-number_text_injective j k e = same_from_digits_of 10 j k (omega arith) (raised_injective (digits_of 10 j) (digits_of 10 k) e)
+number_text_injective zero zero e = refl
+number_text_injective zero (suc k) e = absurd (not_zero k e)
+number_text_injective (suc j) zero e = absurd (not_zero j (sym e))
+number_text_injective (suc j) (suc k) e = same_from_digits_of 10 (suc j) (suc k) (omega arith) (raised_injective (digits_of 10 (suc j)) (digits_of 10 (suc k)) e)
 
 -- below 2 ^ 64 it is what std writes
-pub number_text_decimal : (n : ℕ) → 0 < n → n < 2 ^ 64 → number_text n ≡ decimal n
-number_text_decimal n some small = decimal_by_steps (λ m ds. 0 < m → number_text m ≡ ds) first next n small some
+pub number_text_decimal : (n : ℕ) → n < 2 ^ 64 → number_text n ≡ decimal n
+number_text_decimal n small = whole n ∙ decimal_by_steps (λ m ds. digits m ≡ ds) first next n small
   where
-    step : (m : ℕ) → 0 < m → number_text m ≡ number_text (m / 10) ++ (48 + m % 10) ∷ []
+    digits : ℕ → List ℕ
+    digits m = cond (nat_eq m 0) (48 ∷ []) (map (λ d. 48 + d) (digits_of 10 m))
+
+    whole : (m : ℕ) → number_text m ≡ digits m
+    whole zero = refl
+    whole (suc m) = ap (λ b. cond b (48 ∷ []) (map (λ d. 48 + d) (digits_of 10 (suc m)))) (sym (nat_differ (suc m) 0 (λ e. cc)))
+
+    some : (m : ℕ) → 0 < m → digits m ≡ map (λ d. 48 + d) (digits_of 10 m)
+    some zero h = absurd (omega arith)
+    some (suc m) h = ap (λ b. cond b (48 ∷ []) (map (λ d. 48 + d) (digits_of 10 (suc m)))) (nat_differ (suc m) 0 (λ e. cc))
+
+    step : (m : ℕ) → 0 < m → map (λ d. 48 + d) (digits_of 10 m) ≡ map (λ d. 48 + d) (digits_of 10 (m / 10)) ++ (48 + m % 10) ∷ []
     step m h = ap (map (λ d. 48 + d)) (digits_of_step 10 m (omega arith) h) ∙ map-append (λ d. 48 + d) (digits_of 10 (m / 10)) (m % 10 ∷ [])
 
-    first : (m : ℕ) → m < 10 → 0 < m → number_text m ≡ (48 + m) ∷ []
-    first m l h =
-        let none : m / 10 ≡ 0 = omega arith in
-        let all : m % 10 ≡ m = omega arith in
-        step m h ∙ ap₂ (λ a b. number_text a ++ (48 + b) ∷ []) none all
+    first : (m : ℕ) → m < 10 → digits m ≡ (48 + m) ∷ []
+    first zero l = refl
+    first (suc m) l =
+        let none : suc m / 10 ≡ 0 = omega arith in
+        let all : suc m % 10 ≡ suc m = omega arith in
+        some (suc m) (omega arith) ∙ step (suc m) (omega arith) ∙ ap₂ (λ a b. map (λ d. 48 + d) (digits_of 10 a) ++ (48 + b) ∷ []) none all
 
-    next : (m : ℕ) (ds : List ℕ) → 10 ≤ m → (0 < m / 10 → number_text (m / 10) ≡ ds) → 0 < m → number_text m ≡ ds ++ (48 + m % 10) ∷ []
-    next m ds l i h = step m h ∙ ap (λ (z : List ℕ). z ++ (48 + m % 10) ∷ []) (i (omega arith))
+    next : (m : ℕ) (ds : List ℕ) → 10 ≤ m → digits (m / 10) ≡ ds → digits m ≡ ds ++ (48 + m % 10) ∷ []
+    next m ds l i = some m (omega (arith, l)) ∙ step m (omega (arith, l)) ∙ ap (λ (z : List ℕ). z ++ (48 + m % 10) ∷ []) (sym (some (m / 10) (omega (arith, l))) ∙ i)
 
 -- no dot stands in it
 raised_above : (xs : List ℕ) → Each (λ c. 48 ≤ c) (map (λ d. 48 + d) xs)
@@ -49,7 +72,8 @@ raised_above [] = tt
 raised_above (x ∷ xs) = (omega arith, raised_above xs)
 
 pub number_text_above : (k : ℕ) → Each (λ c. 48 ≤ c) (number_text k)
-number_text_above k = raised_above (digits_of 10 k)
+number_text_above zero = (omega arith, tt)
+number_text_above (suc k) = raised_above (digits_of 10 (suc k))
 
 -- up to the first dot
 dot_splits : (xs ys l m : List ℕ) → Each (λ c. 48 ≤ c) xs → Each (λ c. 48 ≤ c) ys → xs ++ 46 ∷ l ≡ ys ++ 46 ∷ m → (xs ≡ ys) × (l ≡ m)
@@ -185,3 +209,12 @@ answers_apart (suc (suc j)) (suc (suc k)) = numbered_apart (λ (t : Label). 99 �
   where
     same_next : (a b : ℕ) → nat_eq a b ≡ nat_eq (suc a) (suc b)
     same_next a b = one_truth (nat_eq a b) (nat_eq (suc a) (suc b)) (λ e. nat_same (suc a) (suc b) (ap suc ((Decides-eqb a b).0 e))) (λ e. nat_same a b (let f : suc a ≡ suc b = (Decides-eqb (suc a) (suc b)).0 e in omega (arith, f)))
+
+-- the name of an element column
+pub later_answer : (place : ℕ) → 2 ≤ place → place < 2 ^ 64 → answer_name place ≡ 99 ∷ decimal (place - 1)
+unfolding answer_name
+later_answer zero h b = absurd (omega arith)
+later_answer (suc zero) h b = absurd (omega arith)
+later_answer (suc (suc k)) h b =
+    let same : suc (suc k) - 1 ≡ suc k = omega arith in
+    ap (λ (l : Label). 99 ∷ l) (number_text_decimal (suc k) (omega (arith, b)) ∙ ap decimal (sym same))
