@@ -1,13 +1,17 @@
 -- Lists of parts that are built, as trees.
-use Rattle.std.proofs.Common.{◌≡◌, ℕ, zero, suc, ◌+◌, pos, Bool, List, [], ◌∷◌, ◌++◌, map, length, refl, sym, ap, ap₂, ◌∙◌, subst, Box, Global, arith, flat_map, append_assoc}
+use Rattle.std.proofs.Common.{◌≡◌, ℕ, zero, suc, ◌+◌, ◌-◌, IfOk, Result, Ok, Err, Some, None, get_or, ◌<◌, ◌≤◌, pos, Bool, List, [], ◌∷◌, ◌++◌, map, length, refl, sym, ap, ap₂, ◌∙◌, subst, Box, Global, arith, flat_map, append_assoc}
 use Rattle.std.proofs.lemmas.List.{map-append}
 use Rattle.std.proofs.lemmas.Grind.{flat_map-append}
 use Rattle.nq_model.specs.NamedRows.{Label}
 use Rattle.nq_model.specs.Tables.{Columns}
+use Rattle.nq_model.specs.declared.table.ColumnType.{ColumnType}
 use Rattle.nq_model.specs.declared.table.TableShape.{TableShape}
 use Rattle.nq_model.proofs.Numberings.{length_map}
 use Rattle.nq_ir.specs.declared.base.Gen.{Gen}
-use Rattle.nq_ir.specs.Lets.{columns_in}
+use Rattle.nq_model.specs.declared.memory.Memory.{Memory}
+use Rattle.nq_ir.specs.declared.lets.LetPart.{LetPart}
+use Rattle.nq_ir.specs.declared.lets.LetQuery.{LetQuery}
+use Rattle.nq_ir.specs.Lets.{LetTree, PartTree, columns_in, let_tree, part_tree, let_of, no_let}
 use Rattle.nq_ir.specs.Trees.{BaseTree, TestPart, tests_of}
 use Rattle.nq_ir.specs.WellFormed.{table_columns, column_names}
 use Rattle.sql_profile.specs.declared.tree.Expr.{Expr}
@@ -17,12 +21,13 @@ use Rattle.sql_profile.specs.declared.tree.ItemValue.TheVariants as value
 use Rattle.sql_profile.specs.declared.tree.ExprNode.TheVariants as node
 use Rattle.sql_profile.specs.declared.tree.Query.{Query, out-Query, fold-roll-Query, roll-Query}
 use Rattle.sql_profile.specs.declared.tree.Select.{Select, out-Select}
-use Rattle.sql_profile.specs.Trees.{PlacedExpr, PlacedItem, PlacedQuery, PlacedSelect, PlacedValue, node_layer, value_layer, expr_layer, item_layer, query_layer, select_layer, query_of, placed_query, placed_select, ExprTree, ExprTrees, then_expr, QueryTree, then_select, SelectTree, select, ItemTrees, no_item, then_item, ValueTree, plain, number, bare_query, bare_select, bare_items, bare_source, bare_value, expr_tree, query_tree, select_tree, exprs_of, items_of, item_at, placed_item}
+use Rattle.sql_profile.specs.declared.tree.With.{With}
+use Rattle.sql_profile.specs.Trees.{SourceTree, WithTree, bare_with, placed_with, with_tree, PlacedExpr, PlacedItem, PlacedQuery, PlacedSelect, PlacedValue, node_layer, value_layer, expr_layer, item_layer, query_layer, select_layer, query_of, placed_query, placed_select, ExprTree, ExprTrees, then_expr, QueryTree, then_select, SelectTree, select, ItemTrees, no_item, then_item, ValueTree, plain, number, bare_query, bare_select, bare_items, bare_source, bare_value, expr_tree, query_tree, select_tree, exprs_of, items_of, item_at, placed_item}
 use Rattle.sql_profile.proofs.Trees.{query_placed, select_placed, item_placed, value_plain, value_number}
-use Rattle.flatten.specs.Names.{one_name, outer_column, number_name, answer_name}
+use Rattle.flatten.specs.Names.{one_name, outer_column, number_name, answer_name, let_alias, with_name}
 use Rattle.flatten.specs.Exprs.{column_expr, one_item, tests_query, base_expr, order_keys}
-use Rattle.flatten.specs.Emitted.{in_gens, none_outer, let_items, answer_items}
-use Rattle.flatten.specs.Views.{keys_tree, keep_tree, value_tree, NamedValue, item_view, items_tree, selects_tree, query_from, items_from, test_select, column_exprs, column_items, gens_exprs, gens_items, answer_views}
+use Rattle.flatten.specs.Emitted.{in_gens, none_outer, let_items, answer_items, around_number, after_let, parts_query, main_query, empty_query}
+use Rattle.flatten.specs.Views.{keys_tree, keep_tree, value_tree, NamedValue, item_view, items_tree, selects_tree, query_from, items_from, test_select, column_exprs, column_items, gens_exprs, gens_items, answer_views, part_strand_select}
 use Rattle.flatten.proofs.Built.{not_exists_built}
 
 pub selects_listed : (ss : List Select) → selects_tree ss ≡ query_from (map select_tree ss)
@@ -147,3 +152,71 @@ query_made ss = fold-roll-Query (ℕ → PlacedExpr) PlacedValue PlacedExpr Plac
 
 pub not_exists_of : (p : ℕ) (q : Box Query Global) (ss : List Select) → q.value ≡ roll-Query (record { selects = ss }) → expr_tree (record { place = p; node = node.NotExists q }) ≡ ExprTree.not_exists (query_from (map select_tree ss))
 not_exists_of p q ss e = not_exists_built p q ∙ ap (λ (z : Query). ExprTree.not_exists (query_tree z)) e ∙ ap (λ z. ExprTree.not_exists (bare_query z)) (query_made ss) ∙ ap ExprTree.not_exists (selects_listed ss)
+
+pub query_seen : (ss : List Select) → query_tree (roll-Query (record { selects = ss })) ≡ query_from (map select_tree ss)
+query_seen ss = ap bare_query (query_made ss) ∙ selects_listed ss
+
+-- the number around, and the sources, at the empty path and below
+pub around_first : (from : ℕ) → from ≡ 0 → around_number from ≡ ExprTree.int (pos 1)
+around_first zero e = refl
+around_first (suc k) e = absurd (omega (arith, e))
+
+pub around_later : (from : ℕ) → (from ≡ 0 → ⊥) → around_number from ≡ ExprTree.column let_alias number_name
+around_later zero h = absurd (h refl)
+around_later (suc k) h = refl
+
+pub after_first : (from : ℕ) (ss : List SourceTree) → from ≡ 0 → after_let from ss ≡ ss
+after_first zero ss e = refl
+after_first (suc k) ss e = absurd (omega (arith, e))
+
+pub after_later : (from : ℕ) (ss : List SourceTree) → (from ≡ 0 → ⊥) → after_let from ss ≡ record { table = with_name from; alias = let_alias } ∷ ss
+after_later zero ss h = absurd (h refl)
+after_later (suc k) ss h = refl
+
+-- the parts of a let form
+parts_listed : (cols : Label → List Label) (lets : List LetTree) (ps : List PartTree) → parts_query cols lets ps ≡ query_from (map (part_strand_select cols lets) ps)
+parts_listed cols lets [] = refl
+parts_listed cols lets (p ∷ ps) = ap (then_select (part_strand_select cols lets p)) (parts_listed cols lets ps)
+
+pub some_parts : (cols : Label → List Label) (columns : List ColumnType) (lets : List LetTree) (ps : List PartTree) → (ps ≡ [] → ⊥) → main_query cols columns lets ps ≡ query_from (map (part_strand_select cols lets) ps)
+some_parts cols columns lets [] h = absurd (h refl)
+some_parts cols columns lets (p ∷ ps) h = parts_listed cols lets (p ∷ ps)
+
+pub no_parts : (cols : Label → List Label) (columns : List ColumnType) (lets : List LetTree) (ps : List PartTree) → ps ≡ [] → main_query cols columns lets ps ≡ empty_query columns
+no_parts cols columns lets [] e = refl
+no_parts cols columns lets (p ∷ ps) e = absurd (cc)
+
+pub withs_seen : (ws : List With) → map bare_with (map placed_with ws) ≡ map with_tree ws
+withs_seen [] = refl
+withs_seen (w ∷ ws) = ap (λ (l : List WithTree). with_tree w ∷ l) (withs_seen ws)
+
+-- the SELECTs of some parts are the main query
+pub main_done : (cols : Label → List Label) (columns : List ColumnType) (lets : List LetTree) (ps : List LetPart) (made : Result (List Select) Memory) → (ps ≡ [] → ⊥)
+    → IfOk made (λ ss. map select_tree ss ≡ map (part_strand_select cols lets) (map part_tree ps)) → IfOk made (λ ss. query_from (map select_tree ss) ≡ main_query cols columns lets (map part_tree ps))
+main_done cols columns lets [] made h i = absurd (h refl)
+main_done cols columns lets (p ∷ ps) made h i = go made i
+  where
+    go : (made : Result (List Select) Memory) → IfOk made (λ ss. map select_tree ss ≡ map (part_strand_select cols lets) (map part_tree (p ∷ ps))) → IfOk made (λ ss. query_from (map select_tree ss) ≡ main_query cols columns lets (map part_tree (p ∷ ps)))
+    go (Ok ss) e = ap query_from e ∙ sym (parts_listed cols lets (map part_tree (p ∷ ps)))
+    go (Err x) e = tt
+
+-- the let with a number
+pub let_found : (lets : List LetQuery) (n : ℕ) (l : LetQuery) → 0 < n → n - 1 < length lets → l ≡ get_or lets (n - 1) l → let_tree l ≡ let_of (map let_tree lets) n
+let_found lets zero l h b e = absurd (omega arith)
+let_found lets (suc k) l h b e =
+    let s : suc k - 1 ≡ k = omega arith in
+    go lets k (omega (arith, b, s)) (e ∙ ap (λ j. get_or lets j l) s)
+  where
+    go : (xs : List LetQuery) (k : ℕ) → k < length xs → l ≡ get_or xs k l → let_tree l ≡ get_or (map let_tree xs) k no_let
+    go [] k b e = absurd (omega arith)
+    go (x ∷ xs) zero b e = ap let_tree e
+    go (x ∷ xs) (suc k) b e = go xs k (omega arith) e
+
+pub let_missing : (lets : List LetQuery) (n : ℕ) → length lets ≤ n - 1 → let_of (map let_tree lets) n ≡ no_let
+let_missing lets zero e = refl
+let_missing lets (suc k) e = let s : suc k - 1 ≡ k = omega arith in go lets k (omega (arith, e, s))
+  where
+    go : (xs : List LetQuery) (k : ℕ) → length xs ≤ k → get_or (map let_tree xs) k no_let ≡ no_let
+    go [] k e = refl
+    go (x ∷ xs) zero e = absurd (omega arith)
+    go (x ∷ xs) (suc k) e = go xs k (omega arith)

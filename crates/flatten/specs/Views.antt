@@ -5,6 +5,7 @@ use Rattle.nq_model.specs.NamedRows.{Label}
 use Rattle.nq_model.specs.Tables.{Columns}
 use Rattle.nq_model.specs.declared.table.TableShape.{TableShape}
 use Rattle.nq_ir.specs.declared.base.Gen.{Gen}
+use Rattle.nq_ir.specs.Lets.{LetTree, PartTree, strand_of}
 use Rattle.nq_ir.specs.Trees.{TestPart}
 use Rattle.nq_ir.specs.WellFormed.{table_columns}
 use Rattle.sql_profile.specs.declared.tree.Expr.{Expr}
@@ -14,7 +15,7 @@ use Rattle.sql_profile.specs.declared.tree.Select.{Select}
 use Rattle.sql_profile.specs.Trees.{ExprTree, ExprTrees, KeepTree, ItemTrees, no_item, then_item, ValueTree, plain, QueryTree, no_select, then_select, SelectTree, select, bare_exprs, bare_keep, bare_items, bare_value, bare_query, exprs_of, keep_of, items_of, query_of, placed_expr, placed_item, placed_value, placed_select}
 use Rattle.flatten.specs.Names.{outer_column, answer_name}
 use Rattle.flatten.specs.Exprs.{column_expr, one_item, source_of, conds_keep}
-use Rattle.flatten.specs.Emitted.{none_outer}
+use Rattle.flatten.specs.Emitted.{none_outer, strand_select}
 
 abbrev pub keys_tree : List Expr → ExprTrees
 keys_tree es = bare_exprs (exprs_of (map placed_expr es))
@@ -68,3 +69,7 @@ gens_items S gens = flat_map (λ g. column_items g.number (table_columns S g.tab
 abbrev pub answer_views : ℕ → List ValueTree → List NamedValue
 answer_views k [] = []
 answer_views k (v ∷ vs) = (answer_name k, v) ∷ answer_views (suc k) vs
+
+-- the SELECT of a part on these lets
+abbrev pub part_strand_select : (Label → List Label) → List LetTree → PartTree → SelectTree
+part_strand_select cols lets p = strand_select cols p.from (strand_of lets p)

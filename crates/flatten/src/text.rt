@@ -1,0 +1,125 @@
+// The whole tree of a let form.
+ghost use Rattle.std.specs.Prelude.{◌≡◌, ◌∷◌, [], ◌<◌, ◌^◌, IfOk, List, length, map};
+ghost use Rattle.nq_ir.specs.Lets.{let_tree, part_tree, strand_of, let_form_tree};
+ghost use Rattle.nq_ir.specs.WellFormed.{column_names};
+ghost use Rattle.sql_profile.specs.Trees.{no_select, query_tree, select_tree, sql_tree, with_tree};
+ghost use Rattle.flatten.specs.Names.{with_name};
+ghost use Rattle.flatten.specs.Emitted.{emitted, empty_query, let_select, main_query, strand_select, withs_from};
+ghost use Rattle.flatten.specs.Views.{query_from, part_strand_select};
+
+use crate::names::with_name;
+use crate::select::{let_select, part_select};
+use crate::values::{answer_items, zeros};
+use nq_ir::{LetForm, LetPart, LetQuery};
+use nq_model::{ColumnType, List, Memory, Schema};
+use sql_profile::{Expr, ExprNode, Query, Select, SqlText, With};
+use std::alloc::Global;
+
+// A query of these SELECTs.
+fn query(selects: List<Select>) -> Query
+    ensures { query_tree result ≡ query_from (map select_tree selects) }
+{
+    Query { selects }
+}
+
+// The WITH query of the let with a number.
+fn with_query(
+    alloc: Global,
+    schema: &Schema,
+    number: u64,
+    from: &LetQuery,
+) -> Result<With, Memory>
+    ensures { IfOk result (λ made. with_tree made ∷ [] ≡ withs_from (column_names schema.now.tables) number (let_tree from.now ∷ [])) }
+{
+    let name = with_name(alloc, number)?;
+    let mut selects = List::with_capacity(alloc, 1)?;
+    selects.push(let_select(alloc, schema, from)?)?;
+    Ok(With {
+        name,
+        place: 0,
+        query: query(selects),
+    })
+}
+
+// The WITH queries of the lets, in order.
+fn withs(alloc: Global, schema: &Schema, lets: &[LetQuery]) -> Result<List<With>, Memory>
+    ensures { IfOk result (λ made. map with_tree made ≡ withs_from (column_names schema.now.tables) 1 (map let_tree lets.now)) }
+{
+    let mut withs = List::with_capacity(alloc, lets.len())?;
+    for (index, from) in lets.iter().enumerate() {
+        withs.push(with_query(alloc, schema, index as u64 + 1, from)?)?;
+    }
+    Ok(withs)
+}
+
+// One SELECT without a row.
+#[tactic(auto, using(crate::proofs::Lists::select_built, crate::proofs::Built::bool_built))]
+fn empty_select(alloc: Global, columns: &[ColumnType]) -> Result<Select, Memory>
+    ensures { IfOk result (λ made. query_from (select_tree made ∷ []) ≡ empty_query columns.now) }
+{
+    let items = answer_items(alloc, zeros(alloc, columns)?)?;
+    let never = Expr { place: 0, node: ExprNode::Bool(false) };
+    Ok(Select {
+        place: 0,
+        items,
+        from: List::new(alloc),
+        keep: Some(never),
+    })
+}
+
+// One SELECT for each part.
+fn part_selects(
+    alloc: Global,
+    schema: &Schema,
+    lets: &[LetQuery],
+    parts: &[LetPart],
+) -> Result<List<Select>, Memory>
+    ensures { IfOk result (λ made. map select_tree made ≡ map (part_strand_select (column_names schema.now.tables) (map let_tree lets.now)) (map part_tree parts.now)) }
+{
+    let mut selects = List::with_capacity(alloc, parts.len())?;
+    for part in parts {
+        selects.push(part_select(alloc, schema, lets, part)?)?;
+    }
+    Ok(selects)
+}
+
+// The SELECTs of the parts; one without a row where there is none.
+#[tactic(auto, using(crate::proofs::Lists::no_parts, crate::proofs::Lists::some_parts))]
+fn main_selects(
+    alloc: Global,
+    schema: &Schema,
+    columns: &[ColumnType],
+    lets: &[LetQuery],
+    parts: &[LetPart],
+) -> Result<List<Select>, Memory>
+    ensures { IfOk result (λ made. query_from (map select_tree made) ≡ main_query (column_names schema.now.tables) columns.now (map let_tree lets.now) (map part_tree parts.now)) }
+{
+    if parts.is_empty() {
+        let mut selects = List::with_capacity(alloc, 1)?;
+        selects.push(empty_select(alloc, columns)?)?;
+        return Ok(selects);
+    }
+    part_selects(alloc, schema, lets, parts)
+}
+
+/// The SQL tree of a let form over a schema, whose answer has these columns: a WITH query for each let, and
+/// the SELECTs of its parts joined by UNION ALL. Its places are 0. The only error is that memory wants, as
+/// for an expression of more than 2,000 levels.
+///
+/// After Cheney, Lindley and Wadler, "Query Shredding", SIGMOD 2014.
+pub fn flatten(
+    alloc: Global,
+    schema: &Schema,
+    form: &LetForm,
+    columns: &[ColumnType],
+) -> Result<SqlText, Memory>
+    ensures { IfOk result (λ text. sql_tree text ≡ emitted (column_names schema.now.tables) columns.now (let_form_tree form.now)) }
+{
+    let lets = form.lets.as_slice();
+    let withs = withs(alloc, schema, lets)?;
+    let selects = main_selects(alloc, schema, columns, lets, form.parts.as_slice())?;
+    Ok(SqlText {
+        withs,
+        main: query(selects),
+    })
+}
