@@ -294,7 +294,7 @@ fn numbered(alloc: Global, count: i64, first: &[i64], twice: bool) -> Result<Ans
 }
 
 // Whether the value is the record of one bag that holds one number.
-fn is_one(value: &Value, number: i64) -> bool {
+fn is_one(value: &Value, number: usize) -> bool {
     let Value::Rec(fields) = value else {
         return false;
     };
@@ -304,21 +304,20 @@ fn is_one(value: &Value, number: i64) -> bool {
     let [Value::Int(one)] = bag.as_slice() else {
         return false;
     };
-    label.as_str() == "b" && *one == number
+    label.as_str() == "b" && usize::try_from(*one).is_ok_and(|one| one == number)
 }
 
-// How many elements stand in order, each the record of its number from 1.
+// How many elements there are, if each is the record of its number from 1.
 fn in_order(value: &Value) -> usize {
     let Value::Bag(elements) = value else {
         return 0;
     };
-    let mut count = 0;
-    for element in elements.as_slice() {
-        if is_one(element, count as i64 + 1) {
-            count += 1;
+    for at in 0..elements.len() {
+        if !is_one(&elements.as_slice()[at], at + 1) {
+            return 0;
         }
     }
-    count
+    elements.len()
 }
 
 #[test]
