@@ -2,7 +2,7 @@
 use crate::given::Given::{Int, Text};
 use crate::given::{Given, Listed, Shape, answers_of, type_of};
 use canon::{sort_deep, write};
-use nq_model::{Cell, List, Memory, Ty, Value};
+use nq_model::{Cell, List, Memory, Ty, Value, boxed};
 use rows::Rows;
 use sql_profile::Answer;
 use std::alloc::Global;
@@ -10,7 +10,7 @@ use std::test::Fail;
 use stitch_plain::are_answers;
 use stitcher::{FlatNumbers, stitch};
 
-// The base columns of a row, or its bags, follow a tag and a number.
+// Answers of a bag of such elements, and the canonical text of their value.
 struct Case {
     element: &'static Shape,
     answers: &'static [Listed],
@@ -27,6 +27,8 @@ const ORGANISATION: Shape = Shape::Rec(&[
 const NAMED: Shape = Shape::Rec(&[("b", Shape::Bag(&Shape::Text)), ("n", Shape::Text)]);
 
 const STAFF: Shape = Shape::Rec(&[("d", Shape::Text), ("es", Shape::Bag(&Shape::Text))]);
+
+const NUMBERED: Shape = Shape::Rec(&[("b", Shape::Bag(&Shape::Int))]);
 
 const BAGS: Shape = Shape::Bag(&Shape::Bag(&Shape::Int));
 
@@ -266,7 +268,7 @@ fn text_of(alloc: Global, value: Option<Value>) -> Result<List<u8>, Memory> {
 fn gives_the_nested_value(rt: HostRuntime) -> Result<(), Fail> {
     let alloc = rt.alloc();
     for case in &CASES {
-        let of = Ty::Bag(nq_model::boxed(alloc, type_of(alloc, case.element)?)?);
+        let of = Ty::Bag(boxed(alloc, type_of(alloc, case.element)?)?);
         let answers = answers_of(alloc, case.answers)?;
         let text = text_of(alloc, stitched(alloc, &of, &answers)?)?;
         assert!(rt; text.as_slice() == case.text.as_bytes());
@@ -292,7 +294,7 @@ fn numbered(alloc: Global, count: i64, first: &[i64], twice: bool) -> Result<Ans
 }
 
 // Whether the value is the record of one bag that holds one number.
-fn is_one(value: &Value, number: i64) -> bool {
+fn is_one(value: &Value, number: usize) -> bool {
     let Value::Rec(fields) = value else {
         return false;
     };
@@ -302,28 +304,26 @@ fn is_one(value: &Value, number: i64) -> bool {
     let [Value::Int(one)] = bag.as_slice() else {
         return false;
     };
-    label.as_str() == "b" && *one == number
+    label.as_str() == "b" && usize::try_from(*one).is_ok_and(|one| one == number)
 }
 
-// How many elements stand in order, each the record of its number from 1.
+// How many elements there are, if each is the record of its number from 1.
 fn in_order(value: &Value) -> usize {
     let Value::Bag(elements) = value else {
         return 0;
     };
-    let mut count = 0;
-    for element in elements.as_slice() {
-        if is_one(element, count as i64 + 1) {
-            count += 1;
+    for at in 0..elements.len() {
+        if !is_one(&elements.as_slice()[at], at + 1) {
+            return 0;
         }
     }
-    count
+    elements.len()
 }
 
 #[test]
 fn many_parents_with_one_child_each(rt: HostRuntime) -> Result<(), Fail> {
     let alloc = rt.alloc();
-    let element = Shape::Rec(&[("b", Shape::Bag(&Shape::Int))]);
-    let of = Ty::Bag(nq_model::boxed(alloc, type_of(alloc, &element)?)?);
+    let of = Ty::Bag(boxed(alloc, type_of(alloc, &NUMBERED)?)?);
     let mut answers = List::new(alloc);
     answers.push(numbered(alloc, 400_000, &[0, 1, 1], false)?)?;
     answers.push(numbered(alloc, 400_000, &[1], true)?)?;
