@@ -37,6 +37,7 @@ const HELP: &str = "nq answers typed queries over flat tables.
 nq run SCHEMA QUERY DIR     writes the value of the query over the tables of DIR
 nq check SCHEMA QUERY       writes ok where the query is accepted
 nq show types SCHEMA QUERY  writes the type of the query
+nq show paths SCHEMA QUERY  writes a line for each bag constructor of the type
 nq --help                   writes this text
 nq --version                writes the name and the version of the program
 
@@ -73,6 +74,11 @@ const SHOW: Row = Row {
     ..CHECK
 };
 
+const PATHS: Row = Row {
+    words: &["show", "paths", "org", "q"],
+    ..CHECK
+};
+
 const RUN: Row = Row {
     words: &["run", "org", "q", "data"],
     query: "table departments",
@@ -100,7 +106,7 @@ const USAGE: Row = Row {
     ..CHECK
 };
 
-const ROWS: [Row; 40] = [
+const ROWS: [Row; 43] = [
     CHECK,
     Row {
         query: "[9223372036854775808]",
@@ -226,6 +232,19 @@ const ROWS: [Row; 40] = [
         out: "[(a: [(c: bool)], b: int)]\n",
         ..SHOW
     },
+    Row {
+        query: NESTED,
+        out: "/: int int | text int int
+/[].employees: int int | text int int
+/[].employees[].tasks: int int | text
+",
+        ..PATHS
+    },
+    Row {
+        query: "for (x <- table employees) [()]",
+        out: "/: int int |\n",
+        ..PATHS
+    },
     // The schema and the query are fetched, and nothing else.
     Row {
         failing: &[3],
@@ -298,6 +317,10 @@ const ROWS: [Row; 40] = [
     },
     Row {
         words: &["show", "tables", "org", "q"],
+        ..USAGE
+    },
+    Row {
+        words: &["see", "paths", "org", "q"],
         ..USAGE
     },
     Row {

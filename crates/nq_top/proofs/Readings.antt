@@ -1,10 +1,13 @@
--- There is a reading of schema and query texts, and one alone.
+-- There is a reading of schema and query texts and of accepted queries, and one alone.
 use Rattle.std.proofs.Common.{◌≡◌, ◌≢◌, ◌⊎◌, ℕ, List, Some, Result, Ok, Err, refl, sym, ap, ◌∙◌, inl, inr}
 use Rattle.nq_model.specs.SchemaTexts as schemas
 use Rattle.nq_model.specs.SchemaTexts.{Fault}
 use Rattle.nq_model.specs.QueryTexts as queries
 use Rattle.nq_model.specs.QueryTexts.{Fault as QueryFault}
-use Rattle.nq_model.specs.Terms.{PlacedTerm}
+use Rattle.nq_model.specs.Terms.{PlacedTerm, bare}
+use Rattle.nq_model.specs.Types.{TypeTree}
+use Rattle.nq_model.specs.Typing.{IsAccepted}
+use Rattle.nq_model.proofs.Unfolding.{reached_once}
 use Rattle.nq_model.specs.declared.table.Schema.{Schema}
 use Rattle.nq_parser.proofs.Verdicts as parser
 use Rattle.query_syntax.specs.declared.fault.SyntaxFault.{SyntaxFault}
@@ -13,6 +16,8 @@ use Rattle.schema_reader.proofs.Verdicts as reader
 use Rattle.schema_reader.specs.Answers.{fault_view, HasCause, Reads}
 use Rattle.schema_reader.specs.declared.fault.SchemaFault.{SchemaFault}
 use Rattle.schema_reader.specs.declared.fault.SchemaFault.TheVariants as code
+use Rattle.unfold.proofs.Whole.{is_unfolding}
+use Rattle.unfold.specs.Hereditary.{unfolded}
 use Rattle.nq_top.specs.Reading.{Reading, ReadsQuery}
 use Rattle.nq_top.proofs.SchemaTexts.{same_fault}
 use Rattle.nq_top.proofs.QueryReadings.{says_term, says_fault}
@@ -64,6 +69,7 @@ pub one_reading : Reading
 one_reading = record {
   schemas = record { says = λ text. (schema_read_of text).says; right = λ text. (schema_read_of text).right; certain = λ text. (schema_read_of text).certain };
   queries = record { says = λ text. (query_read_of text).says; right = λ text. (query_read_of text).right };
+  plain = record { says = unfolded; right = λ schema t a h. (is_unfolding schema t a h).unfolds };
 }
 
 -- the fault of a text, with its place
@@ -116,3 +122,6 @@ query_same (Err (syntax.TwiceLabel p)) s text h k = sym (says_fault s text Query
 pub one_query : (reading other : Reading) (text : List ℕ) → reading.queries.says text ≡ other.queries.says text
 one_query reading other text =
     query_same (reading.queries.says text) (other.queries.says text) text (reading.queries.right text) (other.queries.right text)
+
+pub one_plain : (reading other : Reading) (schema : Schema) (term : PlacedTerm) (type : TypeTree) → IsAccepted schema (bare term) type → reading.plain.says term ≡ other.plain.says term
+one_plain reading other schema term type accepted = reached_once (reading.plain.right schema term type accepted) (other.plain.right schema term type accepted)

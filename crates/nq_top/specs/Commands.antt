@@ -1,15 +1,16 @@
 -- The words of a command, the names of the inputs that it fetches, and the lines that are written of a query.
-use Rattle.std.specs.Prelude.{ℕ, Bool, true, false, ◌&&◌, List, [], ◌∷◌, ◌++◌, codes, Option, Some, None, cond}
+use Rattle.std.specs.Prelude.{ℕ, Bool, true, false, List, [], ◌∷◌, ◌++◌, codes, Option, Some, None, option_map, cond}
 use Rattle.std.specs.Str.{bytes_eq}
 use Rattle.nq_model.specs.Types.{TypeTree}
 use Rattle.nq_model.specs.TypeTexts.{written_type}
 
 -- What is done with a query that is accepted: its value is written, over the table texts of a folder; or
--- that it is accepted; or its type.
+-- that it is accepted; or its type; or the paths of its type.
 pub data Aim : Type 0 where
   run : List ℕ → Aim
   check : Aim
   show_types : Aim
+  show_paths : Aim
 
 -- a text on the program is written, or a query is put to an aim: the names of a schema and of the query
 pub data Command : Type 0 where
@@ -25,11 +26,15 @@ one_word word = cond (bytes_eq word (codes "--help")) (Some help) (cond (bytes_e
 abbrev pub three_words : List ℕ → List ℕ → List ℕ → Option Command
 three_words word schema query = cond (bytes_eq word (codes "check")) (Some (of_query check schema query)) None
 
--- `run SCHEMA QUERY DIR`, or `show types SCHEMA QUERY`
+-- what is shown
+abbrev pub shown : List ℕ → Option Aim
+shown what = cond (bytes_eq what (codes "types")) (Some show_types) (cond (bytes_eq what (codes "paths")) (Some show_paths) None)
+
+-- `run SCHEMA QUERY DIR`, or `show` with `types` or `paths` and SCHEMA QUERY
 abbrev pub four_words : List ℕ → List ℕ → List ℕ → List ℕ → Option Command
 four_words word second third fourth =
     cond (bytes_eq word (codes "run")) (Some (of_query (run fourth) second third))
-    (cond (bytes_eq word (codes "show") && bytes_eq second (codes "types")) (Some (of_query show_types third fourth)) None)
+    (cond (bytes_eq word (codes "show")) (option_map (λ aim. of_query aim third fourth) (shown second)) None)
 
 -- the command that words are, if they are a listed form
 unfoldable pub command_of : List (List ℕ) → Option Command
@@ -43,6 +48,7 @@ abbrev pub aim_asks : Aim → Bool
 aim_asks (run folder) = true
 aim_asks check = false
 aim_asks show_types = false
+aim_asks show_paths = false
 
 abbrev pub asks_server : Option Command → Bool
 asks_server None = false

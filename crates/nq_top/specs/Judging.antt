@@ -7,8 +7,9 @@ use Rattle.nq_model.specs.declared.table.Cell.{Cell}
 use Rattle.nq_model.specs.declared.table.Schema.{Schema}
 use Rattle.nq_model.specs.declared.table.TableShape.{TableShape}
 use Rattle.nq_edge.specs.Edge.{Files, bytes_at}
+use Rattle.show_texts.specs.Paths.{paths_text}
 use Rattle.sql_profile.specs.declared.server.Loaded.{Loaded}
-use Rattle.nq_top.specs.Commands.{Aim, run, check, show_types, Command, help, version, of_query, command_of, file_of, accepted_line, type_line}
+use Rattle.nq_top.specs.Commands.{Aim, run, check, show_types, show_paths, Command, help, version, of_query, command_of, file_of, accepted_line, type_line}
 use Rattle.nq_top.specs.Help.{help_text, version_text}
 use Rattle.nq_top.specs.Reading.{QueryReading, Reading, schema_read, term_read, type_read, rows_read}
 use Rattle.nq_top.specs.declared.refusal.Refused.{Refused}
@@ -83,6 +84,7 @@ unfoldable pub aim_judged : Files → Aim → Schema → PlacedTerm → TypeTree
 aim_judged files (run folder) schema term type = run_judged files folder schema term
 aim_judged files check schema term type = at_once (written accepted_line)
 aim_judged files show_types schema term type = at_once (written (type_line type))
+aim_judged files show_paths schema term type = at_once (written (paths_text type))
 
 -- a query that was read: it is typed over the schema
 abbrev pub term_judged : Files → Aim → Schema → PlacedTerm → Judgement

@@ -1,9 +1,12 @@
--- What the texts of a schema, of a query and of a table are read as: what each spells, or why it is refused.
+-- What the texts of a schema, of a query and of a table are read as: what each spells, or why it is refused; and
+-- what a query that is accepted unfolds to.
 use Rattle.std.specs.Prelude.{◌≢◌, ℕ, List, Result, Ok, Err}
 use Rattle.nq_model.specs.Judging.{BrokenRule, program_judged}
 use Rattle.nq_model.specs.QueryTexts.{Spells, HasFault, Fault}
-use Rattle.nq_model.specs.Terms.{PlacedTerm}
+use Rattle.nq_model.specs.Terms.{PlacedTerm, bare}
 use Rattle.nq_model.specs.Types.{TypeTree}
+use Rattle.nq_model.specs.Typing.{IsAccepted}
+use Rattle.nq_model.specs.Unfolding.{Unfolds}
 use Rattle.nq_model.specs.declared.table.Cell.{Cell}
 use Rattle.nq_model.specs.declared.table.Schema.{Schema}
 use Rattle.nq_model.specs.declared.table.TableShape.{TableShape}
@@ -41,10 +44,17 @@ pub record QueryReading : Type 0 where
   pub says : List ℕ → Result PlacedTerm SyntaxFault
   pub right : (text : List ℕ) → ReadsQuery (says text) text
 
--- texts as they are read
+-- Queries as they are unfolded: to each that is accepted the plain term at which its steps end. There is one such
+-- reading of accepted queries, since their steps end, and in one term.
+pub record PlainReading : Type 0 where
+  pub says : PlacedTerm → PlacedTerm
+  pub right : (schema : Schema) (term : PlacedTerm) (type : TypeTree) → IsAccepted schema (bare term) type → Unfolds term (says term)
+
+-- texts as they are read, and queries as they are unfolded
 pub record Reading : Type 0 where
   pub schemas : SchemaReading
   pub queries : QueryReading
+  pub plain : PlainReading
 
 -- a fault as what it is refused for
 abbrev pub refused_as : {A F : Type 0} → (F → Refused) → Result A F → Result A Refused

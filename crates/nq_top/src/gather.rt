@@ -19,6 +19,7 @@ use crate::words::{Aim, Command, command_of};
 use nq_edge::Inputs;
 use nq_model::{Label, List, Memory, Node, Schema, TableShape, Term, Text, Ty};
 use nq_types::write_type;
+use show_texts::paths_text;
 use std::alloc::Global;
 
 /// The most bytes of a schema and of a query.
@@ -114,6 +115,7 @@ fn gather_aim<I: Inputs>(
         Aim::Run(folder) => gather_run(alloc, inputs, folder, schema, term),
         Aim::Check => Ok(Gathered::Text(List::from_slice(alloc, b"ok\n")?)),
         Aim::ShowTypes => Ok(Gathered::Text(type_line(alloc, ty)?)),
+        Aim::ShowPaths => Ok(Gathered::Text(paths_text(alloc, ty)?)),
     }
 }
 

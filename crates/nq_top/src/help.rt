@@ -17,6 +17,7 @@ pub fn help_text(alloc: Global) -> Result<List<u8>, Memory>
 nq run SCHEMA QUERY DIR     writes the value of the query over the tables of DIR
 nq check SCHEMA QUERY       writes ok where the query is accepted
 nq show types SCHEMA QUERY  writes the type of the query
+nq show paths SCHEMA QUERY  writes a line for each bag constructor of the type
 nq --help                   writes this text
 nq --version                writes the name and the version of the program
 

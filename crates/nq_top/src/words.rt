@@ -1,7 +1,7 @@
 // The words of the command line.
 ghost use Rattle.std.specs.Prelude.{◌≡◌, map, option_map, string_bytes};
-ghost use Rattle.nq_top.specs.Commands.{one_word, three_words, four_words, command_of};
-ghost use Rattle.nq_top.specs.Words.{command_view};
+ghost use Rattle.nq_top.specs.Commands.{one_word, three_words, shown, four_words, command_of};
+ghost use Rattle.nq_top.specs.Words.{aim_view, command_view};
 
 /// What is done with a query that is accepted.
 #[derive(Clone, Copy)]
@@ -12,6 +12,8 @@ pub enum Aim<'a> {
     Check,
     /// Its type is written.
     ShowTypes,
+    /// The paths of its type are written.
+    ShowPaths,
 }
 
 /// What the words ask for.
@@ -47,6 +49,19 @@ fn three_words<'a>(word: &str, schema: &'a str, query: &'a str) -> Option<Comman
     }
 }
 
+// What is shown.
+fn shown<'a>(what: &str) -> Option<Aim<'a>>
+    ensures { option_map aim_view result ≡ shown what.now }
+{
+    if what == "types" {
+        Some(Aim::ShowTypes)
+    } else if what == "paths" {
+        Some(Aim::ShowPaths)
+    } else {
+        None
+    }
+}
+
 // The command of four words.
 fn four_words<'a>(
     word: &str,
@@ -58,8 +73,11 @@ fn four_words<'a>(
 {
     if word == "run" {
         Some(Command::OfQuery(Aim::Run(fourth), second, third))
-    } else if word == "show" && second == "types" {
-        Some(Command::OfQuery(Aim::ShowTypes, third, fourth))
+    } else if word == "show" {
+        match shown(second) {
+            Some(aim) => Some(Command::OfQuery(aim, third, fourth)),
+            None => None,
+        }
     } else {
         None
     }

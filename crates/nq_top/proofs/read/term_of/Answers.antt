@@ -9,4 +9,4 @@ use Rattle.nq_top.proofs.read.term_of.Goals as goal
 pub returns-in-Err-clause-says : goal.returns-in-Err-clause-says
 returns-in-Err-clause-says c = λ reading.
     subst (λ (r : InputRefusal). ReadSays placed (term_read reading c.args.text.now) (Err r)) (sym c.query_refusal.ensures)
-    (fault_said reading c.args.text.now c.in-Err.fault c.in-Err.ensures)
+    (fault_said reading c.args.text.now c.in-Err.fault c.in-Err.ensures.parsed)
