@@ -79,36 +79,54 @@ fn both(alloc: Global, left: Expr, right: Expr) -> Result<Expr, Memory>
 /// A base term as an expression of at most so many levels, where these generators stand outside.
 #[cycle(expr)]
 #[tactic(auto, using(nq_ir::proofs::Forms::base_int, nq_ir::proofs::Forms::base_bool, nq_ir::proofs::Forms::base_text, nq_ir::proofs::Forms::base_column, nq_ir::proofs::Forms::base_unary, nq_ir::proofs::Forms::base_binary, nq_ir::proofs::Forms::base_choose, nq_ir::proofs::Forms::base_empty, crate::proofs::Built::int_built, crate::proofs::Built::bool_built, crate::proofs::Built::text_built, crate::proofs::Built::unary_built, crate::proofs::Built::binary_built, crate::proofs::Built::choose_built))]
-pub(crate) fn expr(
-    alloc: Global,
-    outer: &[Gen],
-    base: &Base,
-    levels: u64,
-) -> Result<Expr, Memory>
+pub(crate) fn expr(alloc: Global, outer: &[Gen], base: &Base, levels: u64) -> Result<Expr, Memory>
     ensures { IfOk result (λ made. expr_tree made ≡ base_expr (in_gens outer.now) (base_tree base.now)) }
 {
     let levels = below(levels, 1)?;
     match base {
-        Base::Int(number) => Ok(Expr { place: 0, node: ExprNode::Int(*number) }),
-        Base::Bool(truth) => Ok(Expr { place: 0, node: ExprNode::Bool(*truth) }),
-        Base::Text(text) => Ok(Expr { place: 0, node: ExprNode::Text(text.copy(alloc)?) }),
-        Base::Column { generator, column: name } => {
-            column(alloc, is_in(outer, *generator), *generator, name)
-        }
+        Base::Int(number) => Ok(Expr {
+            place: 0,
+            node: ExprNode::Int(*number),
+        }),
+        Base::Bool(truth) => Ok(Expr {
+            place: 0,
+            node: ExprNode::Bool(*truth),
+        }),
+        Base::Text(text) => Ok(Expr {
+            place: 0,
+            node: ExprNode::Text(text.copy(alloc)?),
+        }),
+        Base::Column {
+            generator,
+            column: name,
+        } => { column(alloc, is_in(outer, *generator), *generator, name) }
         Base::Unary { op, of } => {
             let of = boxed(alloc, expr(alloc, outer, of, levels)?)?;
-            Ok(Expr { place: 0, node: ExprNode::Unary { op: *op, of } })
+            Ok(Expr {
+                place: 0,
+                node: ExprNode::Unary { op: *op, of },
+            })
         }
         Base::Binary { op, left, right } => {
             let left = boxed(alloc, expr(alloc, outer, left, levels)?)?;
             let right = boxed(alloc, expr(alloc, outer, right, levels)?)?;
-            Ok(Expr { place: 0, node: ExprNode::Binary { op: *op, left, right } })
+            Ok(Expr {
+                place: 0,
+                node: ExprNode::Binary {
+                    op: *op,
+                    left,
+                    right,
+                },
+            })
         }
         Base::Choose { test, yes, no } => {
             let test = boxed(alloc, expr(alloc, outer, test, levels)?)?;
             let yes = boxed(alloc, expr(alloc, outer, yes, levels)?)?;
             let no = boxed(alloc, expr(alloc, outer, no, levels)?)?;
-            Ok(Expr { place: 0, node: ExprNode::Choose { test, yes, no } })
+            Ok(Expr {
+                place: 0,
+                node: ExprNode::Choose { test, yes, no },
+            })
         }
         Base::Empty(tests) => emptiness(alloc, outer, tests.as_slice(), levels),
     }
@@ -117,16 +135,14 @@ pub(crate) fn expr(
 // An emptiness test: NOT EXISTS over its comprehensions, and TRUE where there is none.
 #[cycle(expr)]
 #[tactic(auto, using(crate::proofs::Built::bool_built, crate::proofs::Lists::no_tests, crate::proofs::Lists::some_tests))]
-fn emptiness(
-    alloc: Global,
-    outer: &[Gen],
-    tests: &[Test],
-    levels: u64,
-) -> Result<Expr, Memory>
+fn emptiness(alloc: Global, outer: &[Gen], tests: &[Test], levels: u64) -> Result<Expr, Memory>
     ensures { IfOk result (λ made. expr_tree made ≡ base_expr (in_gens outer.now) (BaseTree.empty (tests_of (map test_part tests.now)))) }
 {
     if tests.is_empty() {
-        return Ok(Expr { place: 0, node: ExprNode::Bool(true) });
+        return Ok(Expr {
+            place: 0,
+            node: ExprNode::Bool(true),
+        });
     }
     not_exists(alloc, selects(alloc, outer, tests, levels)?)
 }
@@ -136,7 +152,10 @@ fn not_exists(alloc: Global, selects: List<Select>) -> Result<Expr, Memory>
     ensures { IfOk result (λ made. expr_tree made ≡ ExprTree.not_exists (query_from (map select_tree selects))) }
 {
     let query = boxed(alloc, Query { selects })?;
-    Ok(Expr { place: 0, node: ExprNode::NotExists(query) })
+    Ok(Expr {
+        place: 0,
+        node: ExprNode::NotExists(query),
+    })
 }
 
 // A SELECT for each comprehension of a test.
@@ -158,18 +177,18 @@ fn selects(
 
 #[cycle(expr)]
 #[tactic(auto, using(nq_ir::proofs::Forms::test_is, crate::proofs::Lists::select_built))]
-fn test_select(
-    alloc: Global,
-    outer: &[Gen],
-    test: &Test,
-    levels: u64,
-) -> Result<Select, Memory>
+fn test_select(alloc: Global, outer: &[Gen], test: &Test, levels: u64) -> Result<Select, Memory>
     ensures { IfOk result (λ made. select_tree made ≡ test_select (in_gens outer.now) (test_part test.now)) }
 {
     let items = one_item(alloc)?;
     let from = sources(alloc, test.gens.as_slice())?;
     let keep = keep(alloc, outer, test.conds.as_slice(), levels)?;
-    Ok(Select { place: 0, items, from, keep })
+    Ok(Select {
+        place: 0,
+        items,
+        from,
+        keep,
+    })
 }
 
 /// What stands behind WHERE where these conditions are to hold, joined from the left, of at most so many
@@ -203,7 +222,10 @@ fn one_item(alloc: Global) -> Result<List<Item>, Memory>
     ensures { IfOk result (λ items. items_tree items ≡ one_item) }
 {
     let mut items = List::with_capacity(alloc, 1)?;
-    let one = Expr { place: 0, node: ExprNode::Int(1) };
+    let one = Expr {
+        place: 0,
+        node: ExprNode::Int(1),
+    };
     items.push(Item {
         name: one_name(alloc)?,
         place: 0,

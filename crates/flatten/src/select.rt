@@ -101,7 +101,16 @@ fn strand_values(
     let mut values = List::new(alloc);
     values.push(number(tag_around(lets, part.from))?)?;
     values.push(around_number(alloc, part.from)?)?;
-    push_values(alloc, &mut values, schema, outer, own, part.tag, &part.shape, DEEPEST)?;
+    push_values(
+        alloc,
+        &mut values,
+        schema,
+        outer,
+        own,
+        part.tag,
+        &part.shape,
+        DEEPEST,
+    )?;
     Ok(values)
 }
 
@@ -119,20 +128,26 @@ pub(crate) fn part_select(
     let items = answer_items(alloc, strand_values(alloc, schema, lets, part)?)?;
     let from = after_let(alloc, part.from, part.gens.as_slice())?;
     let keep = keep(alloc, outer, part.conds.as_slice(), DEEPEST)?;
-    Ok(Select { place: 0, items, from, keep })
+    Ok(Select {
+        place: 0,
+        items,
+        from,
+        keep,
+    })
 }
 
 /// The SELECT of a let.
 #[tactic(auto, using(crate::proofs::Lists::select_built))]
-pub(crate) fn let_select(
-    alloc: Global,
-    schema: &Schema,
-    query: &LetQuery,
-) -> Result<Select, Memory>
+pub(crate) fn let_select(alloc: Global, schema: &Schema, query: &LetQuery) -> Result<Select, Memory>
     ensures { IfOk result (λ made. select_tree made ≡ let_select (column_names schema.now.tables) (let_tree query.now)) }
 {
     let items = let_items(alloc, schema, query.gens.as_slice())?;
     let from = sources(alloc, query.gens.as_slice())?;
     let keep = keep(alloc, &[], query.conds.as_slice(), DEEPEST)?;
-    Ok(Select { place: 0, items, from, keep })
+    Ok(Select {
+        place: 0,
+        items,
+        from,
+        keep,
+    })
 }

@@ -23,12 +23,7 @@ fn query(selects: List<Select>) -> Query
 }
 
 // The WITH query of the let with a number.
-fn with_query(
-    alloc: Global,
-    schema: &Schema,
-    number: u64,
-    from: &LetQuery,
-) -> Result<With, Memory>
+fn with_query(alloc: Global, schema: &Schema, number: u64, from: &LetQuery) -> Result<With, Memory>
     ensures { IfOk result (λ made. with_tree made ∷ [] ≡ withs_from (column_names schema.now.tables) number (let_tree from.now ∷ [])) }
 {
     let name = with_name(alloc, number)?;
@@ -58,7 +53,10 @@ fn empty_select(alloc: Global, columns: &[ColumnType]) -> Result<Select, Memory>
     ensures { IfOk result (λ made. query_from (select_tree made ∷ []) ≡ empty_query columns.now) }
 {
     let items = answer_items(alloc, zeros(alloc, columns)?)?;
-    let never = Expr { place: 0, node: ExprNode::Bool(false) };
+    let never = Expr {
+        place: 0,
+        node: ExprNode::Bool(false),
+    };
     Ok(Select {
         place: 0,
         items,
