@@ -47,13 +47,13 @@ fn put_withs(text: &mut String, withs: &[With]) -> Result<(), Memory>
     Ok(())
 }
 
-/// The text of a tree that can be spelled: keywords in capitals and one space between words, names in double
-/// quotes, each operation in parentheses, no final `;`. It spells the same tree, at a depth of its own bytes.
+/// The text of a tree: keywords in capitals and one space between words, names in double quotes, each operation
+/// in parentheses, no final `;`. Where texts can spell the tree, this one spells it, at a depth of its own bytes.
 /// The only error is that memory wants.
 pub fn print(alloc: Global, text: &SqlText) -> Result<List<u8>, Memory>
-    requires { IsSpellable (sql_tree text.now) }
     ensures is { IfOk result (λ bytes. bytes ≡ printed (sql_tree text.now)) }
-    ensures spells { IfOk result (λ bytes. (tree : PlacedSql) × Spells First (length bytes) bytes tree × (bare tree ≡ sql_tree text.now)) }
+    ensures spells { IfOk result (λ bytes. IsSpellable (sql_tree text.now)
+        → (tree : PlacedSql) × Spells First (length bytes) bytes tree × (bare tree ≡ sql_tree text.now)) }
 {
     let mut written = String::new(alloc);
     put_withs(&mut written, text.withs.as_slice())?;

@@ -1,0 +1,6 @@
+pub mod Lookups
+pub mod Scopes
+pub mod Walks
+pub mod Outcomes
+pub mod Turns
+pub mod Selects

@@ -1,0 +1,74 @@
+-- What a step of the walk answers, beside its verdict; and what the program's values stand for.
+use Rattle.std.specs.Prelude.{◌≡◌, ℕ, ⊤, cond, List, [], ◌∷◌, ◌++◌, map, Option, Some, None, is_some, Result, Ok, Err}
+use Rattle.std.specs.Option.{option_map}
+use Rattle.nq_model.specs.Tables.{Columns, types_of}
+use Rattle.sql_profile.specs.declared.tree.Expr.{Expr}
+use Rattle.sql_profile.specs.declared.tree.Item.{Item}
+use Rattle.sql_profile.specs.declared.tree.Source.{Source}
+use Rattle.sql_profile.specs.Scope.{Aliases, Broken, Fine, Shapes, Verdict, and_then, found, judge_items, judge_keep, or_broken, same_types, shapes_of_schema, unless}
+use Rattle.sql_profile.specs.Trees.{PlacedExprs, PlacedItems, PlacedKeep, PlacedSelect, select_at, exprs_of, items_of, keep_of, placed_expr, placed_item}
+use Rattle.sql_scope.specs.declared.fault.ScopeFault.{ScopeFault}
+use Rattle.sql_scope.specs.declared.fault.ScopeFault.TheVariants as fault
+use Rattle.sql_scope.specs.declared.aliases.Bound.{Bound}
+use Rattle.sql_scope.specs.declared.aliases.Scope.{Scope}
+use Rattle.sql_scope.specs.declared.aliases.Scope.TheFolds.{fold-Scope}
+use Rattle.sql_scope.specs.declared.aliases.Scope.TheOpen.{Scope-F}
+use Rattle.sql_scope.specs.declared.tables.Tables.{Tables}
+
+-- the fault of a step, where it is not want of memory, is that of the verdict
+abbrev pub Faults : {A : Type 0} → Verdict A → ScopeFault → Type 0
+Faults v fault.Memory = ⊤
+Faults v (fault.Broken rule place) = v ≡ Broken rule place
+
+-- the step answers the verdict, but for want of memory
+abbrev pub Gives : {A : Type 0} → Result A ScopeFault → Verdict A → Type 0
+Gives (Ok x) v = v ≡ Fine x
+Gives (Err e) v = Faults v e
+
+-- one after the other before these
+abbrev pub before : {A : Type 0} → List A → List A → List A
+before [] ts = ts
+before (w ∷ ws) ts = before ws (w ∷ ts)
+
+-- the WITH queries, the newest first, and then the tables
+abbrev pub shapes_in : Tables → Shapes
+shapes_in t = before t.withs (shapes_of_schema t.shapes.now)
+
+-- the aliases of a FROM
+abbrev pub bounds : List Bound → Aliases
+bounds own = map (λ b. (b.alias.now, b.columns.now)) own
+
+abbrev pub scope_layer : Scope-F Aliases → Aliases
+scope_layer Scope-F.Outermost = []
+scope_layer (Scope-F.Inner own around) = bounds own.now ++ around.now
+
+-- the aliases that are seen, the innermost first
+abbrev pub aliases_in : Scope → Aliases
+aliases_in = fold-Scope Aliases scope_layer
+
+abbrev pub placed_keep : Option Expr → PlacedKeep
+placed_keep keep = keep_of (option_map placed_expr keep)
+
+abbrev pub placed_items : List Item → PlacedItems
+placed_items items = items_of (map placed_item items)
+
+abbrev pub placed_keys : List Expr → PlacedExprs
+placed_keys keys = exprs_of (map placed_expr keys)
+
+-- a source by rule 1 and then by rule 2
+abbrev pub judge_source : Shapes → Aliases → Source → Verdict (List ℕ × Columns)
+judge_source ts earlier s =
+    and_then (or_broken 1 s.place (found s.table ts)) (λ columns. unless (is_some (found s.alias earlier)) 2 s.place (Fine (s.alias, columns)))
+
+-- the columns of the first SELECT, as which this one has to be typed
+abbrev pub alike : Option Columns → Columns → ℕ → Verdict Columns
+alike None columns place = Fine columns
+alike (Some first) columns place = cond (same_types (types_of columns) (types_of first)) (Fine first) (Broken 8 place)
+
+-- a SELECT where the aliases of its FROM are seen: WHERE, then the items
+abbrev pub judge_parts : Shapes → Aliases → PlacedSelect → Verdict Columns
+judge_parts ts env (select_at p is from keep) = and_then (judge_keep ts env keep) (λ k. judge_items ts env [] is)
+
+-- the items of a SELECT where the aliases of its FROM are seen
+abbrev pub judge_columns : Shapes → Aliases → PlacedSelect → Verdict Columns
+judge_columns ts env (select_at p is from keep) = judge_items ts env [] is

@@ -1,0 +1,14 @@
+//! Whether an SQL tree is well scoped over a schema, with the types of its columns, or the first broken rule.
+#![tactic(auto)]
+
+mod aliases;
+mod base;
+mod fault;
+mod names;
+mod rules;
+mod tables;
+mod text;
+mod walk;
+
+pub use fault::ScopeFault;
+pub use text::scope;

@@ -1,0 +1,248 @@
+// The walk over expressions and queries in judging order.
+ghost use Rattle.std.specs.Prelude.{◌≡◌, [], IfErr, IfOk};
+ghost use Rattle.sql_profile.specs.Scope.{Fine, judge_expr, judge_items, judge_keep, judge_keys, judge_query, judge_select, judge_sources, judge_value};
+ghost use Rattle.sql_profile.specs.Trees.{placed_expr, placed_query, placed_select, placed_value};
+ghost use Rattle.sql_scope.specs.Steps.{Faults, Gives, aliases_in, alike, bounds, judge_columns, judge_parts, judge_source, placed_items, placed_keep, placed_keys, shapes_in};
+
+use crate::aliases::{Bound, Scope, bound_named};
+use crate::fault::ScopeFault;
+use crate::names::{among, same_types};
+use crate::rules;
+use crate::tables::Tables;
+use nq_model::{ColumnType, Label, List};
+use sql_profile::{Expr, ExprNode, Item, ItemValue, Query, Select, Source};
+use std::alloc::Global;
+
+// The type of an expression.
+#[cycle(judge)]
+fn judge_expr(
+    alloc: Global,
+    tables: &Tables<'_>,
+    scope: &Scope<'_>,
+    expr: &Expr,
+) -> Result<ColumnType, ScopeFault>
+    ensures { Gives result (judge_expr (shapes_in tables.now) (aliases_in scope.now) (placed_expr expr.now)) }
+{
+    let place = expr.place;
+    match &expr.node {
+        ExprNode::Int(_) => Ok(ColumnType::Int),
+        ExprNode::Bool(_) => Ok(ColumnType::Bool),
+        ExprNode::Text(_) => Ok(ColumnType::Text),
+        ExprNode::Column { alias, column } => rules::column(scope, place, alias, column),
+        ExprNode::Unary { op, of } => {
+            let of = judge_expr(alloc, tables, scope, of)?;
+            rules::unary(*op, place, of)
+        }
+        ExprNode::Binary { op, left, right } => {
+            let left = judge_expr(alloc, tables, scope, left)?;
+            let right = judge_expr(alloc, tables, scope, right)?;
+            rules::binary(*op, place, left, right)
+        }
+        ExprNode::Choose { test, yes, no } => {
+            let test = judge_expr(alloc, tables, scope, test)?;
+            let yes = judge_expr(alloc, tables, scope, yes)?;
+            let no = judge_expr(alloc, tables, scope, no)?;
+            rules::choice(place, test, yes, no)
+        }
+        ExprNode::NotExists(query) => {
+            judge_query(alloc, tables, scope, query)?;
+            Ok(ColumnType::Bool)
+        }
+    }
+}
+
+// The columns of a query: those of its first SELECT, as which each further one has to be typed.
+#[cycle(judge)]
+pub(crate) fn judge_query(
+    alloc: Global,
+    tables: &Tables<'_>,
+    scope: &Scope<'_>,
+    query: &Query,
+) -> Result<List<(Label, ColumnType)>, ScopeFault>
+    ensures { Gives result (judge_query (shapes_in tables.now) (aliases_in scope.now) (placed_query query.now)) }
+{
+    let mut first: Option<List<(Label, ColumnType)>> = None;
+    for select in query.selects.as_slice() {
+        let columns = judge_select(alloc, tables, scope, select)?;
+        first = Some(alike(first, columns, select.place)?);
+    }
+    match first {
+        Some(columns) => Ok(columns),
+        None => Err(ScopeFault::Broken { rule: 0, place: 0 }),
+    }
+}
+
+// The columns of a SELECT.
+#[cycle(judge)]
+fn judge_select(
+    alloc: Global,
+    tables: &Tables<'_>,
+    scope: &Scope<'_>,
+    select: &Select,
+) -> Result<List<(Label, ColumnType)>, ScopeFault>
+    ensures { Gives result (judge_select (shapes_in tables.now) (aliases_in scope.now) (placed_select select.now)) }
+{
+    let own = judge_sources(alloc, &*tables, select.from.as_slice())?;
+    let inner = Scope::Inner(own.as_slice(), &*scope);
+    judge_parts(alloc, tables, &inner, select)
+}
+
+// The columns of a SELECT where the aliases of its FROM are seen: its condition, and then its items.
+#[cycle(judge)]
+fn judge_parts(
+    alloc: Global,
+    tables: &Tables<'_>,
+    scope: &Scope<'_>,
+    select: &Select,
+) -> Result<List<(Label, ColumnType)>, ScopeFault>
+    ensures { Gives result (judge_parts (shapes_in tables.now) (aliases_in scope.now) (placed_select select.now)) }
+{
+    judge_keep(alloc, tables, scope, &select.keep)?;
+    judge_columns(alloc, tables, scope, select)
+}
+
+// The columns that the items of a SELECT make.
+#[cycle(judge)]
+fn judge_columns(
+    alloc: Global,
+    tables: &Tables<'_>,
+    scope: &Scope<'_>,
+    select: &Select,
+) -> Result<List<(Label, ColumnType)>, ScopeFault>
+    ensures { Gives result (judge_columns (shapes_in tables.now) (aliases_in scope.now) (placed_select select.now)) }
+{
+    judge_items(alloc, tables, scope, select.items.as_slice())
+}
+
+// The condition of a SELECT, if there is one, is a truth value.
+#[cycle(judge)]
+fn judge_keep(
+    alloc: Global,
+    tables: &Tables<'_>,
+    scope: &Scope<'_>,
+    keep: &Option<Expr>,
+) -> Result<ColumnType, ScopeFault>
+    ensures { Gives result (judge_keep (shapes_in tables.now) (aliases_in scope.now) (placed_keep keep.now)) }
+{
+    match keep {
+        None => Ok(ColumnType::Bool),
+        Some(condition) => {
+            let given = judge_expr(alloc, tables, scope, condition)?;
+            rules::condition(condition.place, given)
+        }
+    }
+}
+
+// The columns that items make, whose names differ.
+#[cycle(judge)]
+fn judge_items(
+    alloc: Global,
+    tables: &Tables<'_>,
+    scope: &Scope<'_>,
+    items: &[Item],
+) -> Result<List<(Label, ColumnType)>, ScopeFault>
+    ensures { Gives result (judge_items (shapes_in tables.now) (aliases_in scope.now) [] (placed_items items.now)) }
+{
+    let mut columns = List::with_capacity(alloc, items.len())?;
+    for item in items {
+        let ty = judge_value(alloc, tables, scope, &item.value)?;
+        if among(columns.as_slice(), &item.name) {
+            return Err(ScopeFault::Broken {
+                rule: 7,
+                place: item.place,
+            });
+        }
+        columns.push((item.name.copy(alloc)?, ty))?;
+    }
+    Ok(columns)
+}
+
+#[cycle(judge)]
+fn judge_value(
+    alloc: Global,
+    tables: &Tables<'_>,
+    scope: &Scope<'_>,
+    value: &ItemValue,
+) -> Result<ColumnType, ScopeFault>
+    ensures { Gives result (judge_value (shapes_in tables.now) (aliases_in scope.now) (placed_value value.now)) }
+{
+    match value {
+        ItemValue::Plain(expr) => judge_expr(alloc, tables, scope, expr),
+        ItemValue::Number(keys) => judge_keys(alloc, tables, scope, keys.as_slice()),
+    }
+}
+
+// Order keys may have any type.
+#[cycle(judge)]
+fn judge_keys(
+    alloc: Global,
+    tables: &Tables<'_>,
+    scope: &Scope<'_>,
+    keys: &[Expr],
+) -> Result<ColumnType, ScopeFault>
+    ensures { Gives result (judge_keys (shapes_in tables.now) (aliases_in scope.now) (placed_keys keys.now)) }
+{
+    for key in keys {
+        judge_expr(alloc, tables, scope, key)?;
+    }
+    Ok(ColumnType::Int)
+}
+
+// The aliases of a FROM, each with the columns of its source.
+fn judge_sources<'a>(
+    alloc: Global,
+    tables: &'a Tables<'_>,
+    sources: &'a [Source],
+) -> Result<List<Bound<'a>>, ScopeFault>
+    ensures ok { IfOk result (λ own. judge_sources (shapes_in tables.now) [] sources.now ≡ Fine (bounds own)) }
+    ensures err { IfErr result (Faults (judge_sources (shapes_in tables.now) [] sources.now)) }
+{
+    let mut own = List::with_capacity(alloc, sources.len())?;
+    for source in sources {
+        let bound = judge_source(tables, own.as_slice(), source)?;
+        own.push(bound)?;
+    }
+    Ok(own)
+}
+
+// A source names a table or a WITH query, and its alias is none of the earlier ones.
+fn judge_source<'a>(
+    tables: &'a Tables<'_>,
+    earlier: &[Bound<'a>],
+    source: &'a Source,
+) -> Result<Bound<'a>, ScopeFault>
+    ensures ok { IfOk result (λ bound. judge_source (shapes_in tables.now) (bounds earlier.now) source.now ≡ Fine (bound.alias.now, bound.columns.now)) }
+    ensures err { IfErr result (Faults (judge_source (shapes_in tables.now) (bounds earlier.now) source.now)) }
+{
+    let place = source.place;
+    let Some(columns) = tables.find(&source.table) else {
+        return Err(ScopeFault::Broken { rule: 1, place });
+    };
+    if bound_named(earlier, &source.alias).is_some() {
+        return Err(ScopeFault::Broken { rule: 2, place });
+    }
+    Ok(Bound {
+        alias: &source.alias,
+        columns,
+    })
+}
+
+// The columns of the first SELECT, as which this one has to be typed.
+fn alike(
+    first: Option<List<(Label, ColumnType)>>,
+    columns: List<(Label, ColumnType)>,
+    place: u64,
+) -> Result<List<(Label, ColumnType)>, ScopeFault>
+    ensures { Gives result (alike first columns place) }
+{
+    match first {
+        None => Ok(columns),
+        Some(first) => {
+            if same_types(columns.as_slice(), first.as_slice()) {
+                Ok(first)
+            } else {
+                Err(ScopeFault::Broken { rule: 8, place })
+            }
+        }
+    }
+}
