@@ -9,7 +9,7 @@ use Rattle.nq_ir.specs.declared.normal.Comp.{Comp}
 use Rattle.nq_ir.specs.declared.path.Step.{Step}
 use Rattle.nq_ir.specs.declared.shredded.Strand.{Strand}
 use Rattle.nq_ir.specs.Spots.{PlacedComp, StrandTree, both, comps_at, comps_below, placed, shape_of, shape_of_fields, shaped, strand_tree, comps_in}
-use Rattle.nq_ir.specs.Trees.{BaseTree, Comps, Conds, and_cond, base_tree, conds_of, bodies_of, body_tree, comp, comp_part, comps_of, conds_tree, shapes_of, with_body, with_shape}
+use Rattle.nq_ir.specs.Trees.{BaseTree, Comps, Conds, and_cond, base_tree, conds_of, body_tree, comp, comp_part, comps_of, conds_tree, shapes_of, with_body, with_shape}
 use Rattle.nq_ir.proofs.Forms.{comp_is}
 use Rattle.shred_terms.specs.Placed.{at_body, at_field, below, comps_tree, field_shapes, fields_tree, placed_in, whole}
 use Rattle.shred_terms.specs.declared.around.Around.{Around}

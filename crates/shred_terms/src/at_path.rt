@@ -44,9 +44,9 @@ fn strands_at(alloc: Global, normal: &Normal, steps: &[Step]) -> Result<List<Str
     Ok(strands)
 }
 
-// The type of the elements at a path.
+/// The type of the elements at a path.
 #[tactic(auto, using(nq_ir::proofs::Forms::form_is))]
-fn element_copy(alloc: Global, normal: &Normal, steps: &[Step]) -> Result<Ty, Memory>
+pub fn element_copy(alloc: Global, normal: &Normal, steps: &[Step]) -> Result<Ty, Memory>
     ensures { IfOk result (λ element. type_tree element ≡ element_at (bag (form_tree normal.now).element) steps.now) }
 {
     let found = match steps.split_first() {

@@ -1,4 +1,4 @@
-use Rattle.std.proofs.Common.{◌≡◌, map, take}
+use Rattle.std.proofs.Common.{◌≡◌, take}
 use Rattle.nq_ir.specs.Trees.{shapes_view}
 use Rattle.shred_terms.specs.Placed.{field_shapes}
 use Rattle.shred_terms.proofs.shape.+shape.Given as goal
