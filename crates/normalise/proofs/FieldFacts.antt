@@ -1,0 +1,64 @@
+-- Fields of bodies, in label order and found by label.
+use Rattle.std.proofs.Common.{◌≡◌, ℕ, zero, suc, ◌<◌, List, [], ◌∷◌, map, refl, sym, ap, ◌∙◌, Bool, true, false, cond, length, arith, Some, option_map, slice_get, slice_index_or, drop, bytes_eq}
+use Rattle.std.specs.declared.cmp.Ordering.{Ordering}
+use Rattle.std.specs.Ordering.{is_lt, is_gt}
+use Rattle.std.specs.Cmp.{IsTotalOrder}
+use Rattle.std.specs.List.Sorted.{IsSortedBy, IsStableBy}
+use Rattle.nq_model.specs.NamedRows.{Label}
+use Rattle.nq_model.specs.Orders.{label_cmp, by_label, put_by}
+use Rattle.nq_model.specs.Tables.{Columns}
+use Rattle.nq_model.specs.Terms.{TermTree, term_fields_of}
+use Rattle.nq_model.specs.declared.table.TableShape.{TableShape}
+use Rattle.nq_model.proofs.Canonical.{label_order}
+use Rattle.nq_model.proofs.Orders.{sorted_mapped}
+use Rattle.nq_model.proofs.StableSorts.{stable_sort}
+use Rattle.nq_ir.specs.RawForms.{RawBody, raw_field, raw_plain, raw_column, put_raw, columns_body, raw_field_among, raw_form, raw_fields}
+use Rattle.normalise.specs.Raw.{fields_of, fields_view, raw_body, raw_fields_of}
+use Rattle.normalise.specs.declared.raw.RawBody.{RawBody as CodeBody}
+
+abbrev pub field_cmp : (Label × CodeBody) → (Label × CodeBody) → Ordering
+field_cmp f g = label_cmp f.0 g.0
+
+fields_total : IsTotalOrder field_cmp
+fields_total = record {
+  antisymm = λ f g. label_order.total.antisymm f.0 g.0;
+  trans = λ f g h p q. label_order.total.trans f.0 g.0 h.0 p q;
+  congr = λ f g h p. label_order.total.congr f.0 g.0 h.0 p;
+}
+
+-- what a stable sort by labels gives
+pub labels_sorted : (xs ys : List (Label × CodeBody)) → IsStableBy (λ f g. is_lt (field_cmp f g)) xs ys → IsSortedBy (λ f g. is_lt (field_cmp f g)) ys → fields_view ys ≡ by_label (fields_view xs)
+labels_sorted xs ys stable up =
+    ap (map (λ (f : Label × CodeBody). (f.0, raw_body f.1))) (stable_sort field_cmp fields_total xs ys stable up)
+    ∙ sym (sorted_mapped (λ (f : Label × CodeBody). (f.0, raw_body f.1)) field_cmp (λ f g. label_cmp f.0 g.0) (λ f g. refl) xs)
+
+put_is : (l : Label) (b : RawBody) (fs : List (Label × RawBody)) → fields_of (put_by (λ f g. label_cmp f.0 g.0) (l, b) fs) ≡ put_raw l b (fields_of fs)
+put_is l b [] = refl
+put_is l b (f ∷ fs) = go (is_gt (label_cmp l f.0)) (put_is l b fs)
+  where
+    go : (t : Bool) → fields_of (put_by (λ f g. label_cmp f.0 g.0) (l, b) fs) ≡ put_raw l b (fields_of fs) → fields_of (cond t (f ∷ put_by (λ f g. label_cmp f.0 g.0) (l, b) fs) ((l, b) ∷ f ∷ fs)) ≡ cond t (raw_field f.0 f.1 (put_raw l b (fields_of fs))) (raw_field l b (raw_field f.0 f.1 (fields_of fs)))
+    go true i = ap (raw_field f.0 f.1) i
+    go false i = refl
+
+pub columns_are : (cs : Columns) → fields_of (by_label (map (λ c. (c.0, raw_plain (raw_column 0 c.0))) cs)) ≡ columns_body cs
+columns_are [] = refl
+columns_are (c ∷ cs) =
+    put_is c.0 (raw_plain (raw_column 0 c.0)) (by_label (map (λ c. (c.0, raw_plain (raw_column 0 c.0))) cs))
+    ∙ ap (put_raw c.0 (raw_plain (raw_column 0 c.0))) (columns_are cs)
+
+pub fields_are : (S : List TableShape) (es : List RawBody) (fs : List (Label × TermTree)) → fields_of (by_label (map (λ f. (f.0, raw_form S f.1 es)) fs)) ≡ raw_fields S (term_fields_of fs) es
+fields_are S es [] = refl
+fields_are S es (f ∷ fs) =
+    put_is f.0 (raw_form S f.1 es) (by_label (map (λ f. (f.0, raw_form S f.1 es)) fs))
+    ∙ ap (put_raw f.0 (raw_form S f.1 es)) (fields_are S es fs)
+
+pub got : {X : Type 0} (xs : List X) (i : ℕ) (x d : X) → i < length xs → x ≡ slice_index_or xs i d → slice_get xs i ≡ Some x
+got [] i x d h e = absurd (omega (arith, h))
+got (y ∷ xs) zero x d h e = ap Some (sym e)
+got (y ∷ xs) (suc i) x d h e = got xs i x d (omega (arith, h)) e
+
+pub found : (l : Label) (fs : List (Label × CodeBody)) (i : ℕ) (x d : Label × CodeBody) → i < length fs → x ≡ slice_index_or fs i d → bytes_eq l x.0 ≡ true → Some (raw_field_among l (raw_fields_of (drop i fs))) ≡ option_map (λ f. raw_body f.1) (slice_get fs i)
+found l [] i x d h e b = absurd (omega (arith, h))
+found l (y ∷ fs) zero x d h e b =
+    ap (λ t. Some (cond t (raw_body y.1) (raw_field_among l (raw_fields_of fs)))) (sym (ap (λ (z : Label × CodeBody). bytes_eq l z.0) e) ∙ b)
+found l (y ∷ fs) (suc i) x d h e b = found l fs i x d (omega (arith, h)) e b

@@ -1,0 +1,10 @@
+pub mod Views
+pub mod Lists
+pub mod Numbering
+pub mod Copies
+pub mod Scopes
+pub mod FieldFacts
+pub mod Choices
+pub mod Walks
+pub mod Whole
+pub mod NumberedBodies

@@ -1,0 +1,4 @@
+pub mod Raw
+pub mod Numbers
+pub mod Scopes
+pub mod Choices

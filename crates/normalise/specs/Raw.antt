@@ -1,0 +1,105 @@
+-- The code's bodies as raw forms.
+use Rattle.std.specs.Prelude.{ℕ, ◌+◌, ◌++◌, List, [], ◌∷◌, map, length}
+use Rattle.nq_model.specs.NamedRows.{Label}
+use Rattle.nq_model.specs.declared.table.Cell.TheVariants as cell
+use Rattle.nq_ir.specs.RawForms.{RawBase, raw_literal, raw_column, raw_unary, raw_binary, raw_choose, raw_empty, RawConds, no_raw, and_raw, RawTests, no_raw_test, raw_test, RawBody, raw_plain, raw_rec, raw_bag, RawFields, no_raw_field, raw_field, RawComps, no_raw_comp, raw_comp, up_bases, up_body, both_raw}
+use Rattle.normalise.specs.declared.raw.RawBase.{RawBase as CodeBase}
+use Rattle.normalise.specs.declared.raw.RawTest.{RawTest as CodeTest}
+use Rattle.normalise.specs.declared.raw.RawBase.TheFolds.{fold-RawBase, fold-RawTest}
+use Rattle.normalise.specs.declared.raw.RawBase.TheOpen.{RawBase-F, RawTest-F}
+use Rattle.normalise.specs.declared.raw.RawBody.{RawBody as CodeBody}
+use Rattle.normalise.specs.declared.raw.RawComp.{RawComp as CodeComp}
+use Rattle.normalise.specs.declared.raw.RawBody.TheFolds.{fold-RawBody, fold-RawComp}
+use Rattle.normalise.specs.declared.raw.RawBody.TheOpen.{RawBody-F, RawComp-F}
+
+abbrev pub conds_of : List RawBase → RawConds
+conds_of [] = no_raw
+conds_of (b ∷ bs) = and_raw b (conds_of bs)
+
+-- one comprehension of a test
+pub record TestPart : Type 0 where
+  pub tables : List Label
+  pub conds : RawConds
+
+abbrev pub tests_of : List TestPart → RawTests
+tests_of [] = no_raw_test
+tests_of (t ∷ ts) = raw_test t.tables t.conds (tests_of ts)
+
+abbrev pub fields_of : List (Label × RawBody) → RawFields
+fields_of [] = no_raw_field
+fields_of (f ∷ fs) = raw_field f.0 f.1 (fields_of fs)
+
+-- one comprehension
+pub record CompPart : Type 0 where
+  pub tables : List Label
+  pub conds : RawConds
+  pub body : RawBody
+
+abbrev pub comps_of : List CompPart → RawComps
+comps_of [] = no_raw_comp
+comps_of (c ∷ cs) = raw_comp c.tables c.conds c.body (comps_of cs)
+
+abbrev pub base_layer : RawBase-F RawBase TestPart → RawBase
+base_layer (RawBase-F.Int n) = raw_literal (cell.Int n)
+base_layer (RawBase-F.Bool b) = raw_literal (cell.Bool b)
+base_layer (RawBase-F.Text t) = raw_literal (cell.Text t)
+base_layer (RawBase-F.Column i l) = raw_column i l
+base_layer (RawBase-F.Unary op b) = raw_unary op b.value
+base_layer (RawBase-F.Binary op a b) = raw_binary op a.value b.value
+base_layer (RawBase-F.Choose x a b) = raw_choose x.value a.value b.value
+base_layer (RawBase-F.Empty ts) = raw_empty (tests_of ts)
+
+abbrev pub test_layer : RawTest-F RawBase TestPart → TestPart
+test_layer t = record { tables = t.tables; conds = conds_of t.conds }
+
+-- the raw form of a base term of the code, and of a comprehension of a test
+abbrev pub raw_base : CodeBase → RawBase
+raw_base = fold-RawBase RawBase TestPart base_layer test_layer
+
+abbrev pub test_part : CodeTest → TestPart
+test_part = fold-RawTest RawBase TestPart base_layer test_layer
+
+abbrev pub raw_conds : List CodeBase → RawConds
+raw_conds bs = conds_of (map raw_base bs)
+
+abbrev pub raw_tests : List CodeTest → RawTests
+raw_tests ts = tests_of (map test_part ts)
+
+abbrev pub body_layer : RawBody-F RawBody CompPart → RawBody
+body_layer (RawBody-F.Plain b) = raw_plain (raw_base b)
+body_layer (RawBody-F.Rec fs) = raw_rec (fields_of fs)
+body_layer (RawBody-F.Bag cs) = raw_bag (comps_of cs)
+
+abbrev pub comp_layer : RawComp-F RawBody CompPart → CompPart
+comp_layer c = record { tables = c.tables; conds = raw_conds c.conds; body = c.body }
+
+-- the raw form of a body of the code, and of a comprehension
+abbrev pub raw_body : CodeBody → RawBody
+raw_body = fold-RawBody RawBody CompPart body_layer comp_layer
+
+abbrev pub comp_part : CodeComp → CompPart
+comp_part = fold-RawComp RawBody CompPart body_layer comp_layer
+
+abbrev pub fields_view : List (Label × CodeBody) → List (Label × RawBody)
+fields_view fs = map (λ f. (f.0, raw_body f.1)) fs
+
+abbrev pub raw_fields_of : List (Label × CodeBody) → RawFields
+raw_fields_of fs = fields_of (fields_view fs)
+
+abbrev pub raw_comps : List CodeComp → RawComps
+raw_comps cs = comps_of (map comp_part cs)
+
+-- n more generators around, outside the first c
+abbrev pub up_test : ℕ → ℕ → TestPart → TestPart
+up_test n c t = record { tables = t.tables; conds = up_bases n (length t.tables + c) t.conds }
+
+abbrev pub up_comp : ℕ → ℕ → CompPart → CompPart
+up_comp n c p = record { tables = p.tables; conds = up_bases n (length p.tables + c) p.conds; body = up_body n (length p.tables + c) p.body }
+
+-- a comprehension inside the generators gs and the conditions bs
+abbrev pub inside_part : List Label → RawConds → CompPart → CompPart
+inside_part gs bs p = record { tables = gs ++ p.tables; conds = both_raw (up_bases (length p.tables) 0 bs) p.conds; body = p.body }
+
+-- a comprehension of a test
+abbrev pub bodiless : CompPart → TestPart
+bodiless p = record { tables = p.tables; conds = p.conds }

@@ -1,0 +1,20 @@
+//! Normal forms: a plain term becomes a union of comprehensions over tables.
+#![tactic(auto)]
+
+mod answer;
+mod choice;
+mod comps;
+mod depth;
+mod fields;
+mod forms;
+mod number_base;
+mod number_body;
+mod numbers;
+mod raw;
+mod raw_copy;
+mod scope;
+mod table;
+mod types;
+mod walk;
+
+pub use answer::normalise;

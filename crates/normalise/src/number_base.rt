@@ -1,0 +1,142 @@
+// The numbers of the generators in base terms.
+ghost use Rattle.std.specs.Prelude.{◌≡◌, ◌+◌, IfOk, length, map};
+ghost use Rattle.nq_ir.specs.NormalForms.{gens_in_base, number_base, number_gens};
+ghost use Rattle.nq_ir.specs.Trees.{base_tree, test_part as numbered_part};
+ghost use Rattle.normalise.specs.Raw.{raw_base, test_part};
+ghost use Rattle.normalise.specs.Numbers.{numbers, bases_numbered, gens_in_bases, gens_in_test, test_numbered, tests_numbered, gens_in_parts};
+
+use crate::numbers::Numbers;
+use crate::raw::{RawBase, RawTest};
+use crate::raw_copy::plus;
+use nq_ir::{Base, Gen, Test};
+use nq_model::{Label, List, Memory, boxed};
+use std::alloc::Global;
+
+/// A base term with numbers from `next` on, and the number after its last.
+#[cycle(number_base)]
+pub(crate) fn number_base(
+    alloc: Global,
+    raw: &RawBase,
+    next: u64,
+    scope: &Numbers,
+) -> Result<(Base, u64), Memory>
+    ensures { IfOk result (λ r. (base_tree r.0 ≡ number_base next (numbers scope.now) (raw_base raw.now)) × (r.1 ≡ next + gens_in_base (raw_base raw.now))) }
+{
+    match raw {
+        RawBase::Int(number) => Ok((Base::Int(*number), next)),
+        RawBase::Bool(truth) => Ok((Base::Bool(*truth), next)),
+        RawBase::Text(text) => Ok((Base::Text(text.copy(alloc)?), next)),
+        RawBase::Column { back, column } => {
+            let generator = scope.at(*back)?;
+            let column = column.copy(alloc)?;
+            Ok((Base::Column { generator, column }, next))
+        }
+        RawBase::Unary { op, of } => {
+            let (of, next) = number_base(alloc, of, next, scope)?;
+            let of = boxed(alloc, of)?;
+            Ok((Base::Unary { op: *op, of }, next))
+        }
+        RawBase::Binary { op, left, right } => {
+            let (left, next) = number_base(alloc, left, next, scope)?;
+            let (right, next) = number_base(alloc, right, next, scope)?;
+            let left = boxed(alloc, left)?;
+            let right = boxed(alloc, right)?;
+            Ok((
+                Base::Binary {
+                    op: *op,
+                    left,
+                    right,
+                },
+                next,
+            ))
+        }
+        RawBase::Choose { test, yes, no } => {
+            let (test, next) = number_base(alloc, test, next, scope)?;
+            let (yes, next) = number_base(alloc, yes, next, scope)?;
+            let (no, next) = number_base(alloc, no, next, scope)?;
+            let test = boxed(alloc, test)?;
+            let yes = boxed(alloc, yes)?;
+            let no = boxed(alloc, no)?;
+            Ok((Base::Choose { test, yes, no }, next))
+        }
+        RawBase::Empty(tests) => {
+            let (tests, next) = number_tests(alloc, tests.as_slice(), next, scope)?;
+            Ok((Base::Empty(tests), next))
+        }
+    }
+}
+
+/// Conditions with numbers from `first` on, and the number after their last.
+#[cycle(number_base)]
+pub(crate) fn number_conds(
+    alloc: Global,
+    conds: &[RawBase],
+    first: u64,
+    scope: &Numbers,
+) -> Result<(List<Base>, u64), Memory>
+    ensures { IfOk result (λ r. (map base_tree r.0 ≡ bases_numbered first (numbers scope.now) (map raw_base conds.now)) × (r.1 ≡ first + gens_in_bases (map raw_base conds.now))) }
+{
+    let mut numbered = List::with_capacity(alloc, conds.len())?;
+    let mut next = first;
+    for cond in conds {
+        let (base, after) = number_base(alloc, cond, next, scope)?;
+        numbered.push(base)?;
+        next = after;
+    }
+    Ok((numbered, next))
+}
+
+#[cycle(number_base)]
+fn number_tests(
+    alloc: Global,
+    tests: &[RawTest],
+    first: u64,
+    scope: &Numbers,
+) -> Result<(List<Test>, u64), Memory>
+    ensures { IfOk result (λ r. (map numbered_part r.0 ≡ tests_numbered first (numbers scope.now) (map test_part tests.now)) × (r.1 ≡ first + gens_in_parts (map test_part tests.now))) }
+{
+    let mut numbered = List::with_capacity(alloc, tests.len())?;
+    let mut next = first;
+    for test in tests {
+        let (part, after) = number_test(alloc, test, next, scope)?;
+        numbered.push(part)?;
+        next = after;
+    }
+    Ok((numbered, next))
+}
+
+#[cycle(number_base)]
+fn number_test(
+    alloc: Global,
+    test: &RawTest,
+    next: u64,
+    scope: &Numbers,
+) -> Result<(Test, u64), Memory>
+    ensures { IfOk result (λ r. (numbered_part r.0 ≡ test_numbered next (numbers scope.now) (test_part test.now)) × (r.1 ≡ next + gens_in_test (test_part test.now))) }
+{
+    let gens = number_gens(alloc, test.tables.as_slice(), next)?;
+    let count = test.tables.len() as u64;
+    let inner = Numbers::Dealt {
+        first: next,
+        count,
+        outer: scope,
+    };
+    let (conds, after) = number_conds(alloc, test.conds.as_slice(), plus(next, count)?, &inner)?;
+    Ok((Test { gens, conds }, after))
+}
+
+/// Generators with numbers from `next` on.
+pub(crate) fn number_gens(alloc: Global, tables: &[Label], next: u64) -> Result<List<Gen>, Memory>
+    ensures { IfOk result (λ gens. gens ≡ number_gens next tables.now) }
+{
+    let mut gens = List::with_capacity(alloc, tables.len())?;
+    let mut number = next;
+    for table in tables {
+        gens.push(Gen {
+            number,
+            table: table.copy(alloc)?,
+        })?;
+        number = plus(number, 1)?;
+    }
+    Ok(gens)
+}
