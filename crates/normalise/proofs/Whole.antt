@@ -16,7 +16,8 @@ use Rattle.nq_ir.specs.Meanings.{form_meaning, rows_in}
 use Rattle.nq_ir.specs.NormalForms.{element_type, gens_in_comps, normal_form, number_comps, tags_in_comps}
 use Rattle.nq_ir.specs.RawForms.{RawBody, RawComps, raw_comps_in, raw_form}
 use Rattle.nq_ir.specs.Trees.{FormTree}
-use Rattle.nq_ir.specs.WellFormed.{AreTablesOf, IsWellFormed}
+use Rattle.nq_model.specs.SchemaTables.{AreTablesOf}
+use Rattle.nq_ir.specs.WellFormed.{IsWellFormed}
 use Rattle.nq_ir.specs.Words.{FormWords, SchemaWords, TermWords}
 use Rattle.normalise.specs.Scopes.{bodies, scope_layer}
 use Rattle.normalise.specs.declared.scope.Scope.{Scope-F, fold-roll-Scope}
