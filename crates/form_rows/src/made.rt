@@ -1,0 +1,116 @@
+// The worked forms. Each comprehension has one generator, whose number is the comprehension's tag.
+use nq_ir::{Base, Body, Comp, Gen, Normal};
+use nq_model::{Label, List, Memory, Ty, boxed};
+use std::alloc::Global;
+
+#[derive(Clone, Copy)]
+pub enum Form {
+    // A department with its employees, and a record with nobody.
+    TwoSides,
+    // Departments, their employees, and their tasks.
+    ThreeLevels,
+    // Tags that do not rise: within two bags, and of the two comprehensions around them.
+    Mixed,
+    Falling,
+    // A record of two bags.
+    TwoBags,
+    // A bag of bags of bags, of which the outer two have one element each.
+    Deep,
+    // A record without fields.
+    Empty,
+}
+
+fn comp(alloc: Global, tag: u64, body: Body) -> Result<Comp, Memory> {
+    let mut gens = List::new(alloc);
+    gens.push(Gen {
+        number: tag,
+        table: Label::from_str(alloc, "t")?,
+    })?;
+    let conds = List::new(alloc);
+    Ok(Comp {
+        tag,
+        gens,
+        conds,
+        body,
+    })
+}
+
+// A bag of ints, with a comprehension for each tag.
+fn ints(alloc: Global, tags: &[u64]) -> Result<Normal, Memory> {
+    let mut parts = List::new(alloc);
+    for tag in tags {
+        parts.push(comp(alloc, *tag, Body::Plain(Base::Int(7)))?)?;
+    }
+    Ok(Normal {
+        element: Ty::Int,
+        parts,
+    })
+}
+
+// A bag with one comprehension, over a record of the named bags. Where none is named the record is empty.
+fn records(alloc: Global, tag: u64, named: Vec<(&str, Normal)>) -> Result<Normal, Memory> {
+    let mut bodies = List::new(alloc);
+    let mut types = List::new(alloc);
+    for (name, bag) in named {
+        let element = boxed(alloc, bag.element.copy(alloc)?)?;
+        types.push((Label::from_str(alloc, name)?, Ty::Bag(element)))?;
+        bodies.push((Label::from_str(alloc, name)?, Body::Bag(bag)))?;
+    }
+    let mut parts = List::new(alloc);
+    parts.push(comp(alloc, tag, Body::Rec(bodies))?)?;
+    Ok(Normal {
+        element: Ty::Rec(types),
+        parts,
+    })
+}
+
+// A bag of bags, with a comprehension for each.
+fn bags(alloc: Global, each: Vec<(u64, Normal)>) -> Result<Normal, Memory> {
+    let mut parts = List::new(alloc);
+    let mut element = Ty::Int;
+    for (tag, bag) in each {
+        element = Ty::Bag(boxed(alloc, bag.element.copy(alloc)?)?);
+        parts.push(comp(alloc, tag, Body::Bag(bag))?)?;
+    }
+    Ok(Normal { element, parts })
+}
+
+// The comprehensions of both.
+fn both(first: Normal, second: Normal) -> Result<Normal, Memory> {
+    let Normal { element, mut parts } = first;
+    for part in second.parts.into_vec() {
+        parts.push(part)?;
+    }
+    Ok(Normal { element, parts })
+}
+
+pub fn made(alloc: Global, form: Form) -> Result<Normal, Memory> {
+    match form {
+        Form::TwoSides => both(
+            records(alloc, 1, vec![in alloc; ("b", ints(alloc, &[2])?)]?)?,
+            records(alloc, 3, vec![in alloc; ("b", ints(alloc, &[])?)]?)?,
+        ),
+        Form::ThreeLevels => {
+            let staff = records(alloc, 2, vec![in alloc; ("tasks", ints(alloc, &[3])?)]?)?;
+            records(alloc, 1, vec![in alloc; ("employees", staff)]?)
+        }
+        Form::Mixed => bags(
+            alloc,
+            vec![in alloc; (1, ints(alloc, &[10, 30])?), (2, ints(alloc, &[20])?)]?,
+        ),
+        Form::Falling => bags(
+            alloc,
+            vec![in alloc; (7, ints(alloc, &[8])?), (2, ints(alloc, &[3])?)]?,
+        ),
+        Form::TwoBags => records(
+            alloc,
+            1,
+            vec![in alloc; ("a", ints(alloc, &[2])?), ("b", ints(alloc, &[3])?)]?,
+        ),
+        Form::Deep => {
+            let inner = bags(alloc, vec![in alloc; (2, ints(alloc, &[3])?)]?)?;
+            bags(alloc, vec![in alloc; (1, inner)]?)
+        }
+        Form::Empty => records(alloc, 1, Vec::new(alloc)),
+    }
+}
