@@ -17,3 +17,4 @@ pub mod Spellable
 pub mod Examples
 pub mod Built
 pub mod Lists
+pub mod Clauses

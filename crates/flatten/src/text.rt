@@ -1,10 +1,19 @@
 // The whole tree of a let form.
 ghost use Rattle.std.specs.Prelude.{◌≡◌, ◌∷◌, [], ◌<◌, ◌^◌, IfOk, List, length, map};
-ghost use Rattle.nq_ir.specs.Lets.{let_tree, part_tree, strand_of, let_form_tree};
+ghost use Rattle.nq_model.specs.Databases.{database};
+ghost use Rattle.nq_model.specs.SchemaTables.{AreTablesOf};
+ghost use Rattle.nq_model.specs.Tables.{IsProperSchema};
+ghost use Rattle.nq_model.specs.declared.table.Cell.{Cell};
+ghost use Rattle.nq_ir.specs.Lets.{FlatRow, FormGives, IsLetFormOf, let_tree, part_tree, strand_of, let_form_tree};
+ghost use Rattle.nq_ir.specs.Meanings.{rows_in};
 ghost use Rattle.nq_ir.specs.WellFormed.{column_names};
+ghost use Rattle.shred_types.specs.Columns.{answer_columns, row_cells};
+ghost use Rattle.sql_profile.specs.AllowedAnswers.{TreeAllows};
+ghost use Rattle.sql_profile.specs.Scope.{IsWellScoped, shapes_of_schema};
+ghost use Rattle.sql_profile.specs.Servers.{held_of};
 ghost use Rattle.sql_profile.specs.Trees.{no_select, query_tree, select_tree, sql_tree, with_tree};
 ghost use Rattle.flatten.specs.Names.{with_name};
-ghost use Rattle.flatten.specs.Emitted.{emitted, empty_query, let_select, main_query, strand_select, withs_from};
+ghost use Rattle.flatten.specs.Emitted.{answer_shape, emitted, empty_query, let_select, main_query, strand_select, withs_from};
 ghost use Rattle.flatten.specs.Views.{query_from, part_strand_select};
 
 use crate::names::with_name;
@@ -104,8 +113,34 @@ fn main_selects(
 /// the SELECTs of its parts joined by UNION ALL. Its places are 0. The only error is that memory wants, as
 /// for an expression of more than 2,000 levels.
 ///
+/// Where the form is that of a shredded form over a proper schema, and the columns are those at its path, the tree is
+/// well scoped with these columns, and each answer that SQL allows to it is, laid out in columns, one that the form
+/// allows, however ties are numbered.
+///
 /// After Cheney, Lindley and Wadler, "Query Shredding", SIGMOD 2014.
 pub fn flatten(
+    alloc: Global,
+    schema: &Schema,
+    form: &LetForm,
+    columns: &[ColumnType],
+) -> Result<SqlText, Memory>
+    ensures is { IfOk result (λ text. sql_tree text ≡ emitted (column_names schema.now.tables) columns.now (let_form_tree form.now)) }
+    ensures scoped { IfOk result (λ text. IsProperSchema schema.now → IsLetFormOf schema.now (let_form_tree form.now)
+        → columns.now ≡ answer_columns (let_form_tree form.now).element
+        → IsWellScoped (shapes_of_schema schema.now.tables) (sql_tree text) (answer_shape columns.now)) }
+    ensures rows { IfOk result (λ text. IsProperSchema schema.now → IsLetFormOf schema.now (let_form_tree form.now)
+        → columns.now ≡ answer_columns (let_form_tree form.now).element
+        → (tables : List (List (List Cell))) → AreTablesOf schema.now.tables tables
+        → (answer : List (List Cell)) → TreeAllows (held_of schema.now.tables tables) (sql_tree text) answer
+        → (rows : List FlatRow) × FormGives (column_names schema.now.tables) (rows_in (database schema.now.tables tables)) (let_form_tree form.now) rows
+        × (answer ≡ map (row_cells (let_form_tree form.now).element) rows)) }
+{
+    let text = text_of(alloc, schema, form, columns)?;
+    Ok(text)
+}
+
+// That tree, for any form and any columns.
+fn text_of(
     alloc: Global,
     schema: &Schema,
     form: &LetForm,
