@@ -1,1 +1,3 @@
 pub mod Shredding
+pub mod Forms
+pub mod Queries

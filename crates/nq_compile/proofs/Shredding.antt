@@ -1,9 +1,9 @@
 -- The texts of a normal form shred it: the laws of the passes in a row.
-use Rattle.std.proofs.Common.{◌≡◌, ℕ, zero, suc, List, [], ◌∷◌, map, length, get_or, refl, sym, ap, ◌∙◌, subst}
+use Rattle.std.proofs.Common.{◌≡◌, ℕ, zero, suc, ◌<◌, ◌^◌, List, [], ◌∷◌, map, length, get_or, refl, sym, ap, ◌∙◌, subst}
 use Rattle.std.specs.List.{AllByRecursion as Each}
 use Rattle.nq_model.specs.Databases.{FilledTable, database}
 use Rattle.nq_model.specs.SchemaTables.{AreTablesOf}
-use Rattle.nq_model.specs.Tables.{Columns, types_of, IsProperSchema}
+use Rattle.nq_model.specs.Tables.{IsProperSchema}
 use Rattle.nq_model.specs.Types.{TypeTree, bag}
 use Rattle.nq_model.specs.Values.{Nested, Same}
 use Rattle.nq_model.proofs.Sameness.{same_trans}
@@ -23,16 +23,18 @@ use Rattle.shred_types.specs.Columns.{columns_at, answer_columns, row_cells}
 use Rattle.sql_profile.specs.AllowedAnswers.{TreeAllows}
 use Rattle.sql_profile.specs.Scope.{IsWellScoped, shapes_of_schema}
 use Rattle.sql_profile.specs.Servers.{held_of}
-use Rattle.sql_profile.specs.Texts.{Spells, TextAllows}
+use Rattle.sql_profile.specs.Spellable.{IsSpellable}
+use Rattle.sql_profile.specs.Texts.{TextAllows}
 use Rattle.sql_profile.specs.Tokens.{First}
-use Rattle.sql_profile.specs.Trees.{PlacedSql, SqlTree, bare}
+use Rattle.sql_profile.specs.Trees.{SqlTree, bare}
 use Rattle.sql_profile.specs.declared.server.Loaded.{Loaded}
 use Rattle.sql_profile.proofs.TextLaws.{at_most_one_tree}
-use Rattle.flatten.specs.Emitted.{flattened, answer_shape}
+use Rattle.flatten.specs.Emitted.{answer_shape}
 use Rattle.flatten.proofs.Allowed.{allowed_rows}
+use Rattle.flatten.proofs.Spellable.{tree_spellable}
 use Rattle.flatten.proofs.ScopeTree.{tree_scoped, types_named}
 use Rattle.stitcher.specs.FlatNumbers.{flat_numbers, AreLaidOut}
-use Rattle.stitcher.specs.Schemes.{AnswerRows, Reads, element_of, stitched}
+use Rattle.stitcher.specs.Schemes.{AnswerRows, stitched}
 use Rattle.stitcher.proofs.Stitched.{read_is_mean, flat_reads}
 use Rattle.nq_compile.specs.Shreds.{IsScopedText, Shreds, form_means}
 use Rattle.nq_compile.specs.Texts.{tree_of, text_of, texts_of, SpellsItself}
@@ -44,6 +46,14 @@ tree_allows schema s held rows spells allows =
     let same = at_most_one_tree First (length text) (length text) text allows.tree spells.0 allows.spelled spells.1 in
     let P : SqlTree → Type 0 = λ t. TreeAllows held t rows in
     subst P (ap bare same ∙ spells.2) allows.allowed
+
+-- the let form of a shredded form
+pub let_form_of : (schema : Schema) (s : ShreddedTree) → IsShreddedOf schema s → IsLetFormOf schema (insert_lets s)
+let_form_of schema s shredded = record { of = s; shredded = shredded; is = refl }
+
+-- a text can spell its tree
+pub let_form_spellable : (schema : Schema) (s : ShreddedTree) → IsProperSchema schema → IsShreddedOf schema s → length (insert_lets s).lets < 2 ^ 63 → length (answer_columns s.element) < 2 ^ 63 → IsSpellable (tree_of schema s)
+let_form_spellable schema s proper shredded few narrow = tree_spellable schema (insert_lets s) proper (let_form_of schema s shredded) few narrow
 
 -- an answer that holds rows, before those that do
 laid_more : (element : TypeTree) (elements : List TypeTree) (rows : List FlatRow) (more : List (List FlatRow)) (answer : AnswerRows) (answers : List AnswerRows) →

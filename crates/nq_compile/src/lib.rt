@@ -1,6 +1,10 @@
-//! All passes in a row: from a query to the SQL texts that shred it.
+//! All passes in a row: from a query or a normal form to the SQL texts that shred it.
 #![tactic(auto)]
 
-mod laws;
+mod compiled;
+mod normal;
+mod query;
 
-pub use laws::compiling_laws;
+pub use compiled::Compiled;
+pub use normal::compile_normal;
+pub use query::compile;
