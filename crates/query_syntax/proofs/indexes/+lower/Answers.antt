@@ -72,9 +72,9 @@ lower_under-returns-in_ok-fields-in-Rec-clause-gives t c =
     let now = c.args.scope.now in
     let parts = places_view c.in_ok-fields-in-Rec.fields in
     let known : lowered (syntax_view first) (reverse now) ≡ Ok (placed c.in_ok-first-in-Rec.first) =
-        along (λ (s : CodeSyntax). lowered (syntax_view s) (reverse now) ≡ Ok (placed c.in_ok-first-in-Rec.first)) c.into_inner-in-Rec.ensures c.in_ok-first-in-Rec.ensures.gives in
+    along (λ (s : CodeSyntax). lowered (syntax_view s) (reverse now) ≡ Ok (placed c.in_ok-first-in-Rec.first)) c.into_inner-in-Rec.ensures c.in_ok-first-in-Rec.ensures.gives in
     let fields : terms_so_far (reverse now) f (syntax_view first) c.in-Rec.others ≡ Ok parts =
-        along (λ (xs : List (List ℕ)). lowered (syntax_view first) (reverse xs) ≡ Ok (placed c.in_ok-first-in-Rec.first) → terms_so_far (reverse xs) f (syntax_view first) c.in-Rec.others ≡ Ok parts)
-        c.in_ok-first-in-Rec.ensures.scope (c.in_ok-fields-in-Rec.ensures.gives (syntax_view first)) known in
+    along (λ (xs : List (List ℕ)). lowered (syntax_view first) (reverse xs) ≡ Ok (placed c.in_ok-first-in-Rec.first) → terms_so_far (reverse xs) f (syntax_view first) c.in-Rec.others ≡ Ok parts)
+    c.in_ok-first-in-Rec.ensures.scope (c.in_ok-fields-in-Rec.ensures.gives (syntax_view first)) known in
     let whole : placed c.term-in-Rec.result ≡ at f.before (PlacedNode.rec (placed_fields_of parts)) = c.term-in-Rec.ensures ∙ ap (at f.before) (node_record c.in_ok-fields-in-Rec.fields) in
     record_whole (reverse now) c.args.syntax f c.in-Rec.first c.in-Rec.others c.in-Rec.closing parts c.in-Rec.is fields ∙ ap Ok (sym whole)
