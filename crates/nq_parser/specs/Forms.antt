@@ -1,10 +1,12 @@
 -- The unfinished forms of the reader as those of the machine, and how deep they make what they hold.
 use Rattle.std.specs.Prelude.{ℕ, suc, ◌+◌, max, List, [], ◌∷◌, length}
-use Rattle.nq_model.specs.QueryGrammar.{Syntax, type_depth, type_fields_depth, depth, fields_depth, deepest, fields_deepest}
+use Rattle.nq_model.specs.QueryGrammar.{Syntax, Fields, TypeFields, type_depth, type_fields_depth, depth, fields_depth, deepest, fields_deepest}
 use Rattle.nq_parser.specs.Machine.{FieldHead, AtFirst, AtNext, TypeHead, TAtFirst, TAtNext, Frame, InParen, InBag, InEmpty, InSource, InBody, InTest, InGuarded, InIf, InThen, InElse, InFunBody, InValue, InLetBody, InPrefix, InRight, InArg, InField, TypeFrame, TInBag, TInParen, TInRight, TInField, Around, InNil, InFun}
 use Rattle.query_syntax.specs.Symbols.{operator_view}
 use Rattle.query_syntax.specs.Trees.{syntax_view, type_view, fields, named, type_fields, typed}
+use Rattle.nq_parser.specs.declared.part.Fields.{Fields as CodeFields}
 use Rattle.nq_parser.specs.declared.part.Part.{Part}
+use Rattle.nq_parser.specs.declared.part.TypeFields.{TypeFields as CodeTypeFields}
 use Rattle.nq_parser.specs.declared.form.FieldHead.{FieldHead as CodeHead}
 use Rattle.nq_parser.specs.declared.form.FieldHead.TheVariants as head
 use Rattle.nq_parser.specs.declared.form.TypeHead.{TypeHead as CodeTypeHead}
@@ -19,13 +21,19 @@ use Rattle.nq_parser.specs.declared.form.Around.TheVariants as around
 abbrev pub part_view : Part → Syntax
 part_view p = syntax_view p.syntax.value
 
+abbrev pub fields_view : CodeFields → Fields
+fields_view fs = fields fs.first_name (syntax_view fs.first.value) (named fs.others)
+
 abbrev pub head_view : CodeHead → FieldHead
 head_view (head.First p) = AtFirst p
-head_view (head.Next fs c) = AtNext (fields (named fs.fields)) c
+head_view (head.Next fs c) = AtNext (fields_view fs) c
+
+abbrev pub type_fields_view : CodeTypeFields → TypeFields
+type_fields_view fs = type_fields fs.first_name (type_view fs.first.value) (typed fs.others)
 
 abbrev pub type_head_view : CodeTypeHead → TypeHead
 type_head_view (type_head.First p) = TAtFirst p
-type_head_view (type_head.Next fs c) = TAtNext (type_fields (typed fs.fields)) c
+type_head_view (type_head.Next fs c) = TAtNext (type_fields_view fs) c
 
 abbrev pub form_view : Form → Frame
 form_view (form.Paren p) = InParen p

@@ -2,10 +2,10 @@
 use Rattle.std.specs.Prelude.{◌≡◌, ⊤, List, Option, Some, None, Result, Ok, Err}
 use Rattle.nq_model.specs.declared.memory.Memory.{Memory}
 use Rattle.nq_parser.specs.Machine.{Frame, State, Want, AtWord, AtTable, AtEmpty, AtFor, AtForOpen, AtForName, AtWhere, AtFun, AtFunOpen, AtFunName, AtFunClose, AtLet, AtLetName, AtComma, AtLabel, AtDot, WantType, AtTypeWord, AtTypeComma, AtTypeLabel, HaveType, Have, Ready}
-use Rattle.nq_parser.specs.Forms.{part_view, around_view}
+use Rattle.nq_parser.specs.Forms.{part_view, fields_view, type_fields_view, around_view}
 use Rattle.nq_parser.specs.Stacks.{frames}
 use Rattle.nq_parser.specs.TypeStacks.{type_frames}
-use Rattle.query_syntax.specs.Trees.{type_view, fields, named, type_fields, typed}
+use Rattle.query_syntax.specs.Trees.{type_view}
 use Rattle.nq_parser.specs.declared.state.Position.{Position}
 use Rattle.nq_parser.specs.declared.state.Position.TheVariants as at
 use Rattle.nq_parser.specs.declared.state.State.{State as CodeState}
@@ -26,13 +26,13 @@ position_view (at.AtFunName p o x) k = AtFunName p o x.place x.name k
 position_view (at.AtFunClose p o x c t z) k = AtFunClose p o x.place x.name c (type_view t.ty) z k
 position_view (at.AtLet p) k = AtLet p k
 position_view (at.AtLetName p x) k = AtLetName p x.place x.name k
-position_view (at.AtComma fs c) k = AtComma (fields (named fs.fields)) c k
-position_view (at.AtLabel fs c l) k = AtLabel (fields (named fs.fields)) c l.place l.name k
+position_view (at.AtComma fs c) k = AtComma (fields_view fs) c k
+position_view (at.AtLabel fs c l) k = AtLabel (fields_view fs) c l.place l.name k
 position_view (at.AtDot s p) k = AtDot (part_view s) p k
 position_view (at.WantType t) k = WantType (type_frames t.forms.levels) (around_view t.around) k
 position_view (at.AtTypeWord p w t) k = AtTypeWord p w.place w.name (type_frames t.forms.levels) (around_view t.around) k
-position_view (at.AtTypeComma fs q t) k = AtTypeComma (type_fields (typed fs.fields)) q (type_frames t.forms.levels) (around_view t.around) k
-position_view (at.AtTypeLabel fs q l t) k = AtTypeLabel (type_fields (typed fs.fields)) q l.place l.name (type_frames t.forms.levels) (around_view t.around) k
+position_view (at.AtTypeComma fs q t) k = AtTypeComma (type_fields_view fs) q (type_frames t.forms.levels) (around_view t.around) k
+position_view (at.AtTypeLabel fs q l t) k = AtTypeLabel (type_fields_view fs) q l.place l.name (type_frames t.forms.levels) (around_view t.around) k
 position_view (at.HaveType t s) k = HaveType (type_view t.ty) (type_frames s.forms.levels) (around_view s.around) k
 position_view (at.Have s) k = Have (part_view s) k
 position_view (at.Ready s q) k = Ready (part_view s) q

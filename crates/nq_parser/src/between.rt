@@ -1,11 +1,11 @@
 // A token where one certain token has to come.
 ghost use Rattle.nq_model.specs.QueryGrammar.{First};
-ghost use Rattle.nq_parser.specs.Forms.{part_view};
+ghost use Rattle.nq_parser.specs.Forms.{fields_view, part_view};
 ghost use Rattle.nq_parser.specs.Machine.{at_comma, at_dot, at_empty, at_for, at_for_name, at_for_open, at_fun, at_fun_close, at_fun_name, at_fun_open, at_label, at_let, at_let_name, at_table, at_where, if_name};
 ghost use Rattle.nq_parser.specs.Stacks.{frames};
 ghost use Rattle.nq_parser.specs.States.{state_view, Stays, Steps};
 ghost use Rattle.query_syntax.specs.Symbols.{token_view};
-ghost use Rattle.query_syntax.specs.Trees.{fields as record_fields, named, type_view};
+ghost use Rattle.query_syntax.specs.Trees.{type_view};
 ghost use Rattle.nq_parser.specs.Words.{kind_view};
 
 use crate::form::{Around, FieldHead, Form};
@@ -317,7 +317,7 @@ pub fn at_comma(
     comma: u64,
     token: Token<'_>,
 ) -> Result<Option<State>, Memory>
-    ensures { Steps result (at_comma (record_fields (named fields.fields)) comma (frames stack.levels) (token_view token.entry)) }
+    ensures { Steps result (at_comma (fields_view fields) comma (frames stack.levels) (token_view token.entry)) }
 {
     match token.symbol {
         Symbol::Word(word) => {
@@ -344,7 +344,7 @@ pub fn at_label(
     label: Variable,
     token: Token<'_>,
 ) -> Result<Option<State>, Memory>
-    ensures { Steps result (at_label (record_fields (named fields.fields)) comma label.place label.name (frames stack.levels) (token_view token.entry)) }
+    ensures { Steps result (at_label (fields_view fields) comma label.place label.name (frames stack.levels) (token_view token.entry)) }
 {
     match token.symbol {
         Symbol::Assign => wants(

@@ -160,7 +160,9 @@ fn record(
     let depth = deeper(fields.depth)?;
     let types = fields.types;
     let syntax = Syntax::Rec {
-        fields: fields.fields,
+        first_name: fields.first_name,
+        first: fields.first,
+        others: fields.others,
         closing,
     };
     Part::new(alloc, syntax, depth, types)

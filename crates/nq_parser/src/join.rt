@@ -1,12 +1,12 @@
 // Whole forms of their parts.
 ghost use Rattle.std.specs.Prelude.{◌≡◌, IfOk};
-ghost use Rattle.nq_parser.specs.Forms.{form_view, head_view, part_view, type_head_view};
+ghost use Rattle.nq_parser.specs.Forms.{fields_view, form_view, head_view, part_view, type_fields_view, type_head_view};
 ghost use Rattle.nq_parser.specs.Machine.{joined, put_field, put_type};
-ghost use Rattle.query_syntax.specs.Trees.{fields as record_fields, named, type_fields, type_view, typed};
+ghost use Rattle.query_syntax.specs.Trees.{type_view};
 
 use crate::form::{FieldHead, Form, TypeHead};
 use crate::part::{Fields, Part, TypeFields, TypePart, deeper};
-use nq_model::{Label, List, Memory};
+use nq_model::{Label, List, Memory, boxed};
 use query_syntax::{FieldName, Syntax};
 use std::alloc::Global;
 
@@ -158,46 +158,43 @@ pub fn put_field(
     mark: u64,
     last: Part,
 ) -> Result<Fields, Memory>
-    ensures { IfOk result (λ fs. record_fields (named fs.fields) ≡ put_field (head_view head) place label mark (part_view last)) }
+    ensures { IfOk result (λ fs. fields_view fs ≡ put_field (head_view head) place label mark (part_view last)) }
 {
-    let Part {
-        syntax,
-        depth,
-        types,
-    } = last;
-    let syntax = Box::into_inner(syntax);
     match head {
         FieldHead::First { opening } => {
-            let mut fields = List::new(alloc);
-            let name = FieldName {
+            let first_name = FieldName {
                 before: opening,
                 place,
                 label,
                 mark,
             };
-            fields.push((name, syntax))?;
             Ok(Fields {
-                fields,
-                depth,
-                types,
+                first_name,
+                first: last.syntax,
+                others: List::new(alloc),
+                depth: last.depth,
+                types: last.types,
             })
         }
         FieldHead::Next {
             fields: before,
             comma,
         } => {
-            let depth = before.depth.max(depth);
-            let types = before.types.max(types);
-            let mut fields = before.fields;
+            let depth = before.depth.max(last.depth);
+            let types = before.types.max(last.types);
+            let syntax = Box::into_inner(last.syntax);
+            let mut others = before.others;
             let name = FieldName {
                 before: comma,
                 place,
                 label,
                 mark,
             };
-            fields.push((name, syntax))?;
+            others.push((name, syntax))?;
             Ok(Fields {
-                fields,
+                first_name: before.first_name,
+                first: before.first,
+                others,
                 depth,
                 types,
             })
@@ -215,35 +212,44 @@ pub fn put_type(
     mark: u64,
     last: TypePart,
 ) -> Result<TypeFields, Memory>
-    ensures { IfOk result (λ fs. type_fields (typed fs.fields) ≡ put_type (type_head_view head) place label mark (type_view last.ty)) }
+    ensures { IfOk result (λ fs. type_fields_view fs ≡ put_type (type_head_view head) place label mark (type_view last.ty)) }
 {
     let TypePart { ty, depth } = last;
     match head {
         TypeHead::First { opening } => {
-            let mut fields = List::new(alloc);
-            let name = FieldName {
+            let first_name = FieldName {
                 before: opening,
                 place,
                 label,
                 mark,
             };
-            fields.push((name, ty))?;
-            Ok(TypeFields { fields, depth })
+            let first = boxed(alloc, ty)?;
+            Ok(TypeFields {
+                first_name,
+                first,
+                others: List::new(alloc),
+                depth,
+            })
         }
         TypeHead::Next {
             fields: before,
             comma,
         } => {
             let depth = before.depth.max(depth);
-            let mut fields = before.fields;
+            let mut others = before.others;
             let name = FieldName {
                 before: comma,
                 place,
                 label,
                 mark,
             };
-            fields.push((name, ty))?;
-            Ok(TypeFields { fields, depth })
+            others.push((name, ty))?;
+            Ok(TypeFields {
+                first_name: before.first_name,
+                first: before.first,
+                others,
+                depth,
+            })
         }
     }
 }

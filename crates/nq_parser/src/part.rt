@@ -1,5 +1,5 @@
 // Parts that were read whole, with how deep they are.
-ghost use Rattle.std.specs.Prelude.{◌≡◌, ◌≤◌, suc, length, IfOk};
+ghost use Rattle.std.specs.Prelude.{◌≡◌, suc, IfOk};
 ghost use Rattle.nq_model.specs.QueryGrammar.{depth as depth_of, deepest, fields_depth, fields_deepest, type_depth, type_fields_depth};
 ghost use Rattle.query_syntax.specs.Trees.{syntax_view, type_view, fields as record_fields, named, type_fields, typed};
 
@@ -25,24 +25,26 @@ pub struct TypePart {
     ghost measured: { depth ≡ type_depth (type_view ty) },
 }
 
-/// The fields of a record that were read, at least one, and how deep their expressions and types are.
+/// The fields of a record that were read, and how deep their expressions and types are.
 #[derive(Drop)]
 pub struct Fields {
-    pub fields: List<(FieldName, Syntax)>,
+    pub first_name: FieldName,
+    pub first: Box<Syntax>,
+    pub others: List<(FieldName, Syntax)>,
     pub depth: u64,
     pub types: u64,
-    ghost some: { 1 ≤ length fields },
-    ghost measured: { depth ≡ fields_depth (record_fields (named fields)) },
-    ghost types_measured: { types ≡ fields_deepest (record_fields (named fields)) },
+    ghost measured: { depth ≡ fields_depth (record_fields first_name (syntax_view first.value) (named others)) },
+    ghost types_measured: { types ≡ fields_deepest (record_fields first_name (syntax_view first.value) (named others)) },
 }
 
-/// The fields of a record type that were read, at least one, and how deep their types are.
+/// The fields of a record type that were read, and how deep their types are.
 #[derive(Drop)]
 pub struct TypeFields {
-    pub fields: List<(FieldName, TypeSyntax)>,
+    pub first_name: FieldName,
+    pub first: Box<TypeSyntax>,
+    pub others: List<(FieldName, TypeSyntax)>,
     pub depth: u64,
-    ghost some: { 1 ≤ length fields },
-    ghost measured: { depth ≡ type_fields_depth (type_fields (typed fields)) },
+    ghost measured: { depth ≡ type_fields_depth (type_fields first_name (type_view first.value) (typed others)) },
 }
 
 /// One more; no memory holds a tree that is too deep for a `u64`.

@@ -148,7 +148,9 @@ fn record(
     let fields = put_type(alloc, head, place, label, mark, last)?;
     let depth = deeper(fields.depth)?;
     let ty = TypeSyntax::Rec {
-        fields: fields.fields,
+        first_name: fields.first_name,
+        first: fields.first,
+        others: fields.others,
         closing,
     };
     Ok(TypePart { ty, depth })

@@ -1,11 +1,10 @@
 // A token where one certain token of a record type has to come.
 ghost use Rattle.nq_model.specs.QueryGrammar.{First, kind};
-ghost use Rattle.nq_parser.specs.Forms.{around_view};
+ghost use Rattle.nq_parser.specs.Forms.{around_view, type_fields_view};
 ghost use Rattle.nq_parser.specs.Machine.{at_type_comma, at_type_label, at_type_word, no_type_label};
 ghost use Rattle.nq_parser.specs.Stacks.{frames};
 ghost use Rattle.nq_parser.specs.States.{Steps};
 ghost use Rattle.query_syntax.specs.Symbols.{token_view};
-ghost use Rattle.query_syntax.specs.Trees.{type_fields, typed};
 ghost use Rattle.nq_parser.specs.TypeStacks.{type_frames};
 
 use crate::form::{TypeForm, TypeHead};
@@ -28,7 +27,7 @@ pub fn at_type_comma(
     ty: TypeState,
     token: Token<'_>,
 ) -> Result<Option<State>, Memory>
-    ensures { Steps result (at_type_comma (type_fields (typed fields.fields)) comma (type_frames ty.forms.levels) (around_view ty.around) (frames stack.levels) (token_view token.entry)) }
+    ensures { Steps result (at_type_comma (type_fields_view fields) comma (type_frames ty.forms.levels) (around_view ty.around) (frames stack.levels) (token_view token.entry)) }
 {
     match token.symbol {
         Symbol::Word(word) => {
@@ -57,7 +56,7 @@ pub fn at_type_label(
     ty: TypeState,
     token: Token<'_>,
 ) -> Result<Option<State>, Memory>
-    ensures { Steps result (at_type_label (type_fields (typed fields.fields)) comma label.place label.name (type_frames ty.forms.levels) (around_view ty.around) (frames stack.levels) (token_view token.entry)) }
+    ensures { Steps result (at_type_label (type_fields_view fields) comma label.place label.name (type_frames ty.forms.levels) (around_view ty.around) (frames stack.levels) (token_view token.entry)) }
 {
     match token.symbol {
         Symbol::Colon => {

@@ -1,22 +1,31 @@
 -- Fields that are walked one by one.
-use Rattle.std.proofs.Common.{◌≡◌, arith, ℕ, Bool, true, false, List, [], ◌∷◌, ◌++◌, Result, Ok, Err, refl, sym, ap, ◌∙◌, append_assoc, ◌⊎◌, inl, inr, slice_get, Some}
-use Rattle.nq_model.specs.Types.{TypeTree, type_tree, fields_view}
-use Rattle.nq_model.specs.Terms.{PlacedTerm, placed}
+use Rattle.std.proofs.Common.{◌≡◌, ℕ, Bool, true, false, List, [], ◌∷◌, ◌++◌, Result, Ok, Err, refl, sym, ap, ◌∙◌, append_assoc, ◌⊎◌, inl, inr, Box, Global}
+use Rattle.nq_model.specs.Types.{TypeTree, field_types_of, type_tree, fields_view}
+use Rattle.nq_model.specs.Orders.{by_label}
+use Rattle.nq_model.specs.Terms.{PlacedTerm, PlacedNode, at, placed, placed_fields_of}
 use Rattle.nq_model.specs.QueryScope.{Name, among, labels, type_labels, fields_place}
-use Rattle.nq_model.specs.QueryGrammar.{Syntax, Fields, One, More}
+use Rattle.nq_model.specs.QueryGrammar.{TypeSyntax, Syntax, Fields, One, More}
 use Rattle.nq_model.specs.declared.ty.Ty.{Ty}
 use Rattle.nq_model.specs.declared.term.Term.{Term}
 use Rattle.query_syntax.specs.Lowering.{◌>>=◌, Gives, new_label, places_view, type_lowered, type_fields_lowered, lowered, fields_lowered}
 use Rattle.query_syntax.specs.Trees.{type_view, type_fields, typed, syntax_view, fields, named, grow}
-use Rattle.query_syntax.proofs.Views.{types_push, fields_push}
+use Rattle.query_syntax.proofs.Views.{type_rec, form_rec, types_push, fields_push}
 use Rattle.query_syntax.specs.declared.syntax.FieldName.{FieldName}
 use Rattle.query_syntax.specs.declared.syntax.TypeSyntax.{TypeSyntax as CodeType}
 use Rattle.query_syntax.specs.declared.syntax.Syntax.{Syntax as CodeSyntax}
+use Rattle.query_syntax.specs.declared.syntax.TypeSyntax.TheVariants as types
+use Rattle.query_syntax.specs.declared.syntax.Syntax.TheVariants as forms
 use Rattle.query_syntax.specs.declared.fault.SyntaxFault.{SyntaxFault}
 use Rattle.query_syntax.specs.declared.fault.SyntaxFault.TheVariants as code
 
 abbrev pub WantOr : SyntaxFault → Type 0 → Type 0
 WantOr e P = (e ≡ code.Memory) ⊎ P
+
+-- a fault that is handed on
+pub given : {A B : Type 0} (view : A → B) (r : Result A SyntaxFault) (R : Result B SyntaxFault) (S : Result B SyntaxFault) (e : SyntaxFault) → r ≡ Err e → S ≡ R → WantOr e (S ≡ Err e) → Gives view r R
+given view (Ok x) R S e h is w = cc
+given view (Err f) R S e h is (inl m) = let g : f ≡ e = cc in inl (g ∙ m)
+given view (Err f) R S e h is (inr k) = let g : e ≡ f = cc in inr (sym is ∙ k ∙ ap Err g)
 
 append_nil : {A : Type 0} (xs : List A) → xs ++ [] ≡ xs
 append_nil [] = refl
@@ -32,6 +41,9 @@ bind_label others name r s = s >>= (λ u. (r >>= (λ a. Ok (others ++ (name.labe
 
 abbrev bind_value : {B : Type 0} → List (Name × B) → FieldName → Result B SyntaxFault → Result (List (Name × B)) SyntaxFault
 bind_value others name r = r >>= (λ a. Ok (others ++ (name.label, a) ∷ []))
+
+abbrev bind_first : {B : Type 0} → FieldName → Result B SyntaxFault → Result (List (Name × B)) SyntaxFault
+bind_first name r = r >>= (λ a. Ok ((name.label, a) ∷ []))
 
 module _ {A B : Type 0} (low : A → Result B SyntaxFault) (so_far : List (FieldName × A) → Result (List (Name × B)) SyntaxFault) (seen : List (FieldName × A) → List Name) (more : (xs : List (FieldName × A)) (x : FieldName × A) → so_far (xs ++ x ∷ []) ≡ one_more (so_far xs) (seen xs) x.0 (low x.1)) where
   stops : (xs rest : List (FieldName × A)) (e : SyntaxFault) → so_far xs ≡ Err e → so_far (xs ++ rest) ≡ Err e
@@ -62,55 +74,90 @@ module _ {A B : Type 0} (low : A → Result B SyntaxFault) (so_far : List (Field
   value_more xs x done y before new h =
       more xs x ∙ ap (λ (r : Result (List (Name × B)) SyntaxFault). one_more r (seen xs) x.0 (low x.1)) before ∙ ap (bind_label done x.0 (low x.1)) new ∙ ap (bind_value done x.0) h
 
--- the fields of a record type so far
-abbrev pub types_so_far : List (FieldName × CodeType) → Result (List (Name × TypeTree)) SyntaxFault
-types_so_far [] = Ok []
-types_so_far (x ∷ xs) = type_fields_lowered (type_fields (typed (x ∷ xs)))
+-- the fields of a record type so far: the first, and some of the others
+abbrev pub types_so_far : FieldName → TypeSyntax → List (FieldName × CodeType) → Result (List (Name × TypeTree)) SyntaxFault
+types_so_far f t xs = type_fields_lowered (type_fields f t (typed xs))
 
-abbrev pub types_seen : List (FieldName × CodeType) → List Name
-types_seen [] = []
-types_seen (x ∷ xs) = type_labels (type_fields (typed (x ∷ xs)))
+abbrev pub types_seen : FieldName → TypeSyntax → List (FieldName × CodeType) → List Name
+types_seen f t xs = type_labels (type_fields f t (typed xs))
 
-pub types_more : (xs : List (FieldName × CodeType)) (x : FieldName × CodeType) → types_so_far (xs ++ x ∷ []) ≡ one_more (types_so_far xs) (types_seen xs) x.0 (type_lowered (type_view x.1))
-types_more [] x = refl
-types_more (y ∷ ys) x = ap type_fields_lowered (types_push (y ∷ ys) x (omega arith))
+pub types_more : (f : FieldName) (t : TypeSyntax) (xs : List (FieldName × CodeType)) (x : FieldName × CodeType)
+    → types_so_far f t (xs ++ x ∷ []) ≡ one_more (types_so_far f t xs) (types_seen f t xs) x.0 (type_lowered (type_view x.1))
+types_more f t xs x = ap type_fields_lowered (types_push f t xs x)
 
-pub types_seen_more : (xs : List (FieldName × CodeType)) (x : FieldName × CodeType) → types_seen (xs ++ x ∷ []) ≡ x.0.label ∷ types_seen xs
-types_seen_more [] x = refl
-types_seen_more (y ∷ ys) x = ap type_labels (types_push (y ∷ ys) x (omega arith))
+pub types_seen_more : (f : FieldName) (t : TypeSyntax) (xs : List (FieldName × CodeType)) (x : FieldName × CodeType) → types_seen f t (xs ++ x ∷ []) ≡ x.0.label ∷ types_seen f t xs
+types_seen_more f t xs x = ap type_labels (types_push f t xs x)
 
-pub types_all : (xs : List (FieldName × CodeType)) → (xs ≡ [] → ⊥) → types_so_far xs ≡ type_fields_lowered (type_fields (typed xs))
-types_all [] h = absurd (h refl)
-types_all (x ∷ xs) h = refl
+abbrev type_bind : Result (List (Name × TypeTree)) SyntaxFault → Result TypeTree SyntaxFault
+type_bind r = r >>= (λ parts. Ok (TypeTree.rec (field_types_of (by_label parts))))
 
-pub types_within : (xs rest all : List (FieldName × CodeType)) (x : FieldName × CodeType) → xs ++ x ∷ rest ≡ all → types_so_far all ≡ type_fields_lowered (type_fields (typed all))
-types_within [] rest all x e = let h : all ≡ [] → ⊥ = λ n. cc in types_all all h
-types_within (y ∷ ys) rest all x e = let h : all ≡ [] → ⊥ = λ n. cc in types_all all h
+-- a fault in the fields of a record type
+pub record_type_fault : (r : Result Ty SyntaxFault) (s : CodeType) (f : FieldName) (b : Box CodeType Global) (xs : List (FieldName × CodeType)) (q : ℕ) (e : SyntaxFault) → r ≡ Err e → s ≡ types.Rec f b xs q
+    → WantOr e (types_so_far f (type_view b.value) xs ≡ Err e) → Gives type_tree r (type_lowered (type_view s))
+record_type_fault r s f b xs q e is form w =
+    given type_tree r (type_lowered (type_view s)) (type_bind (types_so_far f (type_view b.value) xs)) e is
+    (sym (ap (λ z. type_lowered (type_view z)) form ∙ ap type_lowered (type_rec f b xs q))) (or_under w)
+  where
+    or_under : WantOr e (types_so_far f (type_view b.value) xs ≡ Err e) → WantOr e (type_bind (types_so_far f (type_view b.value) xs) ≡ Err e)
+    or_under (inl m) = inl m
+    or_under (inr h) = inr (ap type_bind h)
 
--- the fields of a record so far, under these binders
-abbrev pub terms_so_far : List Name → List (FieldName × CodeSyntax) → Result (List (Name × PlacedTerm)) SyntaxFault
-terms_so_far scope [] = Ok []
-terms_so_far scope (x ∷ xs) = fields_lowered (fields (named (x ∷ xs))) scope
+-- a fault in the first field is that of all
+pub first_type_fault : (f : FieldName) (t : TypeSyntax) (xs : List (FieldName × CodeType)) (e : SyntaxFault) → WantOr e (type_lowered t ≡ Err e) → WantOr e (types_so_far f t xs ≡ Err e)
+first_type_fault f t xs e (inl m) = inl m
+first_type_fault f t xs e (inr h) =
+    inr (stops (λ (s : CodeType). type_lowered (type_view s)) (types_so_far f t) (types_seen f t) (types_more f t) [] xs e (ap (bind_first f) h))
 
-abbrev pub terms_seen : List (FieldName × CodeSyntax) → List Name
-terms_seen [] = []
-terms_seen (x ∷ xs) = labels (fields (named (x ∷ xs)))
+-- the fields of a record so far, under these binders: the first, and some of the others
+abbrev pub terms_so_far : List Name → FieldName → Syntax → List (FieldName × CodeSyntax) → Result (List (Name × PlacedTerm)) SyntaxFault
+terms_so_far scope f s xs = fields_lowered (fields f s (named xs)) scope
 
-pub terms_more : (scope : List Name) (xs : List (FieldName × CodeSyntax)) (x : FieldName × CodeSyntax) → terms_so_far scope (xs ++ x ∷ []) ≡ one_more (terms_so_far scope xs) (terms_seen xs) x.0 (lowered (syntax_view x.1) scope)
-terms_more scope [] x = refl
-terms_more scope (y ∷ ys) x = ap (λ fs. fields_lowered fs scope) (fields_push (y ∷ ys) x (omega arith))
+abbrev pub terms_seen : FieldName → Syntax → List (FieldName × CodeSyntax) → List Name
+terms_seen f s xs = labels (fields f s (named xs))
 
-pub terms_seen_more : (xs : List (FieldName × CodeSyntax)) (x : FieldName × CodeSyntax) → terms_seen (xs ++ x ∷ []) ≡ x.0.label ∷ terms_seen xs
-terms_seen_more [] x = refl
-terms_seen_more (y ∷ ys) x = ap labels (fields_push (y ∷ ys) x (omega arith))
+pub terms_more : (scope : List Name) (f : FieldName) (s : Syntax) (xs : List (FieldName × CodeSyntax)) (x : FieldName × CodeSyntax)
+    → terms_so_far scope f s (xs ++ x ∷ []) ≡ one_more (terms_so_far scope f s xs) (terms_seen f s xs) x.0 (lowered (syntax_view x.1) scope)
+terms_more scope f s xs x = ap (λ fs. fields_lowered fs scope) (fields_push f s xs x)
 
-pub terms_all : (scope : List Name) (xs : List (FieldName × CodeSyntax)) → (xs ≡ [] → ⊥) → terms_so_far scope xs ≡ fields_lowered (fields (named xs)) scope
-terms_all scope [] h = absurd (h refl)
-terms_all scope (x ∷ xs) h = refl
+pub terms_seen_more : (f : FieldName) (s : Syntax) (xs : List (FieldName × CodeSyntax)) (x : FieldName × CodeSyntax) → terms_seen f s (xs ++ x ∷ []) ≡ x.0.label ∷ terms_seen f s xs
+terms_seen_more f s xs x = ap labels (fields_push f s xs x)
 
-pub terms_within : (scope : List Name) (xs rest all : List (FieldName × CodeSyntax)) (x : FieldName × CodeSyntax) → xs ++ x ∷ rest ≡ all → terms_so_far scope all ≡ fields_lowered (fields (named all)) scope
-terms_within scope [] rest all x e = let h : all ≡ [] → ⊥ = λ n. cc in terms_all scope all h
-terms_within scope (y ∷ ys) rest all x e = let h : all ≡ [] → ⊥ = λ n. cc in terms_all scope all h
+abbrev term_bind : Fields → Result (List (Name × PlacedTerm)) SyntaxFault → Result PlacedTerm SyntaxFault
+term_bind fs r = r >>= (λ parts. Ok (at (fields_place fs) (PlacedNode.rec (placed_fields_of parts))))
+
+grown_place : (fs : Fields) (xs : List (FieldName × Syntax)) → fields_place (grow fs xs) ≡ fields_place fs
+grown_place fs [] = refl
+grown_place fs (x ∷ xs) = grown_place (More fs x.0.before x.0.place x.0.label x.0.mark x.1) xs
+
+-- a record begins with the `(` before its first field
+pub opening_place : (x : FieldName) (e : Syntax) (xs : List (FieldName × Syntax)) → fields_place (fields x e xs) ≡ x.before
+opening_place x e xs = grown_place (One x.before x.place x.label x.mark e) xs
+
+-- a record whose fields are known
+pub record_whole : (scope : List Name) (s : CodeSyntax) (f : FieldName) (b : Box CodeSyntax Global) (xs : List (FieldName × CodeSyntax)) (q : ℕ) (parts : List (Name × PlacedTerm)) → s ≡ forms.Rec f b xs q
+    → terms_so_far scope f (syntax_view b.value) xs ≡ Ok parts → lowered (syntax_view s) scope ≡ Ok (at f.before (PlacedNode.rec (placed_fields_of parts)))
+record_whole scope s f b xs q parts form h =
+    ap (λ z. lowered (syntax_view z) scope) form ∙ ap (λ z. lowered z scope) (form_rec f b xs q)
+    ∙ ap (term_bind (fields f (syntax_view b.value) (named xs))) h
+    ∙ ap (λ p. Ok (at p (PlacedNode.rec (placed_fields_of parts)))) (opening_place f (syntax_view b.value) (named xs))
+
+-- a fault in the fields of a record
+pub record_fault : (scope : List Name) (r : Result Term SyntaxFault) (s : CodeSyntax) (f : FieldName) (b : Box CodeSyntax Global) (xs : List (FieldName × CodeSyntax)) (q : ℕ) (e : SyntaxFault) → r ≡ Err e → s ≡ forms.Rec f b xs q
+    → WantOr e (terms_so_far scope f (syntax_view b.value) xs ≡ Err e) → Gives placed r (lowered (syntax_view s) scope)
+record_fault scope r s f b xs q e is form w =
+    given placed r (lowered (syntax_view s) scope) (term_bind (fields f (syntax_view b.value) (named xs)) (terms_so_far scope f (syntax_view b.value) xs)) e is
+    (sym (ap (λ z. lowered (syntax_view z) scope) form ∙ ap (λ z. lowered z scope) (form_rec f b xs q))) (or_under w)
+  where
+    or_under : WantOr e (terms_so_far scope f (syntax_view b.value) xs ≡ Err e)
+        → WantOr e (term_bind (fields f (syntax_view b.value) (named xs)) (terms_so_far scope f (syntax_view b.value) xs) ≡ Err e)
+    or_under (inl m) = inl m
+    or_under (inr h) = inr (ap (term_bind (fields f (syntax_view b.value) (named xs))) h)
+
+-- a fault in the first field is that of all
+pub first_fault : (scope : List Name) (f : FieldName) (s : Syntax) (xs : List (FieldName × CodeSyntax)) (e : SyntaxFault) → WantOr e (lowered s scope ≡ Err e) → WantOr e (terms_so_far scope f s xs ≡ Err e)
+first_fault scope f s xs e (inl m) = inl m
+first_fault scope f s xs e (inr h) =
+    inr (stops (λ (x : CodeSyntax). lowered (syntax_view x) scope) (terms_so_far scope f s) (terms_seen f s) (terms_more scope f s) [] xs e (ap (bind_first f) h))
 
 -- a label that is put is new
 pub is_new : (b : Bool) (v : ℕ) → new_label b v ≡ Ok tt → b ≡ false
@@ -124,21 +171,3 @@ fields_view_push (f ∷ fs) l t = ap (λ gs. (f.0, type_tree f.1) ∷ gs) (field
 pub places_view_push : (fs : List (List ℕ × Term)) (l : List ℕ) (t : Term) → places_view (fs ++ (l, t) ∷ []) ≡ places_view fs ++ (l, placed t) ∷ []
 places_view_push [] l t = refl
 places_view_push (f ∷ fs) l t = ap (λ gs. (f.0, placed f.1) ∷ gs) (places_view_push fs l t)
-
-grown_place : (fs : Fields) (xs : List (FieldName × Syntax)) → fields_place (grow fs xs) ≡ fields_place fs
-grown_place fs [] = refl
-grown_place fs (x ∷ xs) = grown_place (More fs x.0.before x.0.place x.0.label x.0.mark x.1) xs
-
--- a record begins with the `(` before its first field
-pub first_place : (x : FieldName × CodeSyntax) (xs : List (FieldName × CodeSyntax)) → fields_place (fields (named (x ∷ xs))) ≡ x.0.before
-first_place x xs = grown_place (One x.0.before x.0.place x.0.label x.0.mark (syntax_view x.1)) (named xs)
-
-pub opening_place : (xs : List (FieldName × CodeSyntax)) (x : FieldName × CodeSyntax) → slice_get xs 0 ≡ Some x → fields_place (fields (named xs)) ≡ x.0.before
-opening_place [] x e = cc
-opening_place (y ∷ ys) x e = let h : y ≡ x = cc in first_place y ys ∙ ap (λ (z : FieldName × CodeSyntax). z.0.before) h
-
--- a fault that is handed on
-pub given : {A B : Type 0} (view : A → B) (r : Result A SyntaxFault) (R : Result B SyntaxFault) (S : Result B SyntaxFault) (e : SyntaxFault) → r ≡ Err e → S ≡ R → WantOr e (S ≡ Err e) → Gives view r R
-given view (Ok x) R S e h is w = cc
-given view (Err f) R S e h is (inl m) = let g : f ≡ e = cc in inl (g ∙ m)
-given view (Err f) R S e h is (inr k) = let g : e ≡ f = cc in inr (sym is ∙ k ∙ ap Err g)

@@ -1,8 +1,8 @@
 -- The views of the reader's trees, form by form.
-use Rattle.std.proofs.Common.{◌≡◌, ◌≤◌, ℕ, Bool, List, [], ◌∷◌, ◌++◌, length, max, refl, sym, ap, subst, ◌∙◌, arith, Box, Global}
+use Rattle.std.proofs.Common.{◌≡◌, ℕ, Bool, List, [], ◌∷◌, ◌++◌, refl, sym, ap, ◌∙◌, Box, Global}
 use Rattle.std.proofs.lemmas.List.{map-append}
 use Rattle.nq_model.specs.QueryTokens.{Number, Literal}
-use Rattle.nq_model.specs.QueryGrammar.{TypeSyntax, TBase, TBag, TParen, TNoFields, TRec, TFun, Syntax, Const, Truth, Var, Table, Empty, Paren, NoFields, Rec, Bag, Nil, For, Where, If, Fun, Let, Prefix, Infix, Apply, Field, Fields, One, More, TypeFields, TOne, TMore, depth, fields_depth, type_depth, type_fields_depth}
+use Rattle.nq_model.specs.QueryGrammar.{TypeSyntax, TBase, TBag, TParen, TNoFields, TRec, TFun, Syntax, Const, Truth, Var, Table, Empty, Paren, NoFields, Rec, Bag, Nil, For, Where, If, Fun, Let, Prefix, Infix, Apply, Field, Fields, One, More, TypeFields, TOne, TMore}
 use Rattle.nq_model.specs.declared.term.Unary.{Unary as UnaryOp}
 use Rattle.nq_model.specs.declared.table.ColumnType.{ColumnType}
 use Rattle.query_syntax.specs.Symbols.{operator_view}
@@ -28,8 +28,8 @@ type_paren p t q = ap type_view (sym (types.rolls-Paren p t q)) ∙ fold-roll-Ty
 pub type_nofields : (p q : ℕ) → type_view (types.NoFields p q) ≡ TNoFields p q
 type_nofields p q = ap type_view (sym (types.rolls-NoFields p q)) ∙ fold-roll-TypeSyntax TypeSyntax type_layer (TypeSyntax-F.NoFields p q)
 
-pub type_rec : (fs : List (FieldName × CodeType)) (q : ℕ) → type_view (types.Rec fs q) ≡ TRec (type_fields (typed fs)) q
-type_rec fs q = ap type_view (sym (types.rolls-Rec fs q)) ∙ fold-roll-TypeSyntax TypeSyntax type_layer (TypeSyntax-F.Rec fs q)
+pub type_rec : (x : FieldName) (t : Box CodeType Global) (fs : List (FieldName × CodeType)) (q : ℕ) → type_view (types.Rec x t fs q) ≡ TRec (type_fields x (type_view t.value) (typed fs)) q
+type_rec x t fs q = ap type_view (sym (types.rolls-Rec x t fs q)) ∙ fold-roll-TypeSyntax TypeSyntax type_layer (TypeSyntax-F.Rec x t fs q)
 
 pub type_fun : (a : Box CodeType Global) (p : ℕ) (t : Box CodeType Global) → type_view (types.Fun a p t) ≡ TFun (type_view a.value) p (type_view t.value)
 type_fun a p t = ap type_view (sym (types.rolls-Fun a p t)) ∙ fold-roll-TypeSyntax TypeSyntax type_layer (TypeSyntax-F.Fun a p t)
@@ -58,8 +58,8 @@ form_paren p e q = ap syntax_view (sym (forms.rolls-Paren p e q)) ∙ fold-roll-
 pub form_nofields : (p q : ℕ) → syntax_view (forms.NoFields p q) ≡ NoFields p q
 form_nofields p q = ap syntax_view (sym (forms.rolls-NoFields p q)) ∙ fold-roll-Syntax Syntax layer (Syntax-F.NoFields p q)
 
-pub form_rec : (fs : List (FieldName × CodeSyntax)) (q : ℕ) → syntax_view (forms.Rec fs q) ≡ Rec (fields (named fs)) q
-form_rec fs q = ap syntax_view (sym (forms.rolls-Rec fs q)) ∙ fold-roll-Syntax Syntax layer (Syntax-F.Rec fs q)
+pub form_rec : (x : FieldName) (e : Box CodeSyntax Global) (fs : List (FieldName × CodeSyntax)) (q : ℕ) → syntax_view (forms.Rec x e fs q) ≡ Rec (fields x (syntax_view e.value) (named fs)) q
+form_rec x e fs q = ap syntax_view (sym (forms.rolls-Rec x e fs q)) ∙ fold-roll-Syntax Syntax layer (Syntax-F.Rec x e fs q)
 
 pub form_bag : (p : ℕ) (e : Box CodeSyntax Global) (q : ℕ) → syntax_view (forms.Bag p e q) ≡ Bag p (syntax_view e.value) q
 form_bag p e q = ap syntax_view (sym (forms.rolls-Bag p e q)) ∙ fold-roll-Syntax Syntax layer (Syntax-F.Bag p e q)
@@ -99,36 +99,18 @@ grow_push : (fs : Fields) (xs : List (FieldName × Syntax)) (x : FieldName × Sy
 grow_push fs [] x = refl
 grow_push fs (y ∷ xs) x = grow_push (More fs y.0.before y.0.place y.0.label y.0.mark y.1) xs x
 
-pub fields_push : (xs : List (FieldName × CodeSyntax)) (x : FieldName × CodeSyntax) → 1 ≤ length xs
-    → fields (named (xs ++ x ∷ [])) ≡ More (fields (named xs)) x.0.before x.0.place x.0.label x.0.mark (syntax_view x.1)
-fields_push [] x h = absurd (omega arith)
-fields_push (y ∷ xs) x h =
-    ap (grow (One y.0.before y.0.place y.0.label y.0.mark (syntax_view y.1))) (map-append (λ f. (f.0, syntax_view f.1)) xs (x ∷ []))
-    ∙ grow_push (One y.0.before y.0.place y.0.label y.0.mark (syntax_view y.1)) (named xs) (x.0, syntax_view x.1)
+pub fields_push : (f : FieldName) (e : Syntax) (xs : List (FieldName × CodeSyntax)) (x : FieldName × CodeSyntax)
+    → fields f e (named (xs ++ x ∷ [])) ≡ More (fields f e (named xs)) x.0.before x.0.place x.0.label x.0.mark (syntax_view x.1)
+fields_push f e xs x =
+    ap (fields f e) (map-append (λ f. (f.0, syntax_view f.1)) xs (x ∷ []))
+    ∙ grow_push (One f.before f.place f.label f.mark e) (named xs) (x.0, syntax_view x.1)
 
 grow_types_push : (fs : TypeFields) (xs : List (FieldName × TypeSyntax)) (x : FieldName × TypeSyntax) → grow_types fs (xs ++ x ∷ []) ≡ TMore (grow_types fs xs) x.0.before x.0.place x.0.label x.0.mark x.1
 grow_types_push fs [] x = refl
 grow_types_push fs (y ∷ xs) x = grow_types_push (TMore fs y.0.before y.0.place y.0.label y.0.mark y.1) xs x
 
-pub types_push : (xs : List (FieldName × CodeType)) (x : FieldName × CodeType) → 1 ≤ length xs
-    → type_fields (typed (xs ++ x ∷ [])) ≡ TMore (type_fields (typed xs)) x.0.before x.0.place x.0.label x.0.mark (type_view x.1)
-types_push [] x h = absurd (omega arith)
-types_push (y ∷ xs) x h =
-    ap (grow_types (TOne y.0.before y.0.place y.0.label y.0.mark (type_view y.1))) (map-append (λ f. (f.0, type_view f.1)) xs (x ∷ []))
-    ∙ grow_types_push (TOne y.0.before y.0.place y.0.label y.0.mark (type_view y.1)) (typed xs) (x.0, type_view x.1)
-
-pub push_filled : {A : Type 0} (xs ys : List A) (x : A) → ys ≡ xs ++ x ∷ [] → 1 ≤ length ys
-push_filled [] ys x e = subst (λ z. 1 ≤ length z) (sym e) (omega arith)
-push_filled (a ∷ xs) ys x e = subst (λ z. 1 ≤ length z) (sym e) (omega arith)
-
-pub push_measured : (xs ys : List (FieldName × CodeSyntax)) (x : FieldName × CodeSyntax) (n m r : ℕ) → ys ≡ xs ++ x ∷ [] → 1 ≤ length xs
-    → n ≡ fields_depth (fields (named xs)) → m ≡ depth (syntax_view x.1) → r ≡ max n m → r ≡ fields_depth (fields (named ys))
-push_measured xs ys x n m r e h en em er =
-    er ∙ ap (λ z. max z m) en ∙ ap (λ z. max (fields_depth (fields (named xs))) z) em
-    ∙ sym (ap (λ z. fields_depth (fields (named z))) e ∙ ap fields_depth (fields_push xs x h))
-
-pub types_measured : (xs ys : List (FieldName × CodeType)) (x : FieldName × CodeType) (n m r : ℕ) → ys ≡ xs ++ x ∷ [] → 1 ≤ length xs
-    → n ≡ type_fields_depth (type_fields (typed xs)) → m ≡ type_depth (type_view x.1) → r ≡ max n m → r ≡ type_fields_depth (type_fields (typed ys))
-types_measured xs ys x n m r e h en em er =
-    er ∙ ap (λ z. max z m) en ∙ ap (λ z. max (type_fields_depth (type_fields (typed xs))) z) em
-    ∙ sym (ap (λ z. type_fields_depth (type_fields (typed z))) e ∙ ap type_fields_depth (types_push xs x h))
+pub types_push : (f : FieldName) (t : TypeSyntax) (xs : List (FieldName × CodeType)) (x : FieldName × CodeType)
+    → type_fields f t (typed (xs ++ x ∷ [])) ≡ TMore (type_fields f t (typed xs)) x.0.before x.0.place x.0.label x.0.mark (type_view x.1)
+types_push f t xs x =
+    ap (type_fields f t) (map-append (λ f. (f.0, type_view f.1)) xs (x ∷ []))
+    ∙ grow_types_push (TOne f.before f.place f.label f.mark t) (typed xs) (x.0, type_view x.1)

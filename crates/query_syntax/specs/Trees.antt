@@ -2,7 +2,6 @@
 use Rattle.std.specs.Prelude.{List, [], ◌∷◌, map}
 use Rattle.nq_model.specs.QueryTokens.{Number, Literal}
 use Rattle.nq_model.specs.QueryGrammar.{TypeSyntax, TBase, TBag, TParen, TNoFields, TRec, TFun, TypeFields, TOne, TMore, Syntax, Const, Truth, Var, Table, Empty, Paren, NoFields, Rec, Bag, Nil, For, Where, If, Fun, Let, Prefix, Infix, Apply, Field, Fields, One, More}
-use Rattle.nq_model.specs.declared.table.ColumnType.TheVariants as column
 use Rattle.query_syntax.specs.Symbols.{operator_view}
 use Rattle.query_syntax.specs.declared.syntax.FieldName.{FieldName}
 use Rattle.query_syntax.specs.declared.syntax.TypeSyntax.{TypeSyntax as CodeType, fold-TypeSyntax}
@@ -15,17 +14,16 @@ abbrev pub grow_types : TypeFields → List (FieldName × TypeSyntax) → TypeFi
 grow_types fs [] = fs
 grow_types fs (x ∷ xs) = grow_types (TMore fs x.0.before x.0.place x.0.label x.0.mark x.1) xs
 
--- the fields of a record type, which has at least one
-abbrev pub type_fields : List (FieldName × TypeSyntax) → TypeFields
-type_fields [] = TOne 0 0 [] 0 (TBase 0 column.Int)
-type_fields (x ∷ xs) = grow_types (TOne x.0.before x.0.place x.0.label x.0.mark x.1) xs
+-- the fields of a record type: the first, and the others
+abbrev pub type_fields : FieldName → TypeSyntax → List (FieldName × TypeSyntax) → TypeFields
+type_fields x t xs = grow_types (TOne x.before x.place x.label x.mark t) xs
 
 abbrev pub type_layer : TypeSyntax-F TypeSyntax → TypeSyntax
 type_layer (TypeSyntax-F.Base p b) = TBase p b
 type_layer (TypeSyntax-F.Bag p t q) = TBag p t.value q
 type_layer (TypeSyntax-F.Paren p t q) = TParen p t.value q
 type_layer (TypeSyntax-F.NoFields p q) = TNoFields p q
-type_layer (TypeSyntax-F.Rec fs q) = TRec (type_fields fs) q
+type_layer (TypeSyntax-F.Rec x t fs q) = TRec (type_fields x t.value fs) q
 type_layer (TypeSyntax-F.Fun a p t) = TFun a.value p t.value
 
 abbrev pub type_view : CodeType → TypeSyntax
@@ -35,10 +33,9 @@ abbrev pub grow : Fields → List (FieldName × Syntax) → Fields
 grow fs [] = fs
 grow fs (x ∷ xs) = grow (More fs x.0.before x.0.place x.0.label x.0.mark x.1) xs
 
--- the fields of a record, which has at least one
-abbrev pub fields : List (FieldName × Syntax) → Fields
-fields [] = One 0 0 [] 0 (NoFields 0 0)
-fields (x ∷ xs) = grow (One x.0.before x.0.place x.0.label x.0.mark x.1) xs
+-- the fields of a record: the first, and the others
+abbrev pub fields : FieldName → Syntax → List (FieldName × Syntax) → Fields
+fields x e xs = grow (One x.before x.place x.label x.mark e) xs
 
 abbrev pub layer : Syntax-F Syntax → Syntax
 layer (Syntax-F.Number p n) = Const p (Number n.value n.digits)
@@ -49,7 +46,7 @@ layer (Syntax-F.Table p v l) = Table p v l
 layer (Syntax-F.Empty p o e c) = Empty p o e.value c
 layer (Syntax-F.Paren p e q) = Paren p e.value q
 layer (Syntax-F.NoFields p q) = NoFields p q
-layer (Syntax-F.Rec fs q) = Rec (fields fs) q
+layer (Syntax-F.Rec x e fs q) = Rec (fields x e.value fs) q
 layer (Syntax-F.Bag p e q) = Bag p e.value q
 layer (Syntax-F.Nil p c t q) = Nil p c (type_view t) q
 layer (Syntax-F.For p o x a m c n) = For p o x.place x.name a m.value c n.value

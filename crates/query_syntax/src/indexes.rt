@@ -1,6 +1,7 @@
 // Names of a syntax tree become indexes.
-ghost use Rattle.std.specs.Prelude.{◌≡◌, IfOk, OnOk, reverse, ◌∷◌};
-ghost use Rattle.nq_model.specs.QueryScope.{fields_place, operator_node};
+ghost use Rattle.std.specs.Prelude.{◌≡◌, Ok, OnOk, reverse, ◌∷◌};
+ghost use Rattle.nq_model.specs.QueryGrammar.{Syntax as Written};
+ghost use Rattle.nq_model.specs.QueryScope.{operator_node};
 ghost use Rattle.nq_model.specs.Terms.{at, placed, placed_node};
 ghost use Rattle.query_syntax.specs.Lowering.{Gives, Lowered, bound, index_of, lowered, fields_lowered, places_view};
 ghost use Rattle.query_syntax.specs.Trees.{fields as record_fields, named, syntax_view};
@@ -11,16 +12,14 @@ use crate::lower_labels;
 use crate::lower_type::lower_type;
 use crate::symbol::Operator;
 use crate::syntax::{FieldName, Syntax};
-use nq_model::{Label, List, Memory, Node, Term, boxed};
+use nq_model::{Label, List, Node, Term, boxed};
 use std::alloc::Global;
-use std::collections::BTreeSet;
 use text_fronts::unquoted;
 
 /// The term of a syntax tree, in which the index of a variable is how many binders stand inside its own.
 /// `Unbound` or `TwiceLabel` at the first variable in the text that has no binder, or label that stands
 /// earlier in the same record or record type; `Memory` where there is too little memory, or the tree is one
-/// that no text spells: a `Rec` without fields, or a literal whose quotes are not in twos so that no UTF-8
-/// is left.
+/// that no text spells: a literal whose quotes are not in twos so that no UTF-8 is left.
 ///
 /// After de Bruijn, "Lambda calculus notation with nameless dummies", Indagationes Mathematicae 1972.
 #[tactic(auto, using(crate::proofs::Lowering::whole_walk))]
@@ -52,9 +51,15 @@ fn lower_under(alloc: Global, syntax: Syntax, scope: &mut List<Label>) -> Result
         }
         Syntax::Paren { inner, .. } => lower_under(alloc, Box::into_inner(inner), scope),
         Syntax::NoFields { opening, .. } => Ok(term(opening, Node::Rec(List::new(alloc)))),
-        Syntax::Rec { fields, .. } => {
-            let place = opening_of(fields.as_slice())?;
-            let fields = lower_fields(alloc, fields, scope)?;
+        Syntax::Rec {
+            first_name,
+            first,
+            others,
+            ..
+        } => {
+            let place = first_name.before;
+            let first = lower_under(alloc, Box::into_inner(first), scope)?;
+            let fields = lower_fields(alloc, others, first_name, first, scope)?;
             Ok(term(place, Node::Rec(fields)))
         }
         Syntax::Bag {
@@ -191,22 +196,23 @@ fn lower_inside(
     Ok(term)
 }
 
-// The fields of a record, in the order of the text. A record that was read has a field.
+// The fields of a record, in the order of the text, whatever the expression of the first was.
 #[cycle(lower)]
 fn lower_fields(
     alloc: Global,
-    fields: List<(FieldName, Syntax)>,
+    others: List<(FieldName, Syntax)>,
+    first_name: FieldName,
+    first: Term,
     scope: &mut List<Label>,
 ) -> Result<List<(Label, Term)>, SyntaxFault>
-    ensures gives { Gives places_view result (fields_lowered (record_fields (named fields)) (reverse scope.old)) }
+    ensures gives { (syntax : Written) → lowered syntax (reverse scope.old) ≡ Ok (placed first)
+        → Gives places_view result (fields_lowered (record_fields first_name syntax (named others)) (reverse scope.old)) }
     ensures scope { OnOk result (scope.new ≡ scope.old) }
 {
-    if fields.is_empty() {
-        return Err(SyntaxFault::Memory);
-    }
-    let mut labels = BTreeSet::new(alloc);
+    let mut labels = lower_labels::only(alloc, first_name.label.as_str())?;
     let mut lowered = List::new(alloc);
-    for (name, syntax) in fields.into_vec() {
+    lowered.push((first_name.label, first))?;
+    for (name, syntax) in others.into_vec() {
         lower_labels::put(alloc, &mut labels, &name)?;
         let term = lower_under(alloc, syntax, scope)?;
         lowered.push((name.label, term))?;
@@ -235,16 +241,5 @@ fn operation(op: Operator, left: Box<Term>, right: Box<Term>) -> Node
     match op {
         Operator::Union => Node::Union { left, right },
         Operator::Of(op) => Node::Binary { op, left, right },
-    }
-}
-
-// The place of the `(` of a record. A record that was read has a field.
-#[tactic(auto, using(crate::proofs::LoweringLists::opening_place))]
-fn opening_of(fields: &[(FieldName, Syntax)]) -> Result<u64, Memory>
-    ensures { IfOk result (λ place. place ≡ fields_place (record_fields (named fields.now))) }
-{
-    match fields.first() {
-        Some(field) => Ok(field.0.before),
-        None => Err(Memory),
     }
 }

@@ -1,5 +1,5 @@
 // The labels of a record so far, and the binders of a variable.
-ghost use Rattle.std.specs.Prelude.{◌≡◌, List, ◌∷◌, ℕ, IfOk, OnOk, not, reverse};
+ghost use Rattle.std.specs.Prelude.{◌≡◌, List, [], ◌∷◌, ℕ, IfOk, OnOk, not, reverse};
 ghost use Rattle.nq_model.specs.QueryScope.{among};
 ghost use Rattle.query_syntax.specs.Lowering.{Gives, new_label, index_of, TellsNames};
 
@@ -16,6 +16,15 @@ fn add(alloc: Global, labels: &mut BTreeSet<String>, label: &str) -> Result<bool
 {
     let name = String::from_str(alloc, label)?;
     Ok(labels.insert(name)?)
+}
+
+/// The labels of a record so far, of which this is the only one.
+pub fn only(alloc: Global, label: &str) -> Result<BTreeSet<String>, Memory>
+    ensures { IfOk result (TellsNames (label.now ∷ [])) }
+{
+    let mut labels = BTreeSet::new(alloc);
+    let _new = add(alloc, &mut labels, label)?;
+    Ok(labels)
 }
 
 /// Adds the label of a field: `TwiceLabel` at one that is there already; `Memory` where there is too little

@@ -41,7 +41,9 @@ pub enum TypeSyntax {
         closing: u64,
     },
     Rec {
-        fields: List<(FieldName, TypeSyntax)>,
+        first_name: FieldName,
+        first: Box<TypeSyntax>,
+        others: List<(FieldName, TypeSyntax)>,
         closing: u64,
     },
     Fun {
@@ -91,7 +93,9 @@ pub enum Syntax {
         closing: u64,
     },
     Rec {
-        fields: List<(FieldName, Syntax)>,
+        first_name: FieldName,
+        first: Box<Syntax>,
+        others: List<(FieldName, Syntax)>,
         closing: u64,
     },
     Bag {

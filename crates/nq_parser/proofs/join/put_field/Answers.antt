@@ -2,17 +2,19 @@ use Rattle.std.proofs.Common.{◌≡◌, ◌∷◌, ◌++◌, [], max, ap}
 use Rattle.nq_model.specs.QueryGrammar.{depth, deepest, fields_depth, fields_deepest}
 use Rattle.query_syntax.specs.Trees.{fields as record_fields, named, syntax_view}
 use Rattle.query_syntax.specs.declared.syntax.FieldName.{FieldName}
-use Rattle.nq_parser.proofs.Joining.{fields_put, longer}
+use Rattle.nq_parser.proofs.Joining.{fields_put}
 use Rattle.nq_parser.proofs.join.put_field.Goals as goal
 
 pub invariant_of-result-in-Next : goal.invariant_of-result-in-Next
 invariant_of-result-in-Next c =
-    let xs = c.in-Next.before.fields in
-    let ys = c.push-in-Next.new.self in
+    let f = c.in-Next.before.first_name in
+    let e = syntax_view c.in-Next.before.first.value in
+    let xs = c.in-Next.before.others in
+    let ys = c.push.new.self in
     let s = c.into_inner-syntax.result in
     let name : FieldName = record { before = c.in-Next.comma; place = c.args.place; label = c.args.label; mark = c.args.mark } in
-    let e : ys ≡ xs ++ (name, s) ∷ [] = c.in_ok-push-in-Next.ensures.ok in
-    let f = fields_put xs ys name s e c.in-Next.before.some in
-    let d : fields_depth (record_fields (named ys)) ≡ max (fields_depth (record_fields (named xs))) (depth (syntax_view s)) = ap fields_depth f in
-    let t : fields_deepest (record_fields (named ys)) ≡ max (fields_deepest (record_fields (named xs))) (deepest (syntax_view s)) = ap fields_deepest f in
-    record { some = longer xs ys (name, s) e; measured = cc; types_measured = cc }
+    let longer : ys ≡ xs ++ (name, s) ∷ [] = c.in_ok-push-in-Next.ensures.ok in
+    let more = fields_put f e xs ys name s longer in
+    let d : fields_depth (record_fields f e (named ys)) ≡ max (fields_depth (record_fields f e (named xs))) (depth (syntax_view s)) = ap fields_depth more in
+    let t : fields_deepest (record_fields f e (named ys)) ≡ max (fields_deepest (record_fields f e (named xs))) (deepest (syntax_view s)) = ap fields_deepest more in
+    record { measured = cc; types_measured = cc }

@@ -2,16 +2,18 @@ use Rattle.std.proofs.Common.{◌≡◌, ◌∷◌, ◌++◌, [], max, ap}
 use Rattle.nq_model.specs.QueryGrammar.{type_depth, type_fields_depth}
 use Rattle.query_syntax.specs.Trees.{type_fields, typed, type_view}
 use Rattle.query_syntax.specs.declared.syntax.FieldName.{FieldName}
-use Rattle.nq_parser.proofs.Joining.{types_put, longer}
+use Rattle.nq_parser.proofs.Joining.{types_put}
 use Rattle.nq_parser.proofs.join.put_type.Goals as goal
 
 pub invariant_of-result-in-Next : goal.invariant_of-result-in-Next
 invariant_of-result-in-Next c =
-    let xs = c.in-Next.before.fields in
-    let ys = c.push-in-Next.new.self in
+    let f = c.in-Next.before.first_name in
+    let e = type_view c.in-Next.before.first.value in
+    let xs = c.in-Next.before.others in
+    let ys = c.push.new.self in
     let t = c.args.last.ty in
     let name : FieldName = record { before = c.in-Next.comma; place = c.args.place; label = c.args.label; mark = c.args.mark } in
-    let e : ys ≡ xs ++ (name, t) ∷ [] = c.in_ok-push-in-Next.ensures.ok in
-    let f = types_put xs ys name t e c.in-Next.before.some in
-    let d : type_fields_depth (type_fields (typed ys)) ≡ max (type_fields_depth (type_fields (typed xs))) (type_depth (type_view t)) = ap type_fields_depth f in
-    record { some = longer xs ys (name, t) e; measured = cc }
+    let longer : ys ≡ xs ++ (name, t) ∷ [] = c.in_ok-push-in-Next.ensures.ok in
+    let more = types_put f e xs ys name t longer in
+    let d : type_fields_depth (type_fields f e (typed ys)) ≡ max (type_fields_depth (type_fields f e (typed xs))) (type_depth (type_view t)) = ap type_fields_depth more in
+    record { measured = cc }
