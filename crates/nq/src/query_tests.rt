@@ -38,6 +38,7 @@ nq run SCHEMA QUERY DIR     writes the value of the query over the tables of DIR
 nq check SCHEMA QUERY       writes ok where the query is accepted
 nq show types SCHEMA QUERY  writes the type of the query
 nq show paths SCHEMA QUERY  writes a line for each bag constructor of the type
+nq show sql SCHEMA QUERY    writes an SQL text for each bag constructor of the type
 nq --help                   writes this text
 nq --version                writes the name and the version of the program
 
@@ -79,6 +80,11 @@ const PATHS: Row = Row {
     ..CHECK
 };
 
+const SQL: Row = Row {
+    words: &["show", "sql", "org", "q"],
+    ..CHECK
+};
+
 const RUN: Row = Row {
     words: &["run", "org", "q", "data"],
     query: "table departments",
@@ -106,7 +112,7 @@ const USAGE: Row = Row {
     ..CHECK
 };
 
-const ROWS: [Row; 43] = [
+const ROWS: [Row; 50] = [
     CHECK,
     Row {
         query: "[9223372036854775808]",
@@ -244,6 +250,83 @@ const ROWS: [Row; 43] = [
         query: "for (x <- table employees) [()]",
         out: "/: int int |\n",
         ..PATHS
+    },
+    Row {
+        query: NESTED,
+        out: r#"-- / 136
+SELECT 0 AS "ot", 1 AS "on", "x1"."name" AS "c1", 1 AS "c2", ROW_NUMBER() OVER (ORDER BY "x1"."name") AS "c3" FROM "departments" AS "x1"
+;
+-- /[].employees 357
+WITH "q.1" AS (SELECT "x1"."name" AS "x1.name", ROW_NUMBER() OVER (ORDER BY "x1"."name") AS "n" FROM "departments" AS "x1") SELECT 1 AS "ot", "z"."n" AS "on", "x2"."name" AS "c1", 2 AS "c2", ROW_NUMBER() OVER (ORDER BY "z"."x1.name", "x2"."dept", "x2"."name", "x2"."salary") AS "c3" FROM "q.1" AS "z", "employees" AS "x2" WHERE ("x2"."dept" = "z"."x1.name")
+;
+-- /[].employees[].tasks 431
+WITH "q.1" AS (SELECT "x1"."name" AS "x1.name", "x2"."dept" AS "x2.dept", "x2"."name" AS "x2.name", "x2"."salary" AS "x2.salary", ROW_NUMBER() OVER (ORDER BY "x1"."name", "x2"."dept", "x2"."name", "x2"."salary") AS "n" FROM "departments" AS "x1", "employees" AS "x2" WHERE ("x2"."dept" = "x1"."name")) SELECT 2 AS "ot", "z"."n" AS "on", "x3"."task" AS "c1" FROM "q.1" AS "z", "tasks" AS "x3" WHERE ("x3"."employee" = "z"."x2.name")
+;
+"#,
+        ..SQL
+    },
+    Row {
+        query: "table departments",
+        out: r#"-- / 75
+SELECT 0 AS "ot", 1 AS "on", "x1"."name" AS "c1" FROM "departments" AS "x1"
+;
+"#,
+        ..SQL
+    },
+    Row {
+        query: "[: (a: int, b: [text])]",
+        out: r#"-- / 72
+SELECT 0 AS "ot", 0 AS "on", 0 AS "c1", 0 AS "c2", 0 AS "c3" WHERE FALSE
+;
+-- /[].b 51
+SELECT 0 AS "ot", 0 AS "on", '' AS "c1" WHERE FALSE
+;
+"#,
+        ..SQL
+    },
+    Row {
+        query: "[[1] ++ [1]]",
+        out: r#"-- / 68
+SELECT 0 AS "ot", 1 AS "on", 1 AS "c1", ROW_NUMBER() OVER () AS "c2"
+;
+-- /[] 186
+WITH "q.1" AS (SELECT ROW_NUMBER() OVER () AS "n") SELECT 1 AS "ot", "z"."n" AS "on", 1 AS "c1" FROM "q.1" AS "z" UNION ALL SELECT 1 AS "ot", "z"."n" AS "on", 1 AS "c1" FROM "q.1" AS "z"
+;
+"#,
+        ..SQL
+    },
+    Row {
+        query: "(for (d <- table departments) where (d.name == 'Sales') [(n = 'a', b = for (e <- table employees) where (e.dept == d.name) [e.name])]) ++ [(n = 'b', b = [: text])]",
+        out: r#"-- / 250
+SELECT 0 AS "ot", 1 AS "on", 1 AS "c1", ROW_NUMBER() OVER (ORDER BY "x1"."name") AS "c2", 'a' AS "c3" FROM "departments" AS "x1" WHERE ("x1"."name" = 'Sales') UNION ALL SELECT 0 AS "ot", 1 AS "on", 3 AS "c1", ROW_NUMBER() OVER () AS "c2", 'b' AS "c3"
+;
+-- /[].b 283
+WITH "q.1" AS (SELECT "x1"."name" AS "x1.name", ROW_NUMBER() OVER (ORDER BY "x1"."name") AS "n" FROM "departments" AS "x1" WHERE ("x1"."name" = 'Sales')) SELECT 1 AS "ot", "z"."n" AS "on", "x2"."name" AS "c1" FROM "q.1" AS "z", "employees" AS "x2" WHERE ("x2"."dept" = "z"."x1.name")
+;
+"#,
+        ..SQL
+    },
+    Row {
+        query: "for (d <- table departments) [(d = d.name, es = for (e <- table employees) where (e.dept == d.name) [e.name])]",
+        out: r#"-- / 136
+SELECT 0 AS "ot", 1 AS "on", "x1"."name" AS "c1", 1 AS "c2", ROW_NUMBER() OVER (ORDER BY "x1"."name") AS "c3" FROM "departments" AS "x1"
+;
+-- /[].es 253
+WITH "q.1" AS (SELECT "x1"."name" AS "x1.name", ROW_NUMBER() OVER (ORDER BY "x1"."name") AS "n" FROM "departments" AS "x1") SELECT 1 AS "ot", "z"."n" AS "on", "x2"."name" AS "c1" FROM "q.1" AS "z", "employees" AS "x2" WHERE ("x2"."dept" = "z"."x1.name")
+;
+"#,
+        ..SQL
+    },
+    Row {
+        query: "for (d <- table departments) [(d = d.name, none = empty(
+  (for (e <- table employees) where (e.dept == d.name) [e.name])
+  ++ (for (c <- table contacts) where (c.dept == d.name
+      && empty(for (t <- table tasks) where (t.employee == c.name) [t])) [c.name])))]",
+        out: r#"-- / 360
+SELECT 0 AS "ot", 1 AS "on", "x1"."name" AS "c1", (NOT EXISTS (SELECT 1 AS "one" FROM "employees" AS "x2" WHERE ("x2"."dept" = "x1"."name") UNION ALL SELECT 1 AS "one" FROM "contacts" AS "x3" WHERE (("x3"."dept" = "x1"."name") AND (NOT EXISTS (SELECT 1 AS "one" FROM "tasks" AS "x4" WHERE ("x4"."employee" = "x3"."name")))))) AS "c2" FROM "departments" AS "x1"
+;
+"#,
+        ..SQL
     },
     // The schema and the query are fetched, and nothing else.
     Row {

@@ -122,12 +122,12 @@ tells_means : (j : Judgement) (old new : ServerState) (honest : Bool) (told_old 
     → Tells (λ tables asked. ServeTells tables asked old new honest) j told_old told_new out_old out_new a
     → Tells (Means honest) j told_old told_new out_old out_new a
 tells_means j old new honest told_old told_new out_old out_new (Ok u) tells =
-    record { text = tells.text; gives = gives_means j.verdict old new honest tells.text tells.gives; fetched = tells.fetched; puts = tells.puts }
+    record { text = tells.text; gives = gives_means j.verdict old new honest tells.text tells.gives; fetched = tells.fetched; puts = tells.puts; shreds = tells.shreds }
 tells_means j old new honest told_old told_new out_old out_new (Err (refusal.Input r)) tells = tells
 tells_means j old new honest told_old told_new out_old out_new (Err (refusal.Server r)) tells =
     record { tables = tells.tables; asked = tells.asked; judges = tells.judges; serves = means_of tells.tables tells.asked old new honest (Err r) tells.serves }
 tells_means j old new honest told_old told_new out_old out_new (Err refusal.OutputFailed) tells =
-    record { text = tells.text; gives = gives_means j.verdict old new honest tells.text tells.gives; fetched = tells.fetched; puts = tells.puts }
+    record { text = tells.text; gives = gives_means j.verdict old new honest tells.text tells.gives; fetched = tells.fetched; puts = tells.puts; shreds = tells.shreds }
 
 pub main_comes : (held : Option Files) (judges : Reading → Files → Judgement) (old new : ServerState) (honest : Bool) (told_old told_new : Told) (out_old out_new notes_old notes_new : Option (List ℕ)) (before now status : ℕ)
     → Comes held (λ files answer. (reading : Reading) → Tells (λ tables asked. ServeTells tables asked old new honest) (judges reading files) told_old told_new out_old out_new answer) notes_old notes_new before now status

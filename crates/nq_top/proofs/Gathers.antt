@@ -20,6 +20,7 @@ use Rattle.sql_profile.specs.declared.server.Loaded.{Loaded}
 use Rattle.nq_top.specs.Commands.{Command, command_of}
 use Rattle.nq_top.specs.Reading.{Reading, refused_as, ill_typed, type_read, rows_read}
 use Rattle.nq_top.specs.Judging.{Judgement, refused, written, after, at_once, judged, fetched_then, read_then, table_named, built, command_judged, judgement, loaded_as}
+use Rattle.nq_top.specs.Shown.{ShredsQuery}
 use Rattle.nq_top.specs.Gathering.{Told, Judges, RefusalTells, GatherTells, FetchedWithin, FetchRefused, FetchNames, Refuses, IsUnquoted, AreServable, AreLoadable, IsTyped, CanGather}
 use Rattle.nq_top.specs.declared.gathered.Gathered.{Gathered}
 use Rattle.nq_top.specs.declared.gathered.Gathered.TheVariants as gathered
@@ -27,6 +28,10 @@ use Rattle.nq_top.specs.declared.refusal.Refused.{Refused}
 use Rattle.nq_top.specs.declared.refusal.Refused.TheVariants.{Usage, TooLong, NotBuilt}
 use Rattle.nq_top.specs.declared.refusal.InputRefusal.{InputRefusal}
 use Rattle.nq_top.specs.declared.refusal.InputRefusal.TheVariants as input
+
+-- SQL texts that are shown shred their query
+abbrev ShowsSound : Judgement → Type 0
+ShowsSound j = IfSome j.shown ShredsQuery
 
 -- what is told grows by one list and then by another
 pub tells_then : {A : Type 0} (a b c : Option (List A)) (xs ys : List A) → TellsMore a b xs → TellsMore b c ys → TellsMore a c (xs ++ ys)
@@ -45,14 +50,14 @@ pub refusal_after : (name : List ℕ) (later : Judgement) (old mid new : Told) (
 refusal_after name later old mid new input.Memory here tells =
     record { front = name ∷ tells.front; back = tells.back; all = ap (λ (ns : List (List ℕ)). name ∷ ns) tells.all; fetched = tells_then old mid new (name ∷ []) tells.front here tells.fetched }
 refusal_after name later old mid new (input.Refused r) first tells =
-    record { comes_to = tells.comes_to; fetched = tells_then old mid new (name ∷ []) later.names first tells.fetched }
+    record { comes_to = tells.comes_to; fetched = tells_then old mid new (name ∷ []) later.names first tells.fetched; shreds = tells.shreds }
 refusal_after name later old mid new (input.Failed failed) first tells =
     record { front = name ∷ tells.front; back = tells.back; all = ap (λ (ns : List (List ℕ)). name ∷ ns) tells.all; fetched = tells_then old mid new (name ∷ []) (tells.front ++ failed ∷ []) first tells.fetched }
 
 pub gather_after : (name : List ℕ) (later : Judgement) (old mid new : Told) (result : Result Gathered InputRefusal) → TellsMore old mid (name ∷ [])
     → GatherTells later mid new result → GatherTells (after name later) old new result
 gather_after name later old mid new (Ok gathered) first tells =
-    record { comes_to = tells.comes_to; fetched = tells_then old mid new (name ∷ []) later.names first tells.fetched }
+    record { comes_to = tells.comes_to; fetched = tells_then old mid new (name ∷ []) later.names first tells.fetched; shreds = tells.shreds }
 gather_after name later old mid new (Err r) first tells = refusal_after name later old mid new r first tells
 
 within_limit : (b : Bool) (x y : Judgement) → b ≡ false → cond b x y ≡ y
@@ -91,7 +96,7 @@ fetch_refused files name limit next old new input.Memory says fetched =
     record { front = []; back = (judged name limit next (bytes_at files name)).names; all = refl; fetched = tells_nothing old new fetched }
 fetch_refused files name limit next old new (input.Refused r) says fetched =
     let is = over_limit (bytes_at files name) name limit next says.1 in
-    record { comes_to = ap (λ (j : Judgement). j.verdict) is ∙ ap refused (sym says.0); fetched = rw is fetched }
+    record { comes_to = ap (λ (j : Judgement). j.verdict) is ∙ ap refused (sym says.0); fetched = rw is fetched; shreds = subst ShowsSound (sym is) tt }
 fetch_refused files name limit next old new (input.Failed failed) says fetched =
     let names = judged_names (bytes_at files name) name limit next in
     let P : List ℕ → Type 0 = λ n. TellsMore old new (n ∷ []) in
@@ -108,7 +113,7 @@ read_refused given next old new input.Memory refuses same =
     record { front = []; back = (read_then given next).names; all = refl; fetched = tells_nothing old new same }
 read_refused given next old new (input.Refused r) refuses same =
     let is : read_then given next ≡ at_once (refused r) = ap (λ (x : Result _ Refused). read_then x next) refuses in
-    record { comes_to = ap (λ (j : Judgement). j.verdict) is; fetched = rw is (tells_nothing old new same) }
+    record { comes_to = ap (λ (j : Judgement). j.verdict) is; fetched = rw is (tells_nothing old new same); shreds = subst ShowsSound (sym is) tt }
 read_refused given next old new (input.Failed failed) refuses same = absurd refuses
 
 -- the rows of a table
@@ -201,7 +206,7 @@ writes_at_once None words command said text old is comes same = tt
 writes_at_once (Some files) words command said text old is comes same = λ reading.
     let whole : command_judged reading (command_of words) files ≡ at_once (written said) = ap (λ (c : Option Command). command_judged reading c files) is ∙ comes reading files in
     let P : Judgement → Type 0 = λ j. Judges j (written text) old old in
-    subst P (sym whole) (record { comes_to = ap written (sym same); fetched = tells_nothing old old refl })
+    subst P (sym whole) (record { comes_to = ap written (sym same); fetched = tells_nothing old old refl; shreds = tt })
 
 -- words of no listed form
 pub refused_at_once : (held : Option Files) (words : List (List ℕ)) (old : Told) → command_of words ≡ None
@@ -211,7 +216,7 @@ refused_at_once None words old is = tt
 refused_at_once (Some files) words old is = λ reading.
     let whole : command_judged reading (command_of words) files ≡ at_once (refused Usage) = ap (λ (c : Option Command). command_judged reading c files) is in
     let P : Judgement → Type 0 = λ j. Judges j (refused Usage) old old in
-    subst P (sym whole) (record { comes_to = refl; fetched = tells_nothing old old refl })
+    subst P (sym whole) (record { comes_to = refl; fetched = tells_nothing old old refl; shreds = tt })
 
 -- one more table was read
 pub can_gather_more : (done : List Loaded) (shape : TableShape) (shapes : List TableShape) (asked : ℕ) (rows : List (List Cell))
@@ -243,7 +248,7 @@ can_gather_none shapes asked loadable within =
       done_fit = All-nil (λ (t : Loaded). All (RowFits (types_of t.columns)) t.rows);
     }
 
-typed_program : (v : Result TypeTree BrokenRule) (type : TypeTree) → refused_as ill_typed v ≡ Ok type → v ≡ Ok type
+pub typed_program : (v : Result TypeTree BrokenRule) (type : TypeTree) → refused_as ill_typed v ≡ Ok type → v ≡ Ok type
 typed_program (Ok k) type typed = let same : k ≡ type = cc in ap (λ (t : TypeTree). Ok t) same
 typed_program (Err rule) type typed = absurd (cc)
 

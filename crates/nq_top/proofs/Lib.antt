@@ -5,6 +5,7 @@ pub mod Gathers
 pub mod Meaning
 pub mod Loads
 pub mod Serves
+pub mod Showings
 pub mod Runs
 pub mod Statuses
 pub mod Completeness

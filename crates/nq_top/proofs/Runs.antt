@@ -30,9 +30,9 @@ pub writes : (judgement : Judgement) (old new : Told) (put : List ℕ → Type 0
     → Judges judgement (verdict_of gathered) old new → TextTells gathered before now honest (Ok text) → put text
     → Writes (λ tables asked. ServeTells tables asked before now honest) judgement old new put
 writes judgement old new put (gathered.Tables tables asked) before now honest text judges tells puts =
-    record { text = text; gives = gives (λ ts place. ServeTells ts place before now honest) judgement tables asked text judges.comes_to tells; fetched = judges.fetched; puts = puts }
+    record { text = text; gives = gives (λ ts place. ServeTells ts place before now honest) judgement tables asked text judges.comes_to tells; fetched = judges.fetched; puts = puts; shreds = judges.shreds }
 writes judgement old new put (gathered.Text said) before now honest text judges tells puts =
-    record { text = text; gives = says_itself (λ ts place. ServeTells ts place before now honest) judgement said text judges.comes_to tells; fetched = judges.fetched; puts = puts }
+    record { text = text; gives = says_itself (λ ts place. ServeTells ts place before now honest) judgement said text judges.comes_to tells; fetched = judges.fetched; puts = puts; shreds = judges.shreds }
 
 pub text_none : (judgement : Judgement) (old new : Told) (gathered : Gathered) (before now : ServerState) (honest : Bool) (r : ServerRefusal)
     → Judges judgement (verdict_of gathered) old new → TextTells gathered before now honest (Err r)

@@ -5,12 +5,13 @@ use Rattle.nq_model.specs.Types.{TypeTree}
 use Rattle.nq_model.specs.TypeTexts.{written_type}
 
 -- What is done with a query that is accepted: its value is written, over the table texts of a folder; or
--- that it is accepted; or its type; or the paths of its type.
+-- that it is accepted; or its type; or the paths of its type; or the SQL texts that shred it.
 pub data Aim : Type 0 where
   run : List ℕ → Aim
   check : Aim
   show_types : Aim
   show_paths : Aim
+  show_sql : Aim
 
 -- a text on the program is written, or a query is put to an aim: the names of a schema and of the query
 pub data Command : Type 0 where
@@ -28,9 +29,11 @@ three_words word schema query = cond (bytes_eq word (codes "check")) (Some (of_q
 
 -- what is shown
 abbrev pub shown : List ℕ → Option Aim
-shown what = cond (bytes_eq what (codes "types")) (Some show_types) (cond (bytes_eq what (codes "paths")) (Some show_paths) None)
+shown what =
+    cond (bytes_eq what (codes "types")) (Some show_types)
+    (cond (bytes_eq what (codes "paths")) (Some show_paths) (cond (bytes_eq what (codes "sql")) (Some show_sql) None))
 
--- `run SCHEMA QUERY DIR`, or `show` with `types` or `paths` and SCHEMA QUERY
+-- `run SCHEMA QUERY DIR`, or `show` with `types`, `paths` or `sql` and SCHEMA QUERY
 abbrev pub four_words : List ℕ → List ℕ → List ℕ → List ℕ → Option Command
 four_words word second third fourth =
     cond (bytes_eq word (codes "run")) (Some (of_query (run fourth) second third))
@@ -49,6 +52,7 @@ aim_asks (run folder) = true
 aim_asks check = false
 aim_asks show_types = false
 aim_asks show_paths = false
+aim_asks show_sql = false
 
 abbrev pub asks_server : Option Command → Bool
 asks_server None = false

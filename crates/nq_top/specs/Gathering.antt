@@ -1,5 +1,5 @@
 -- What the gathering of inputs says of the calls and of what is held.
-use Rattle.std.specs.Prelude.{◌≡◌, ◌<◌, ◌≤◌, ◌+◌, ℕ, Bool, true, false, ⊤, List, [], ◌∷◌, ◌++◌, length, map, All, Contains, Option, Some, Result, Ok, Err}
+use Rattle.std.specs.Prelude.{◌≡◌, ◌<◌, ◌≤◌, ◌+◌, ℕ, Bool, true, false, ⊤, List, [], ◌∷◌, ◌++◌, length, map, All, Contains, Option, Some, IfSome, Result, Ok, Err}
 use Rattle.nq_edge.specs.Edge.{Rose, TellsMore, IsLonger}
 use Rattle.nq_model.specs.Cells.{RowFits}
 use Rattle.nq_model.specs.Orders.{AreDistinct}
@@ -16,6 +16,7 @@ use Rattle.query_syntax.specs.declared.fault.SyntaxFault.{SyntaxFault}
 use Rattle.query_syntax.specs.declared.fault.SyntaxFault.TheVariants as query
 use Rattle.nq_top.specs.Reading.{type_read}
 use Rattle.nq_top.specs.Judging.{Judgement, Verdict, refused, written, accepted}
+use Rattle.nq_top.specs.Shown.{ShredsQuery}
 use Rattle.nq_top.specs.declared.gathered.Gathered.{Gathered}
 use Rattle.nq_top.specs.declared.gathered.Gathered.TheVariants as gathered
 use Rattle.nq_top.specs.declared.refusal.Refused.{Refused}
@@ -34,10 +35,11 @@ InputCounts before now (Err input.Memory) = now ≡ before
 InputCounts before now (Err (input.Refused r)) = now ≡ before
 InputCounts before now (Err (input.Failed name)) = Rose before now
 
--- the inputs come to this, and all their names were fetched
+-- the inputs come to this, and all their names were fetched; SQL texts that are shown shred their query
 pub record Judges (judgement : Judgement) (verdict : Verdict) (old new : Told) : Type 0 where
   pub comes_to : judgement.verdict ≡ verdict
   pub fetched : TellsMore old new judgement.names
+  pub shreds : IfSome judgement.shown ShredsQuery
 
 -- some of the names were fetched, in order
 pub record FetchedSome (names : List (List ℕ)) (old new : Told) : Type 0 where

@@ -9,9 +9,10 @@ use Rattle.nq_model.specs.declared.table.TableShape.{TableShape}
 use Rattle.nq_edge.specs.Edge.{Files, bytes_at}
 use Rattle.show_texts.specs.Paths.{paths_text}
 use Rattle.sql_profile.specs.declared.server.Loaded.{Loaded}
-use Rattle.nq_top.specs.Commands.{Aim, run, check, show_types, show_paths, Command, help, version, of_query, command_of, file_of, accepted_line, type_line}
+use Rattle.nq_top.specs.Commands.{Aim, run, check, show_types, show_paths, show_sql, Command, help, version, of_query, command_of, file_of, accepted_line, type_line}
 use Rattle.nq_top.specs.Help.{help_text, version_text}
-use Rattle.nq_top.specs.Reading.{QueryReading, Reading, schema_read, term_read, type_read, rows_read}
+use Rattle.nq_top.specs.Reading.{PlainReading, Reading, schema_read, term_read, type_read, rows_read}
+use Rattle.nq_top.specs.Shown.{Shown, shown_texts, shown_frames}
 use Rattle.nq_top.specs.declared.refusal.Refused.{Refused}
 use Rattle.nq_top.specs.declared.refusal.Refused.TheVariants.{Usage, TooLong, NotBuilt}
 
@@ -23,18 +24,23 @@ pub data Verdict : Type 0 where
   written : List ℕ → Verdict
   accepted : List Loaded → ℕ → Verdict
 
--- the names that are fetched, in order, and what comes of them
+-- the names that are fetched, in order, and what comes of them; and the SQL texts, where they are shown
 pub record Judgement : Type 0 where
   pub names : List (List ℕ)
   pub verdict : Verdict
+  pub shown : Option Shown
 
 -- without a fetch
 abbrev pub at_once : Verdict → Judgement
-at_once verdict = record { names = []; verdict = verdict }
+at_once verdict = record { names = []; verdict = verdict; shown = None }
+
+-- SQL texts are shown, without a fetch
+abbrev pub showing : Shown → Judgement
+showing shown = record { names = []; verdict = written (shown_frames shown); shown = Some shown }
 
 -- after the fetch of a name
 abbrev pub after : List ℕ → Judgement → Judgement
-after name later = record { names = name ∷ later.names; verdict = later.verdict }
+after name later = record { names = name ∷ later.names; verdict = later.verdict; shown = later.shown }
 
 abbrev pub judged : List ℕ → ℕ → (List ℕ → Judgement) → Option (List ℕ) → Judgement
 judged name limit next None = after name (at_once (missing name))
@@ -80,25 +86,26 @@ run_judged files folder schema term =
     read_then (built (table_named term)) (λ name. tables_judged files folder schema.tables 67108864 [] (place_named name schema.tables))
 
 -- a query that is accepted with its type
-unfoldable pub aim_judged : Files → Aim → Schema → PlacedTerm → TypeTree → Judgement
-aim_judged files (run folder) schema term type = run_judged files folder schema term
-aim_judged files check schema term type = at_once (written accepted_line)
-aim_judged files show_types schema term type = at_once (written (type_line type))
-aim_judged files show_paths schema term type = at_once (written (paths_text type))
+unfoldable pub aim_judged : PlainReading → Files → Aim → Schema → PlacedTerm → TypeTree → Judgement
+aim_judged plain files (run folder) schema term type = run_judged files folder schema term
+aim_judged plain files check schema term type = at_once (written accepted_line)
+aim_judged plain files show_types schema term type = at_once (written (type_line type))
+aim_judged plain files show_paths schema term type = at_once (written (paths_text type))
+aim_judged plain files show_sql schema term type = showing (shown_texts plain schema term type)
 
 -- a query that was read: it is typed over the schema
-abbrev pub term_judged : Files → Aim → Schema → PlacedTerm → Judgement
-term_judged files aim schema term = read_then (type_read schema term) (λ type. aim_judged files aim schema term type)
+abbrev pub term_judged : PlainReading → Files → Aim → Schema → PlacedTerm → Judgement
+term_judged plain files aim schema term = read_then (type_read schema term) (λ type. aim_judged plain files aim schema term type)
 
 -- the query, after the schema
-abbrev pub query_judged : QueryReading → Files → Aim → Schema → List ℕ → Judgement
+abbrev pub query_judged : Reading → Files → Aim → Schema → List ℕ → Judgement
 query_judged reading files aim schema query =
-    fetched_then files query 1048576 (λ text. read_then (term_read reading text) (λ term. term_judged files aim schema term))
+    fetched_then files query 1048576 (λ text. read_then (term_read reading.queries text) (λ term. term_judged reading.plain files aim schema term))
 
 -- the schema, and then the query
 abbrev pub schema_judged : Reading → Files → Aim → List ℕ → List ℕ → Judgement
 schema_judged reading files aim schema query =
-    fetched_then files schema 1048576 (λ text. read_then (schema_read reading.schemas text) (λ found. query_judged reading.queries files aim found query))
+    fetched_then files schema 1048576 (λ text. read_then (schema_read reading.schemas text) (λ found. query_judged reading files aim found query))
 
 abbrev pub command_judged : Reading → Option Command → Files → Judgement
 command_judged reading None files = at_once (refused Usage)

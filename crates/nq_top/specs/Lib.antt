@@ -3,6 +3,7 @@ pub mod Help
 pub mod Words
 pub mod Refusals
 pub mod Reading
+pub mod Shown
 pub mod Judging
 pub mod Gathering
 pub mod Meanings

@@ -12,6 +12,7 @@ use Rattle.nq_top.specs.Judging.{Judgement, Verdict, missing, refused, written, 
 use Rattle.nq_top.specs.Meanings.{asked_value}
 use Rattle.nq_top.specs.Noting.{Notes}
 use Rattle.nq_top.specs.Refusals.{status_of}
+use Rattle.nq_top.specs.Shown.{ShredsQuery}
 use Rattle.nq_top.specs.Serving.{ServerState, RefusalCounts, RefusalBlames}
 use Rattle.nq_top.specs.declared.refusal.ServerRefusal.{ServerRefusal}
 use Rattle.nq_top.specs.declared.refusal.Refusal.{Refusal}
@@ -83,12 +84,14 @@ Gives served (refused r) text = ⊥
 Gives served (written said) text = text ≡ said
 Gives served (accepted tables asked) text = served tables asked (Ok text)
 
--- the inputs are accepted, all their names were fetched, and the text that they give was put
+-- the inputs are accepted, all their names were fetched, and the text that they give was put; SQL texts that are
+-- shown shred their query
 pub record Writes (served : Served) (judgement : Judgement) (old new : Told) (put : List ℕ → Type 0) : Type 0 where
   pub text : List ℕ
   pub gives : Gives served judgement.verdict text
   pub fetched : TellsMore old new judgement.names
   pub puts : put text
+  pub shreds : IfSome judgement.shown ShredsQuery
 
 -- the inputs come to tables, for which the server gives no text
 pub record ServesNone (served : Served) (judgement : Judgement) (old new : Told) (r : ServerRefusal) : Type 0 where

@@ -1,5 +1,5 @@
 -- The words of a command as the program has them.
-use Rattle.nq_top.specs.Commands.{Aim, run, check, show_types, show_paths, Command, help, version, of_query}
+use Rattle.nq_top.specs.Commands.{Aim, run, check, show_types, show_paths, show_sql, Command, help, version, of_query}
 use Rattle.nq_top.specs.declared.words.Aim.{Aim as Aims}
 use Rattle.nq_top.specs.declared.words.Aim.TheVariants as aim
 use Rattle.nq_top.specs.declared.words.Command.{Command as Words}
@@ -10,6 +10,7 @@ aim_view (aim.Run folder) = run folder.now
 aim_view aim.Check = check
 aim_view aim.ShowTypes = show_types
 aim_view aim.ShowPaths = show_paths
+aim_view aim.ShowSql = show_sql
 
 abbrev pub command_view : Words → Command
 command_view words.Help = help

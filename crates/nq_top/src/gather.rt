@@ -1,19 +1,22 @@
 // Reads the inputs of a command, each judged before the next.
-ghost use Rattle.std.specs.Prelude.{◌≡◌, ◌≢◌, ◌<◌, ◌↔◌, true, List, IfOk, IfSome, None, Err, length, map, option_map, string_bytes};
-ghost use Rattle.nq_model.specs.Terms.{placed};
+ghost use Rattle.std.specs.Prelude.{◌≡◌, ◌≢◌, ◌<◌, ◌↔◌, true, List, IfOk, IfSome, None, Ok, Err, length, map, option_map, string_bytes};
+ghost use Rattle.nq_model.specs.Proper.{IsProperTerm};
+ghost use Rattle.nq_model.specs.Tables.{IsProperSchema};
+ghost use Rattle.nq_model.specs.Terms.{placed, bare};
 ghost use Rattle.nq_model.specs.Types.{type_tree};
 ghost use Rattle.nq_model.specs.Typing.{shape_named};
 ghost use Rattle.nq_top.specs.Commands.{command_of, aim_asks, asks_server, type_line};
 ghost use Rattle.nq_top.specs.Words.{aim_view};
-ghost use Rattle.nq_top.specs.Reading.{Reading};
+ghost use Rattle.nq_top.specs.Reading.{Reading, type_read};
 ghost use Rattle.nq_top.specs.Judging.{judgement, schema_judged, query_judged, term_judged, aim_judged, run_judged, table_named, place_named};
-ghost use Rattle.nq_top.specs.Gathering.{InputCounts, GatherTells, AreLoadable, IsTyped, IsServable, gathered_asks};
+ghost use Rattle.nq_top.specs.Gathering.{InputCounts, GatherTells, IsTyped, IsServable, gathered_asks};
 
 use crate::fetch::fetch_input;
 use crate::gathered::Gathered;
 use crate::help::{help_text, version_text};
 use crate::read::{schema_of, term_of, type_of};
 use crate::refusal::{InputRefusal, Refused};
+use crate::shown::shown_text;
 use crate::tables::gather_tables;
 use crate::words::{Aim, Command, command_of};
 use nq_edge::Inputs;
@@ -62,7 +65,7 @@ fn gather_run<I: Inputs>(
     schema: &Schema,
     term: &Term,
 ) -> Result<Gathered, InputRefusal>
-    requires loadable { AreLoadable schema.now.tables }
+    requires proper { IsProperSchema schema.now }
     requires typed { IsTyped schema.now (placed term.now) }
     ensures counts { InputCounts (I.faults inputs.old) (I.faults inputs.new) result }
     ensures listed { result ≢ Err (InputRefusal.Refused Refused.Usage) }
@@ -91,31 +94,37 @@ fn type_line(alloc: Global, ty: &Ty) -> Result<List<u8>, Memory>
     Ok(text)
 }
 
-// Does with a query that is accepted what the aim says.
+// Does with a query that is accepted, whose type this is, what the aim says.
 #[tactic(auto, using(crate::proofs::Gathers::gather_rules), unfolding(crate::specs::Judging::aim_judged))]
 fn gather_aim<I: Inputs>(
     alloc: Global,
     inputs: &mut I,
     aim: Aim<'_>,
     schema: &Schema,
-    term: &Term,
+    term: Term,
     ty: &Ty,
 ) -> Result<Gathered, InputRefusal>
-    requires loadable { AreLoadable schema.now.tables }
-    requires typed { IsTyped schema.now (placed term.now) }
+    requires proper { IsProperSchema schema.now }
+    requires proper_term { IsProperTerm (bare (placed term)) }
+    requires typed { type_read schema.now (placed term) ≡ Ok (type_tree ty.now) }
     ensures counts { InputCounts (I.faults inputs.old) (I.faults inputs.new) result }
     ensures listed { result ≢ Err (InputRefusal.Refused Refused.Usage) }
     ensures servable { IfOk result IsServable }
     ensures asks { IfOk result (λ gathered. gathered_asks gathered ≡ aim_asks (aim_view aim.entry)) }
-    ensures tells { IfSome (I.held inputs.old) (λ files.
-        GatherTells (aim_judged files (aim_view aim.entry) schema.now (placed term.now) (type_tree ty.now))
+    ensures tells { IfSome (I.held inputs.old) (λ files. (reading : Reading) →
+        GatherTells (aim_judged reading.plain files (aim_view aim.entry) schema.now (placed term) (type_tree ty.now))
         (I.fetched inputs.old) (I.fetched inputs.new) result) }
 {
     match aim {
-        Aim::Run(folder) => gather_run(alloc, inputs, folder, schema, term),
+        Aim::Run(folder) => {
+            let gathered = gather_run(alloc, inputs, folder, schema, &term);
+            drop(term);
+            gathered
+        }
         Aim::Check => Ok(Gathered::Text(List::from_slice(alloc, b"ok\n")?)),
         Aim::ShowTypes => Ok(Gathered::Text(type_line(alloc, ty)?)),
         Aim::ShowPaths => Ok(Gathered::Text(paths_text(alloc, ty)?)),
+        Aim::ShowSql => Ok(Gathered::Text(shown_text(alloc, schema, term)?)),
     }
 }
 
@@ -126,17 +135,18 @@ fn gather_term<I: Inputs>(
     inputs: &mut I,
     aim: Aim<'_>,
     schema: &Schema,
-    term: &Term,
+    term: Term,
 ) -> Result<Gathered, InputRefusal>
-    requires { AreLoadable schema.now.tables }
+    requires proper { IsProperSchema schema.now }
+    requires proper_term { IsProperTerm (bare (placed term)) }
     ensures counts { InputCounts (I.faults inputs.old) (I.faults inputs.new) result }
     ensures listed { result ≢ Err (InputRefusal.Refused Refused.Usage) }
     ensures servable { IfOk result IsServable }
     ensures asks { IfOk result (λ gathered. gathered_asks gathered ≡ aim_asks (aim_view aim.entry)) }
-    ensures tells { IfSome (I.held inputs.old) (λ files.
-        GatherTells (term_judged files (aim_view aim.entry) schema.now (placed term.now)) (I.fetched inputs.old) (I.fetched inputs.new) result) }
+    ensures tells { IfSome (I.held inputs.old) (λ files. (reading : Reading) →
+        GatherTells (term_judged reading.plain files (aim_view aim.entry) schema.now (placed term)) (I.fetched inputs.old) (I.fetched inputs.new) result) }
 {
-    match type_of(alloc, schema, term) {
+    match type_of(alloc, schema, &term) {
         Ok(ty) => {
             let gathered = gather_aim(alloc, inputs, aim, schema, term, &ty);
             drop(ty);
@@ -155,22 +165,18 @@ fn gather_query<I: Inputs>(
     schema: &Schema,
     query: &str,
 ) -> Result<Gathered, InputRefusal>
-    requires { AreLoadable schema.now.tables }
+    requires { IsProperSchema schema.now }
     ensures counts { InputCounts (I.faults inputs.old) (I.faults inputs.new) result }
     ensures listed { result ≢ Err (InputRefusal.Refused Refused.Usage) }
     ensures servable { IfOk result IsServable }
     ensures asks { IfOk result (λ gathered. gathered_asks gathered ≡ aim_asks (aim_view aim.entry)) }
     ensures tells { IfSome (I.held inputs.old) (λ files. (reading : Reading) →
-        GatherTells (query_judged reading.queries files (aim_view aim.entry) schema.now query.now) (I.fetched inputs.old) (I.fetched inputs.new) result) }
+        GatherTells (query_judged reading files (aim_view aim.entry) schema.now query.now) (I.fetched inputs.old) (I.fetched inputs.new) result) }
 {
     let name = Text::from_str(alloc, query)?;
     let text = fetch_input(alloc, inputs, name, TEXT_LIMIT)?;
     match term_of(alloc, text.as_slice()) {
-        Ok(term) => {
-            let gathered = gather_term(alloc, inputs, aim, schema, &term);
-            drop(term);
-            gathered
-        }
+        Ok(term) => gather_term(alloc, inputs, aim, schema, term),
         Err(refusal) => Err(refusal),
     }
 }

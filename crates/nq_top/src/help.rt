@@ -18,6 +18,7 @@ nq run SCHEMA QUERY DIR     writes the value of the query over the tables of DIR
 nq check SCHEMA QUERY       writes ok where the query is accepted
 nq show types SCHEMA QUERY  writes the type of the query
 nq show paths SCHEMA QUERY  writes a line for each bag constructor of the type
+nq show sql SCHEMA QUERY    writes an SQL text for each bag constructor of the type
 nq --help                   writes this text
 nq --version                writes the name and the version of the program
 

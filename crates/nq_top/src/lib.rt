@@ -13,6 +13,7 @@ mod read;
 mod refusal;
 mod run;
 mod serve;
+mod shown;
 mod tables;
 mod top;
 mod words;

@@ -1,9 +1,11 @@
 // Reads the text of a schema and of a query, and types a query.
 ghost use Rattle.std.specs.Prelude.{◌≡◌, IfOk, IfErr, Ok};
-ghost use Rattle.nq_model.specs.Terms.{placed};
+ghost use Rattle.nq_model.specs.Proper.{IsProperTerm};
+ghost use Rattle.nq_model.specs.Tables.{IsProperSchema};
+ghost use Rattle.nq_model.specs.Terms.{placed, bare};
 ghost use Rattle.nq_model.specs.Types.{type_tree};
 ghost use Rattle.nq_top.specs.Reading.{SchemaReading, QueryReading, schema_read, term_read, type_read};
-ghost use Rattle.nq_top.specs.Gathering.{ReadSays, IsOfText, AreLoadable, schema_refusal, query_refusal};
+ghost use Rattle.nq_top.specs.Gathering.{ReadSays, IsOfText, schema_refusal, query_refusal};
 
 use crate::refusal::{InputRefusal, Refused};
 use nq_model::{Schema, Term, Ty};
@@ -51,7 +53,7 @@ fn query_refusal(fault: SyntaxFault) -> InputRefusal
 #[tactic(auto, using(crate::proofs::SchemaTexts::schema_rules))]
 pub fn schema_of(alloc: Global, text: &[u8]) -> Result<Schema, InputRefusal>
     ensures says { (reading : SchemaReading) → ReadSays (λ found. found) (schema_read reading text.now) result }
-    ensures loadable { IfOk result (λ found. AreLoadable found.tables) }
+    ensures proper { IfOk result IsProperSchema }
     ensures refused { IfErr result IsOfText }
 {
     match read_schema(alloc, text) {
@@ -64,6 +66,7 @@ pub fn schema_of(alloc: Global, text: &[u8]) -> Result<Schema, InputRefusal>
 #[tactic(auto, using(crate::proofs::QueryReadings::query_rules))]
 pub fn term_of(alloc: Global, text: &[u8]) -> Result<Term, InputRefusal>
     ensures says { (reading : QueryReading) → ReadSays placed (term_read reading text.now) result }
+    ensures proper { IfOk result (λ term. IsProperTerm (bare (placed term))) }
     ensures refused { IfErr result IsOfText }
 {
     match parse(alloc, text, DEPTH) {

@@ -14,6 +14,8 @@ pub enum Aim<'a> {
     ShowTypes,
     /// The paths of its type are written.
     ShowPaths,
+    /// The SQL texts that shred it are written.
+    ShowSql,
 }
 
 /// What the words ask for.
@@ -57,6 +59,8 @@ fn shown<'a>(what: &str) -> Option<Aim<'a>>
         Some(Aim::ShowTypes)
     } else if what == "paths" {
         Some(Aim::ShowPaths)
+    } else if what == "sql" {
+        Some(Aim::ShowSql)
     } else {
         None
     }
