@@ -1,0 +1,11 @@
+//! Worked queries with their normal forms: tests alone, over the calls that are checked elsewhere.
+#![tactic(auto)]
+
+#[cfg(test)]
+mod asked;
+#[cfg(test)]
+mod deep;
+#[cfg(test)]
+mod forms;
+#[cfg(test)]
+mod told;
