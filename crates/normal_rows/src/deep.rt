@@ -3,94 +3,115 @@ ghost use Rattle.nq_model.specs.Tables.{IsProperSchema};
 
 use crate::asked::{org, plain};
 use normalise::normalise;
-use nq_ir::{Base, Body, Comp};
 use nq_model::{Memory, Schema};
 use std::alloc::Global;
 use std::process::Abort;
 
-// What multiplies: minuses in a bag, or conditions of one.
-#[derive(Clone, Copy)]
-enum Mark {
-    Minus,
-    Where,
+// Marks, one in another, in a bag over `x`. Each has two sides round the inner one, and the bag has two, round the
+// marks and what is marked. The first `x` is `first`.
+struct Marks {
+    first: &'static str,
+    bag: (&'static str, &'static str),
+    mark: (&'static str, &'static str),
+    marked: &'static str,
+    // How many marks the form of a query has at most.
+    most: u64,
 }
 
-// A bag of `x` with so many marks.
-fn put_marked(text: &mut String, mark: Mark, times: u64) -> Result<(), Memory> {
-    let (before, each, after) = match mark {
-        Mark::Minus => ("[", "-", "x]"),
-        Mark::Where => ("", "where (true) ", "[x]"),
-    };
-    text.push_str(before)?;
+const MARKS: [Marks; 6] = [
+    // A comprehension, 1,998 minuses and a leaf are 2,000 deep. So are choices and records.
+    Marks {
+        first: "1",
+        bag: ("[", "]"),
+        mark: ("-", ""),
+        marked: "x",
+        most: 1998,
+    },
+    Marks {
+        first: "1",
+        bag: ("[", "]"),
+        mark: ("if true then ", " else 2"),
+        marked: "x",
+        most: 1998,
+    },
+    Marks {
+        first: "1",
+        bag: ("[", "]"),
+        mark: ("(a = ", ")"),
+        marked: "x",
+        most: 1998,
+    },
+    // A bag and its comprehension are two, and so are a test and its condition.
+    Marks {
+        first: "1",
+        bag: ("[", "]"),
+        mark: ("[", "]"),
+        marked: "x",
+        most: 999,
+    },
+    Marks {
+        first: "true",
+        bag: ("[", "]"),
+        mark: ("empty(where (", ") [1])"),
+        marked: "x",
+        most: 999,
+    },
+    // 1,999 conditions are joined over a leaf.
+    Marks {
+        first: "1",
+        bag: ("", ""),
+        mark: ("where (true) ", ""),
+        marked: "[x]",
+        most: 1999,
+    },
+];
+
+// A bag with so many marks.
+fn put_bag(text: &mut String, marks: &Marks, times: u64) -> Result<(), Memory> {
+    text.push_str(marks.bag.0)?;
     for _ in 0..times {
-        text.push_str(each)?;
+        text.push_str(marks.mark.0)?;
     }
-    text.push_str(after)?;
+    text.push_str(marks.marked)?;
+    for _ in 0..times {
+        text.push_str(marks.mark.1)?;
+    }
+    text.push_str(marks.bag.1)?;
     Ok(())
 }
 
-// `for (x <- [1]) for (x <- MARKED) .. MARKED`, with 60 marks in each of so many sources and `last` in the last bag.
-fn nested(alloc: Global, mark: Mark, sources: u64, last: u64) -> Result<String, Memory> {
-    let mut text = String::from_str(alloc, "for (x <- [1]) ")?;
-    for _ in 0..sources {
+// `for (x <- [FIRST]) for (x <- BAG) .. BAG`, with 60 marks in each bag but the last, and so many in all.
+fn nested(alloc: Global, marks: &Marks, times: u64) -> Result<String, Memory> {
+    let first = marks.first;
+    let mut text = format!(in alloc; "for (x <- [{first}]) ")?;
+    for _ in 0..times / 60 {
         text.push_str("for (x <- ")?;
-        put_marked(&mut text, mark, 60)?;
+        put_bag(&mut text, marks, 60)?;
         text.push_str(") ")?;
     }
-    put_marked(&mut text, mark, last)?;
+    put_bag(&mut text, marks, times % 60)?;
     Ok(text)
 }
 
-fn minuses(base: &Base) -> u64 {
-    match base {
-        Base::Unary { op: _, of } => minuses(of).saturating_add(1),
-        _ => 0,
-    }
-}
-
-// The conditions of the comprehensions, and the minuses in one another in their bodies.
-fn marks(comps: &[Comp]) -> u64 {
-    let mut count: u64 = 0;
-    for comp in comps {
-        count = count.saturating_add(comp.conds.len() as u64);
-        if let Body::Plain(base) = &comp.body {
-            count = count.saturating_add(minuses(base));
-        }
-    }
-    count
-}
-
-// The marks in the normal form, and none for want of memory.
-fn marks_of(alloc: Global, schema: &Schema, text: &str) -> Result<Option<u64>, Memory>
+// Whether memory does not want.
+fn is_answered(alloc: Global, schema: &Schema, marks: &Marks, times: u64) -> Result<bool, Memory>
     requires { IsProperSchema schema.now }
 {
-    let term = plain(alloc, schema, text)?;
-    match normalise(alloc, schema, &term) {
-        Ok(form) => Ok(Some(marks(form.parts.as_slice()))),
-        Err(Memory) => Ok(None),
-    }
+    let text = nested(alloc, marks, times)?;
+    let term = plain(alloc, schema, text.as_str())?;
+    Ok(normalise(alloc, schema, &term).is_ok())
 }
-
-// What is nested, and how many marks its form has.
-const NESTED: [(Mark, u64, u64, Option<u64>); 7] = [
-    // 1,998 minuses and a leaf in a comprehension are 2,000 deep.
-    (Mark::Minus, 33, 18, Some(1998)),
-    (Mark::Minus, 33, 19, None),
-    (Mark::Minus, 60, 0, None),
-    // 1,999 conditions, joined over a leaf.
-    (Mark::Where, 33, 19, Some(1999)),
-    (Mark::Where, 33, 20, None),
-    (Mark::Where, 60, 0, None),
-    (Mark::Minus, 33, 18, Some(1998)),
-];
 
 #[test]
 fn deeper_is_want_of_memory(rt: HostRuntime) -> Result<(), Memory> {
     let alloc = rt.alloc();
     let schema = org(alloc)?;
-    for (mark, sources, last, want) in &NESTED {
-        let text = nested(alloc, *mark, *sources, *last)?;
-        assert_eq!(&rt; marks_of(alloc, &schema, text.as_str())?, *want);
+    // 60 nested `for`, each with 60 minuses.
+    assert!(&rt; !is_answered(alloc, &schema, &MARKS[0], 3600)?);
+    for marks in &MARKS {
+        let most = marks.most;
+        assert!(&rt; is_answered(alloc, &schema, marks, most)?);
+        assert!(&rt; !is_answered(alloc, &schema, marks, most.saturating_add(1))?);
     }
     Ok(())
 }
