@@ -1,11 +1,5 @@
 pub mod Misfits
-pub mod ScanTexts
-pub mod ScanRows
-pub mod ScanLaws
-pub mod ScanNames
 pub mod Trees
-pub mod PlainItems
-pub mod ScanAllowed
 pub mod Scoped
 pub mod Lookups
 pub mod AnswersFit
@@ -19,12 +13,10 @@ pub mod TextLaws
 pub mod NumberedKeys
 pub mod TextRows
 pub mod Lexed
-pub mod ScanSpelled
-pub mod ScanScoped
-pub mod ScanAsked
 pub mod Words
 pub mod Laid
 pub mod Spelled
 pub mod TokenHolds
 pub mod HeldTables
 pub mod Parts
+pub mod AskedAnswers

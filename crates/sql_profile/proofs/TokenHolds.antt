@@ -1,6 +1,6 @@
 -- A text holds names of 1 to 128 bytes without a double quote and numbers below 2^63 alone, so the tree that it spells
 -- can be spelled.
-use Rattle.std.proofs.Common.{◌≡◌, ℕ, zero, suc, ◌+◌, ◌<◌, ◌≤◌, ◌^◌, Bool, true, false, cond, ◌&&◌, ◌==◌, nat_le, if◌then◌else◌, List, [], ◌∷◌, length, take, drop, map, pos, Option, Some, None, Result, Ok, Err, refl, sym, ap, subst, arith}
+use Rattle.std.proofs.Common.{◌≡◌, ℕ, zero, suc, ◌+◌, ◌<◌, ◌≤◌, ◌^◌, Bool, true, false, cond, ◌&&◌, ◌==◌, Contains, nat_le, if◌then◌else◌, List, [], ◌∷◌, length, take, drop, map, pos, Option, Some, None, Result, Ok, Err, refl, sym, ap, subst, arith}
 use Rattle.std.specs.List.{AllByRecursion as Each, prefix_len}
 use Rattle.std.proofs.lemmas.Bool.Decides.{nat_tests}
 use Rattle.nq_model.specs.SchemaTokens.{is_word_byte, is_comment_byte}
@@ -12,8 +12,13 @@ use Rattle.sql_profile.specs.Trees.{PlacedExprs, none_at, then_at, PlacedQuery, 
 use Rattle.sql_profile.specs.Texts.{Spells}
 use Rattle.sql_profile.specs.Spellable.{HasWritableNames, IsSpellableExpr, IsSpellableQuery, AreSpellableSelects, IsSpellableSelect, IsSpellableKeep, HasSpellableItems, AreSpellableItems, IsSpellableValue, AreSpellableKeys, IsSpellableWith, IsSpellable}
 use Rattle.sql_profile.specs.WritableNames.{IsWritableName}
-use Rattle.sql_profile.proofs.ScanSpelled.{no_quotes}
 use Rattle.sql_profile.proofs.TokenCuts.{ok_same}
+
+-- bytes of names hold no quote
+no_quotes : (bs : List ℕ) → Each (λ b. is_name_byte b ≡ true) bs → Contains bs 34 → ⊥
+no_quotes [] e (k, within, is) = absurd (omega (arith, within))
+no_quotes (b ∷ bs) e (zero, within, is) = let h : (if 34 == 34 then false else true) ≡ true = subst (λ n. is_name_byte n ≡ true) is e.0 in absurd (cc)
+no_quotes (b ∷ bs) e (suc k, within, is) = no_quotes bs e.1 (k, omega (arith, within), is)
 
 -- what a token holds
 abbrev Holds : Token → Type 0

@@ -1,9 +1,7 @@
 pub mod Fits
 pub mod Servers
-pub mod Scans
 pub mod Trees
 pub mod AllowedAnswers
-pub mod ScanTrees
 pub mod Scope
 pub mod Tokens
 pub mod Grammar

@@ -13,8 +13,6 @@ ghost use Rattle.nq_model.specs.declared.table.TableShape.{TableShape};
 ghost use Rattle.nq_model.specs.NamedRows.{NamedTables};
 ghost use Rattle.sql_profile.specs.AllowedAnswers.{Scope, TreeAllows, ValueGives};
 ghost use Rattle.sql_profile.specs.NumberedKeys.{IsNthOf, keys_of, number_cells};
-ghost use Rattle.sql_profile.specs.ScanTrees.{scan_tree};
-ghost use Rattle.sql_profile.specs.Scans.{Allows, HasFullRows, IsScan, scan_row, scan_text};
 ghost use Rattle.sql_profile.specs.Printed.{printed};
 ghost use Rattle.sql_profile.specs.Scope.{Broken, Fine, IsWellScoped, Shapes, among, found, judge, names_in, shapes_of, shapes_of_schema};
 ghost use Rattle.sql_profile.specs.Servers.{filled_of, held_of, table_names};
@@ -22,7 +20,6 @@ ghost use Rattle.sql_profile.specs.Spellable.{IsSpellable};
 ghost use Rattle.sql_profile.specs.Texts.{Fault, HasFault, IsAskable, Spells, TextAllows};
 ghost use Rattle.sql_profile.specs.Tokens.{Edition, First};
 ghost use Rattle.sql_profile.specs.Trees.{ExprTrees, PlacedSql, SqlTree, bare, number};
-ghost use Rattle.sql_profile.specs.WritableNames.{IsServable, IsServed};
 ghost use Rattle.sql_profile.specs.declared.server.Loaded.{Loaded};
 
 /// A text spells exactly one tree, or has exactly one fault, at each depth. A depth of its own bytes is
@@ -57,8 +54,7 @@ pub fn scope_laws()
 
 /// What SQL allows as an answer. A tree that is well scoped over tables whose rows fit allows only rows
 /// of its columns' types. However a numbering numbers ties, the combination with the number n has the
-/// n-th of the sorted key lists, and the pairs of number and key list are one multiset. To the tree of
-/// a scan text it allows what the trait of servers says of that text.
+/// n-th of the sorted key lists, and the pairs of number and key list are one multiset.
 pub fn answer_laws()
     ensures fitting { (held : List Loaded) (tree : SqlTree) (columns : Columns) (rows : List (List Cell))
         → All (λ table. All (RowFits (types_of table.columns)) table.rows) held
@@ -69,38 +65,21 @@ pub fn answer_laws()
     ensures numbers_fixed { (tables : NamedTables) (kept : List Scope) (keys : ExprTrees) (cells : List Cell) (sorted : List (List Cell))
         → ValueGives tables kept (number keys) cells → Reordered (keys_of tables keys kept) sorted → Rises key_lt sorted
         → Reordered (zip cells (keys_of tables keys kept)) (number_cells sorted) }
-    ensures scans { (held : List Loaded) (table : Loaded) → AreDistinct (table_names held) → AreDistinct (names_of table.columns)
-        → HasFullRows table → Contains held table → (rows : List (List Cell))
-        → Reordered (map (scan_row (names_of table.columns)) table.rows) rows ↔ TreeAllows held (scan_tree table.name table.columns) rows }
 {}
 
-/// What SQL allows as an answer to a text. The scan text of a held table may be asked, where it is UTF-8,
-/// and SQL allows to it what the trait of servers says, and nothing else; over names in UTF-8 it is UTF-8.
-/// An answer to a text that may be asked has the types of the text's columns.
+/// An answer that SQL allows to a text that may be asked has the types of the text's columns.
 pub fn ask_laws()
-    ensures askable { (held : List Loaded) (text : List ℕ) → IsServable held → IsScan held text → IsUtf8 text → IsAskable First held text }
-    ensures allowed { (held : List Loaded) (text : List ℕ) (rows : List (List Cell)) → IsServable held → IsScan held text → IsUtf8 text
-        → Allows held text rows ↔ TextAllows First held text rows }
-    ensures table_askable { (held : List Loaded) (table : Loaded) → IsServed held table → IsUtf8 (scan_text table.name table.columns)
-        → IsAskable First held (scan_text table.name table.columns) }
-    ensures table_allowed { (held : List Loaded) (table : Loaded) → IsServed held table → IsUtf8 (scan_text table.name table.columns)
-        → (rows : List (List Cell)) → Reordered (map (scan_row (names_of table.columns)) table.rows) rows
-        ↔ TextAllows First held (scan_text table.name table.columns) rows }
-    ensures utf8 { (name : List ℕ) (columns : Columns) → IsUtf8 name → Each IsUtf8 (names_of columns) → length columns < 2 ^ 64
-        → IsUtf8 (scan_text name columns) }
     ensures fitting { (edition : Edition) (held : List Loaded) (text : List ℕ) (rows : List (List Cell))
         → All (λ table. All (RowFits (types_of table.columns)) table.rows) held
         → (asked : IsAskable edition held text) → TextAllows edition held text rows → All (RowFits (types_of asked.columns)) rows }
 {}
 
 /// The text of a tree that can be spelled spells it, where it is UTF-8; and each text spells such a tree.
-/// The scan text is the text of its tree.
 pub fn printing_laws()
     ensures read_back { (tree : SqlTree) → IsSpellable tree → IsUtf8 (printed tree)
         → (placed : PlacedSql) × Spells First (length (printed tree)) (printed tree) placed × (bare placed ≡ tree) }
     ensures spellable { (edition : Edition) (d : ℕ) (text : List ℕ) (tree : PlacedSql)
         → Spells edition d text tree → IsSpellable (bare tree) }
-    ensures scan { (name : List ℕ) (columns : Columns) → printed (scan_tree name columns) ≡ scan_text name columns }
 {}
 
 /// The tables that are loaded of a schema, one to each shape and in its order, have its shapes, and queries

@@ -3,8 +3,9 @@ ghost use Rattle.std.specs.Prelude.{◌≡◌, ◌≤◌, [], ◌∷◌, ◌++�
 ghost use Rattle.nq_model.specs.Cells.{RowFits};
 ghost use Rattle.nq_model.specs.Orders.{AreDistinct};
 ghost use Rattle.nq_model.specs.Tables.{names_of, types_of};
-ghost use Rattle.sql_profile.specs.Scans.{IsScan, Allows};
 ghost use Rattle.sql_profile.specs.Servers.{CountsFault, Asks, with_ask, table_names};
+ghost use Rattle.sql_profile.specs.Texts.{IsAskable, TextAllows};
+ghost use Rattle.sql_profile.specs.Tokens.{First};
 ghost use Rattle.sql_profile.specs.declared.server.Loaded.{Loaded};
 
 use crate::answer::Answer;
@@ -70,10 +71,11 @@ pub trait SqlServer: Drop {
         ensures honesty_stays { honest self.new ≡ honest self.old }
         ensures bound_stays { bound self.new ≡ bound self.old };
 
-    /// Answers the scan text of a held table. It answers `Failed` only where its count of faults rose.
+    /// Answers a text of the profile that is well scoped over the held tables, if it is honest with rows that SQL
+    /// allows to it. It answers `Failed` only where its count of faults rose.
     fn ask(&mut self, alloc: Global, text: &[u8]) -> Result<Answer, ServerFault>
-        requires { IsScan (loaded self.old) text.now }
-        ensures allowed { IfOk result (λ answer. honest self.old ≡ true → Allows (loaded self.old) text.now answer.rows) }
+        requires { IsAskable First (loaded self.old) text.now }
+        ensures allowed { IfOk result (λ answer. honest self.old ≡ true → TextAllows First (loaded self.old) text.now answer.rows) }
         ensures counts { CountsFault (bound self.old) (failures self.old) (failures self.new) result }
         ensures told { IfOk result (λ answer. asks self.new ≡ with_ask text.now answer (asks self.old)) }
         ensures untold { OnErr result (asks self.new ≡ asks self.old) }
@@ -110,8 +112,8 @@ pub fn ask_text(
     server: &mut Box<dyn SqlServer>,
     text: &[u8],
 ) -> Result<Answer, ServerFault>
-    requires { IsScan (loaded server.old) text.now }
-    ensures allowed { IfOk result (λ answer. honest server.old ≡ true → Allows (loaded server.old) text.now answer.rows) }
+    requires { IsAskable First (loaded server.old) text.now }
+    ensures allowed { IfOk result (λ answer. honest server.old ≡ true → TextAllows First (loaded server.old) text.now answer.rows) }
     ensures counts { CountsFault (bound server.old) (failures server.old) (failures server.new) result }
     ensures told { IfOk result (λ answer. asks server.new ≡ with_ask text.now answer (asks server.old)) }
     ensures untold { OnErr result (asks server.new ≡ asks server.old) }
