@@ -2,15 +2,18 @@
 use crate::built::{Chosen, Keep, Named, Value, text_of};
 use crate::held::organisation;
 use nq_model::{Cell, List, Memory};
+use rows::Rows;
+use sql_eval::{Arrangement, evaluate};
 use sql_plain::{Ties, evaluate_text};
 use std::alloc::Global;
 use std::process::Abort;
 
-// A text, and the rows that it gives where ties are numbered as they arise, and where they are the other way round.
+// A text, and the rows that it gives where ties are numbered as they arise, where they are the other way round, and
+// where the kept combinations of each SELECT are taken in reverse.
 struct Row {
     with: Option<(&'static str, Chosen)>,
     main: &'static [Chosen],
-    rows: [&'static str; 2],
+    rows: [&'static str; 3],
 }
 
 const NUMBERED: &[(&str, Value)] = &[("a", Value::Column(("x", "a"))), ("n", Value::Number(&[]))];
@@ -41,7 +44,11 @@ const ROWS: [Row; 11] = [
             from: &[("departments", "d")],
             keep: Keep::Without(("employees", "dept"), ("d", "name")),
         }],
-        rows: ["Quality ;Research ;", "Quality ;Research ;"],
+        rows: [
+            "Quality ;Research ;",
+            "Quality ;Research ;",
+            "Research ;Quality ;",
+        ],
     },
     // The scan text of a table with rows, and of one without.
     Row {
@@ -58,6 +65,7 @@ const ROWS: [Row; 11] = [
         rows: [
             "0 1 Product ;0 1 Quality ;0 1 Research ;0 1 Sales ;",
             "0 1 Product ;0 1 Quality ;0 1 Research ;0 1 Sales ;",
+            "0 1 Sales ;0 1 Research ;0 1 Quality ;0 1 Product ;",
         ],
     },
     Row {
@@ -71,7 +79,7 @@ const ROWS: [Row; 11] = [
             from: &[("nothing", "x1")],
             keep: Keep::All,
         }],
-        rows: ["", ""],
+        rows: ["", "", ""],
     },
     // Ties may be numbered in any way.
     Row {
@@ -81,7 +89,7 @@ const ROWS: [Row; 11] = [
             from: &[("t", "x")],
             keep: Keep::All,
         }],
-        rows: ["5 1 ;6 2 ;", "5 2 ;6 1 ;"],
+        rows: ["5 1 ;6 2 ;", "5 2 ;6 1 ;", "6 1 ;5 2 ;"],
     },
     // A WITH query has one list, so that each row meets itself, however its ties are numbered.
     Row {
@@ -101,7 +109,7 @@ const ROWS: [Row; 11] = [
             from: &[("w", "u"), ("w", "v")],
             keep: Keep::Equal(("u", "n"), ("v", "n")),
         }],
-        rows: ["5 5 ;6 6 ;", "5 5 ;6 6 ;"],
+        rows: ["5 5 ;6 6 ;", "5 5 ;6 6 ;", "5 5 ;6 6 ;"],
     },
     // The names of the departments, each with its number.
     Row {
@@ -120,6 +128,7 @@ const ROWS: [Row; 11] = [
         rows: [
             "0 1 Product 1 1 ;0 1 Quality 1 2 ;0 1 Research 1 3 ;0 1 Sales 1 4 ;",
             "0 1 Product 1 1 ;0 1 Quality 1 2 ;0 1 Research 1 3 ;0 1 Sales 1 4 ;",
+            "0 1 Sales 1 4 ;0 1 Research 1 3 ;0 1 Quality 1 2 ;0 1 Product 1 1 ;",
         ],
     },
     // The employees, each with the number of its department in the list of a WITH query and its own.
@@ -155,6 +164,7 @@ const ROWS: [Row; 11] = [
         rows: [
             "1 Alex 1 ;1 Bert 2 ;4 Erik 3 ;",
             "1 Alex 1 ;1 Bert 2 ;4 Erik 3 ;",
+            "1 Bert 2 ;1 Alex 1 ;4 Erik 3 ;",
         ],
     },
     // The tasks, each with the number of its employee in the list of a WITH query.
@@ -182,6 +192,7 @@ const ROWS: [Row; 11] = [
         rows: [
             "2 1 build ;2 2 build ;2 3 call ;2 3 enthuse ;",
             "2 1 build ;2 2 build ;2 3 call ;2 3 enthuse ;",
+            "2 1 build ;2 2 build ;2 3 enthuse ;2 3 call ;",
         ],
     },
     // A numbering without sources has one row, and both SELECTs of a union give theirs.
@@ -195,7 +206,7 @@ const ROWS: [Row; 11] = [
             },
         )),
         main: &[ONE_OF_Z, ONE_OF_Z],
-        rows: ["1 1 1 ;1 1 1 ;", "1 1 1 ;1 1 1 ;"],
+        rows: ["1 1 1 ;1 1 1 ;", "1 1 1 ;1 1 1 ;", "1 1 1 ;1 1 1 ;"],
     },
     // Both texts of an empty bag of records that hold a bag: a SELECT without sources that keeps nothing.
     Row {
@@ -211,7 +222,7 @@ const ROWS: [Row; 11] = [
             from: &[],
             keep: Keep::None,
         }],
-        rows: ["", ""],
+        rows: ["", "", ""],
     },
     Row {
         with: None,
@@ -224,7 +235,7 @@ const ROWS: [Row; 11] = [
             from: &[],
             keep: Keep::None,
         }],
-        rows: ["", ""],
+        rows: ["", "", ""],
     },
 ];
 
@@ -256,6 +267,33 @@ fn gives(rt: HostRuntime) -> Result<(), Memory> {
         {
             let rows = evaluate_text(alloc, held.as_slice(), &text, *ties)?;
             assert_eq!(&rt; shown(alloc, rows.as_slice())?.as_str(), *want);
+        }
+    }
+    Ok(())
+}
+
+// The rows one by one.
+fn listed(alloc: Global, rows: &Rows) -> Result<Vec<List<Cell>>, Memory> {
+    let mut list = Vec::new(alloc);
+    for row in 0..rows.len() {
+        list.push(rows.row(alloc, row)?)?;
+    }
+    Ok(list)
+}
+
+#[test]
+fn is_evaluated(rt: HostRuntime) -> Result<(), Memory> {
+    let alloc = rt.alloc();
+    let held = organisation(alloc)?;
+    for row in &ROWS {
+        let text = text_of(alloc, row.with.as_ref(), row.main)?;
+        for (arrangement, want) in [Arrangement::AsTheyArise, Arrangement::Reversed]
+            .iter()
+            .zip([row.rows[0], row.rows[2]].iter())
+        {
+            let rows = evaluate(alloc, held.as_slice(), &text, *arrangement)?;
+            let list = listed(alloc, &rows)?;
+            assert_eq!(&rt; shown(alloc, list.as_slice())?.as_str(), *want);
         }
     }
     Ok(())

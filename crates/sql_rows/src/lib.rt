@@ -10,5 +10,3 @@ mod given;
 mod held;
 #[cfg(test)]
 mod misfits;
-#[cfg(test)]
-mod scans;

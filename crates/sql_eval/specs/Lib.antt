@@ -1,0 +1,10 @@
+pub mod Scopes
+pub mod Lists
+pub mod Combinations
+pub mod Walks
+pub mod Meanings
+pub mod Standing
+pub mod Walking
+pub mod Dealing
+pub mod Columns
+pub mod Making

@@ -1,0 +1,45 @@
+// Numbers for rows, dealt by sorting them.
+ghost use Rattle.std.specs.Prelude.{◌≡◌, IfOk, length};
+ghost use Rattle.std.specs.List.Sorted.{IsPermutation};
+ghost use Rattle.nq_model.specs.Numberings.{Numbers, count_from, key_lt};
+ghost use Rattle.sql_eval.specs.Dealing.{AreRanks, HaveOneWidth};
+
+use nq_model::Memory;
+use row_order::order;
+use rows::Rows;
+use std::alloc::Global;
+
+// The places of so many columns, counted from 0.
+fn first_columns(alloc: Global, width: usize) -> Result<Vec<usize>, Memory>
+    ensures { IfOk result (λ columns. columns.items ≡ count_from 0 width) }
+{
+    let mut columns = Vec::with_capacity(alloc, width)?;
+    for column in 0..width {
+        columns.push(column)?;
+    }
+    Ok(columns)
+}
+
+// The rank of each place in a list of the places, counted from 1.
+fn ranks_of(alloc: Global, places: &[u32]) -> Result<Vec<u64>, Memory>
+    requires { IsPermutation (count_from 0 (length places.now)) places.now }
+    ensures { IfOk result (λ ranks. AreRanks places.now ranks.items) }
+{
+    let mut ranks = vec![in alloc; 0; places.len()]?;
+    for at in 0..places.len() {
+        ranks[places[at] as usize] = at as u64 + 1;
+    }
+    Ok(ranks)
+}
+
+/// Numbers for rows of one width, from 1 on: a smaller row has a smaller number, and rows that are alike are
+/// numbered in any order. The only error is that memory wants.
+pub(crate) fn deal(alloc: Global, keys: &Rows) -> Result<Vec<u64>, Memory>
+    requires { HaveOneWidth keys.now }
+    ensures { IfOk result (λ numbers. Numbers key_lt keys.now numbers.items) }
+{
+    let columns = first_columns(alloc, keys.width(0))?;
+    let places = order(alloc, keys, columns.as_slice())?;
+    let numbers = ranks_of(alloc, places.as_slice())?;
+    Ok(numbers)
+}
