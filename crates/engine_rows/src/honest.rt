@@ -1,0 +1,99 @@
+// What the plain server and the crooked one answer: as SQL says, and in the order that each is said to have.
+ghost use Rattle.std.specs.Prelude.{◌≡◌, ◌<◌, []};
+
+use crate::asked::{ask, shown};
+use crate::tables::{load_both, schema};
+use plain_engine::{CrookedServer, PlainServer};
+use sql_profile::SqlServer;
+use std::alloc::Global;
+use std::process::Abort;
+use std::test::Fail;
+
+// A text, and its answers by the plain server and by the crooked one.
+struct Case {
+    text: &'static str,
+    answers: [&'static str; 2],
+}
+
+const CASES: [Case; 9] = [
+    // Ties.
+    Case {
+        text: r#"SELECT "x"."b" AS "b", ROW_NUMBER() OVER (ORDER BY "x"."a") AS "n" FROM "t" AS "x""#,
+        answers: ["1 1 ;2 3 ;3 2 ;", "3 1 ;2 3 ;1 2 ;"],
+    },
+    Case {
+        text: r#"SELECT "x"."b" AS "b", ROW_NUMBER() OVER () AS "n" FROM "t" AS "x""#,
+        answers: ["1 1 ;2 2 ;3 3 ;", "3 1 ;2 2 ;1 3 ;"],
+    },
+    // A WITH query has one list, so that each row meets itself, however its ties are numbered.
+    Case {
+        text: r#"WITH "w" AS (SELECT "x"."b" AS "b", ROW_NUMBER() OVER () AS "n" FROM "t" AS "x") SELECT ("u"."b" = "v"."b") AS "same" FROM "w" AS "u", "w" AS "v" WHERE ("u"."n" = "v"."n")"#,
+        answers: ["true ;true ;true ;", "true ;true ;true ;"],
+    },
+    // The inner alias hides the outer one: rows with whose `a` no row has the greatest `b`.
+    Case {
+        text: r#"SELECT "x"."b" AS "b" FROM "t" AS "x" WHERE (NOT EXISTS (SELECT 1 AS "o" FROM "t" AS "y" WHERE (("y"."a" = "x"."a") AND (NOT EXISTS (SELECT 1 AS "o" FROM "t" AS "x" WHERE (("x"."b" > "y"."b") AND (NOT EXISTS (SELECT 1 AS "o" FROM "t" AS "y" WHERE ("y"."b" > "x"."b")))))))))"#,
+        answers: ["2 ;", "2 ;"],
+    },
+    // A table without rows.
+    Case {
+        text: r#"SELECT "x"."a" AS "a", ROW_NUMBER() OVER () AS "n" FROM "e" AS "x", "t" AS "y""#,
+        answers: ["", ""],
+    },
+    // No FROM.
+    Case {
+        text: r#"SELECT 7 AS "s", ROW_NUMBER() OVER () AS "n""#,
+        answers: ["7 1 ;", "7 1 ;"],
+    },
+    Case {
+        text: r#"SELECT 7 AS "s" WHERE FALSE"#,
+        answers: ["", ""],
+    },
+    // Equal rows.
+    Case {
+        text: r#"SELECT "x"."a" AS "a" FROM "t" AS "x" WHERE ("x"."a" = 5)"#,
+        answers: ["5 ;5 ;", "5 ;5 ;"],
+    },
+    // A sum past 2^63 - 1.
+    Case {
+        text: r#"SELECT (9223372036854775807 + "x"."b") AS "s" FROM "t" AS "x" WHERE ("x"."b" = 1)"#,
+        answers: ["-9223372036854775808 ;", "-9223372036854775808 ;"],
+    },
+];
+
+fn check(
+    rt: &impl Abort,
+    alloc: Global,
+    server: &mut Box<dyn SqlServer>,
+    which: usize,
+) -> Result<(), Fail>
+    requires empty { loaded server.old ≡ [] }
+    requires which { which < 2 }
+{
+    let schema = schema(alloc)?;
+    load_both(alloc, server)?;
+    for case in &CASES {
+        let answer = ask(alloc, server, &schema, case.text)?;
+        assert_eq!(rt;
+            shown(alloc, &answer.rows)?.as_str(),
+            case.answers[which],
+            "{}",
+            case.text
+        );
+    }
+    Ok(())
+}
+
+#[test]
+fn plain(rt: HostRuntime) -> Result<(), Fail> {
+    let alloc = rt.alloc();
+    let mut server: Box<dyn SqlServer> = Box::new(alloc, PlainServer::new(alloc))?;
+    check(&rt, alloc, &mut server, 0)
+}
+
+#[test]
+fn crooked(rt: HostRuntime) -> Result<(), Fail> {
+    let alloc = rt.alloc();
+    let mut server: Box<dyn SqlServer> = Box::new(alloc, CrookedServer::new(alloc))?;
+    check(&rt, alloc, &mut server, 1)
+}

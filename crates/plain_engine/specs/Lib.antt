@@ -1,0 +1,4 @@
+pub mod Asked
+pub mod Counting
+pub mod Failing
+pub mod Scripted
