@@ -1,0 +1,5 @@
+pub mod Loads
+pub mod Asks
+pub mod Finishes
+pub mod Serves
+pub mod FlatBags

@@ -1,0 +1,5 @@
+pub mod Plans
+pub mod Loading
+pub mod Serving
+pub mod Asking
+pub mod FlatBags

@@ -1,0 +1,15 @@
+//! Serving a query: a server is loaded with tables and asked texts, each answer is tried against its columns before the
+//! next text is asked, and the value that the answers stitch to is written.
+#![tactic(auto)]
+
+mod ask;
+mod finish;
+mod flat;
+mod load;
+mod plan;
+mod refusal;
+mod serving;
+
+pub use plan::Plan;
+pub use refusal::ServerRefusal;
+pub use serving::serve;

@@ -1,0 +1,40 @@
+// Loads the tables of a plan into a server, asks it the texts, and writes the value of the answers.
+ghost use Rattle.std.specs.Prelude.{◌≡◌, [], is_some};
+ghost use Rattle.nq_serve.specs.Plans.{IsServable, plan_view};
+ghost use Rattle.nq_serve.specs.Serving.{ServerCounts, ServeTells};
+
+use crate::ask::ask_all;
+use crate::finish::finish;
+use crate::load::load_tables;
+use crate::plan::Plan;
+use crate::refusal::ServerRefusal;
+use nq_model::List;
+use sql_profile::SqlServer;
+use std::alloc::Global;
+
+/// Loads the tables of a plan into a server that holds none, asks it each text in order, tries each answer against its
+/// columns before the next text is asked, and gives the canonical text of the value that the answers stitch to.
+pub fn serve(
+    alloc: Global,
+    plan: Plan,
+    server: &mut Box<dyn SqlServer>,
+) -> Result<List<u8>, ServerRefusal>
+    requires empty { loaded server.old ≡ [] }
+    requires servable { IsServable (plan_view plan) }
+    ensures counts { ServerCounts (bound server.old) (failures server.old) (failures server.new) result }
+    ensures honesty_stays { honest server.new ≡ honest server.old }
+    ensures bound_stays { bound server.new ≡ bound server.old }
+    ensures telling { is_some (asks server.new) ≡ is_some (asks server.old) }
+    ensures tells { ServeTells (plan_view plan)
+        (record { loaded = loaded server.old; asks = asks server.old }) (record { loaded = loaded server.new; asks = asks server.new })
+        (honest server.old) result }
+{
+    load_tables(alloc, server, plan.tables)?;
+    let answers = ask_all(
+        alloc,
+        server,
+        plan.texts.as_slice(),
+        plan.columns.as_slice(),
+    )?;
+    Ok(finish(alloc, &plan.result, answers)?)
+}
