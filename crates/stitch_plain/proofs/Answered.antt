@@ -1,5 +1,5 @@
 -- Answers that fit, path by path.
-use Rattle.std.proofs.Common.{◌≡◌, ℕ, suc, ◌+◌, ◌<◌, ◌≤◌, List, [], ◌∷◌, sym, ap, ◌∙◌, subst, All, length, get_or, arith, ⊎_elim, eq-or-lt_of_le, false, Result, Ok, Err, OnOk}
+use Rattle.std.proofs.Common.{◌≡◌, ℕ, ◌+◌, ◌<◌, ◌≤◌, List, [], sym, ap, ◌∙◌, subst, All, length, get_or, arith, ⊎_elim, eq-or-lt_of_le, false, Result, Ok, Err, OnOk}
 use Rattle.std.specs.Result.{is_err}
 use Rattle.std.proofs.lemmas.List.{length-map, get_or_past}
 use Rattle.std.proofs.lemmas.Bool.{cases_lt}
@@ -14,7 +14,7 @@ use Rattle.sql_profile.specs.declared.answer.Answer.{Answer}
 use Rattle.stitcher.proofs.Laid.{types_length}
 use Rattle.stitcher.proofs.Ready.{rows_at}
 use Rattle.stitcher.specs.Schemes.{Scheme, AnswerRows}
-use Rattle.stitcher.specs.Stitching.{rows_of, AreAnswersOf, AreFitting}
+use Rattle.stitcher.specs.Stitching.{rows_of, AreAnswersOf}
 
 -- what holds where a result is no error
 pub no_error : {A E : Type 0} (P : Type 0) (r : Result A E) → is_err r ≡ false → OnOk r P → P

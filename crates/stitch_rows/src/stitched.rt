@@ -2,12 +2,12 @@
 use crate::given::Given::{Int, Text};
 use crate::given::{Given, Listed, Shape, answers_of, type_of};
 use canon::{sort_deep, write};
-use nq_model::{Cell, List, Memory, Ty, Value, boxed};
+use nq_model::{CellRef, List, Memory, Ty, Value, boxed};
 use rows::Rows;
 use sql_profile::Answer;
 use std::alloc::Global;
 use std::test::Fail;
-use stitch_plain::are_answers;
+use stitch_plain::{are_answers, stitch_by_search};
 use stitcher::{FlatNumbers, stitch};
 
 // Answers of a bag of such elements, and the canonical text of their value.
@@ -245,7 +245,7 @@ const CASES: [Case; 12] = [
     },
 ];
 
-// The value that the answers are stitched to, if they are answers of the type.
+// The value that the answers are stitched to by groups, if they are answers of the type.
 fn stitched(alloc: Global, of: &Ty, answers: &List<Answer>) -> Result<Option<Value>, Memory> {
     let scheme = FlatNumbers::new(alloc, of)?;
     if !are_answers(alloc, &scheme, of, answers.as_slice())? {
@@ -257,9 +257,31 @@ fn stitched(alloc: Global, of: &Ty, answers: &List<Answer>) -> Result<Option<Val
     }
 }
 
+// The same by the plain program, which goes through all rows for each bag.
+fn searched(alloc: Global, of: &Ty, answers: &List<Answer>) -> Result<Option<Value>, Memory> {
+    let scheme = FlatNumbers::new(alloc, of)?;
+    let listed = answers.as_slice();
+    if !are_answers(alloc, &scheme, of, listed)? {
+        return Ok(None);
+    }
+    match of {
+        Ty::Bag(_) => Ok(Some(stitch_by_search(alloc, &scheme, of, listed)?)),
+        _ => Ok(None),
+    }
+}
+
+// The canonical text of the value, if there is one.
 fn text_of(alloc: Global, value: Option<Value>) -> Result<List<u8>, Memory> {
     match value {
         Some(value) => write(alloc, &sort_deep(alloc, value)?),
+        None => Ok(List::new(alloc)),
+    }
+}
+
+// The text of the value with the elements of each bag in the order of its list.
+fn text_in_order(alloc: Global, value: &Option<Value>) -> Result<List<u8>, Memory> {
+    match value {
+        Some(value) => write(alloc, value),
         None => Ok(List::new(alloc)),
     }
 }
@@ -276,19 +298,36 @@ fn gives_the_nested_value(rt: HostRuntime) -> Result<(), Fail> {
     Ok(())
 }
 
-// An answer with a row for each number up to this one: these cells, and the number, once or twice.
-fn numbered(alloc: Global, count: i64, first: &[i64], twice: bool) -> Result<Answer, Memory> {
+#[test]
+fn gives_the_list_of_the_plain_program(rt: HostRuntime) -> Result<(), Fail> {
+    let alloc = rt.alloc();
+    for case in &CASES {
+        let of = Ty::Bag(boxed(alloc, type_of(alloc, case.element)?)?);
+        let answers = answers_of(alloc, case.answers)?;
+        let by_groups = text_in_order(alloc, &stitched(alloc, &of, &answers)?)?;
+        let by_search = text_in_order(alloc, &searched(alloc, &of, &answers)?)?;
+        assert!(rt; by_search.len() == case.text.len());
+        assert!(rt; by_groups.as_slice() == by_search.as_slice());
+    }
+    Ok(())
+}
+
+// Parents that each give their own number for their bag.
+fn parents(alloc: Global, count: i64) -> Result<Answer, Memory> {
     let mut rows = Rows::new(alloc);
     for number in 1..=count {
-        let mut row = List::new(alloc);
-        for cell in first {
-            row.push(Cell::Int(*cell))?;
-        }
-        row.push(Cell::Int(number))?;
-        if twice {
-            row.push(Cell::Int(number))?;
-        }
-        rows.push(row.as_slice())?;
+        let one = CellRef::Int(1);
+        rows.push_lent(&[CellRef::Int(0), one, one, CellRef::Int(number)])?;
+    }
+    Ok(Answer { rows })
+}
+
+// A child for each parent, with the parent's number for its value.
+fn children(alloc: Global, count: i64) -> Result<Answer, Memory> {
+    let mut rows = Rows::new(alloc);
+    for number in 1..=count {
+        let number = CellRef::Int(number);
+        rows.push_lent(&[CellRef::Int(1), number, number])?;
     }
     Ok(Answer { rows })
 }
@@ -325,8 +364,8 @@ fn many_parents_with_one_child_each(rt: HostRuntime) -> Result<(), Fail> {
     let alloc = rt.alloc();
     let of = Ty::Bag(boxed(alloc, type_of(alloc, &NUMBERED)?)?);
     let mut answers = List::new(alloc);
-    answers.push(numbered(alloc, 400_000, &[0, 1, 1], false)?)?;
-    answers.push(numbered(alloc, 400_000, &[1], true)?)?;
+    answers.push(parents(alloc, 400_000)?)?;
+    answers.push(children(alloc, 400_000)?)?;
     let value = stitched(alloc, &of, &answers)?;
     assert_eq!(rt; value.map_or(0, |value| in_order(&value)), 400_000);
     Ok(())

@@ -3,7 +3,6 @@ use Rattle.nq_model.specs.Cells.{RowFits}
 use Rattle.nq_model.specs.declared.table.ColumnType.{ColumnType}
 use Rattle.stitcher.specs.Schemes.{AnswerRows}
 use Rattle.nq_model.specs.Types.{type_tree}
-use Rattle.stitcher.specs.Stitching.{rows_of}
 use Rattle.stitch_plain.proofs.Answered.{no_error, paths_counted, is_path, one_more_fits, all_fit}
 use Rattle.stitch_plain.proofs.condition.are_answers.Goals as goal
 
