@@ -3,7 +3,8 @@
 
 use nq_edge::{FileInputs, StdSink};
 use nq_top::nq_main;
-use sql_profile::{ScanServer, SqlServer};
+use plain_engine::PlainServer;
+use sql_profile::SqlServer;
 use std::alloc::{AllocError, Global};
 use std::env;
 use std::io::ErrorKind;
@@ -31,7 +32,7 @@ fn words_of(rt: &HostRuntime) -> Result<Vec<String>, AllocError> {
 fn run(rt: &HostRuntime) -> Result<u8, AllocError> {
     let alloc = rt.alloc();
     let words = words_of(rt)?;
-    let server: Box<dyn SqlServer> = Box::new(alloc, ScanServer::new(alloc))?;
+    let server: Box<dyn SqlServer> = Box::new(alloc, PlainServer::new(alloc))?;
     let mut inputs = FileInputs::new(rt);
     let mut out = StdSink::new(rt.stdout());
     let mut notes = StdSink::new(rt.stderr());
@@ -53,8 +54,14 @@ fn main(rt: HostRuntime) -> ExitCode {
 }
 
 #[cfg(test)]
+mod example_tests;
+#[cfg(test)]
+mod nested_tests;
+#[cfg(test)]
 mod query_tests;
 #[cfg(test)]
 mod runs;
+#[cfg(test)]
+mod server_tests;
 #[cfg(test)]
 mod tests;

@@ -1,8 +1,11 @@
 // Whole runs over inputs and outputs in memory, and what is wanted of them.
+ghost use Rattle.std.specs.Prelude.{◌≡◌, []};
+
 use nq_edge::{HeldInputs, HeldSink};
 use nq_model::List;
 use nq_top::nq_main;
-use sql_profile::{ScanServer, SqlServer};
+use plain_engine::PlainServer;
+use sql_profile::SqlServer;
 use std::alloc::Global;
 use std::process::Abort;
 use std::test::Fail;
@@ -29,20 +32,33 @@ pub fn padded(alloc: Global, blanks: usize, text: &str) -> Result<List<u8>, Fail
     Ok(bytes)
 }
 
-/// Runs the program over these inputs.
+/// Runs the program over these inputs and the plain server.
 pub fn check_run(
     rt: &impl Abort,
     alloc: Global,
-    mut inputs: HeldInputs,
+    inputs: HeldInputs,
     wanted: &Wanted,
 ) -> Result<(), Fail> {
+    let server: Box<dyn SqlServer> = Box::new(alloc, PlainServer::new(alloc))?;
+    check_run_over(rt, alloc, server, inputs, wanted)
+}
+
+/// Runs the program over these inputs and a server that holds no table.
+pub fn check_run_over(
+    rt: &impl Abort,
+    alloc: Global,
+    server: Box<dyn SqlServer>,
+    mut inputs: HeldInputs,
+    wanted: &Wanted,
+) -> Result<(), Fail>
+    requires { loaded server ≡ [] }
+{
     let mut words = Vec::new(alloc);
     for word in wanted.words {
         words.push(String::from_str(alloc, word)?)?;
     }
     let mut out = HeldSink::new(alloc, wanted.room)?;
     let mut notes = HeldSink::new(alloc, 200)?;
-    let server: Box<dyn SqlServer> = Box::new(alloc, ScanServer::new(alloc))?;
     let status = nq_main(
         alloc,
         words.as_slice(),

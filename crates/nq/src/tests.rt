@@ -49,9 +49,7 @@ const CASES: [Case; 18] = [
     },
     Case {
         query: "[1]",
-        status: 13,
-        out: "",
-        note: "nq: not built\n",
+        out: "{1}\n",
         ..ONE
     },
     Case {

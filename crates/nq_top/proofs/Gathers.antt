@@ -1,31 +1,25 @@
 -- How the judgement of the inputs follows from the fetches.
-use Rattle.std.proofs.Common.{◌≡◌, ◌≢◌, ◌<◌, ◌≤◌, ℕ, Bool, true, false, List, [], ◌∷◌, ◌++◌, length, map, Some, None, Option, Result, Ok, Err, arith, refl, sym, ap, subst, ◌∙◌, nat_lt, cond, append_assoc, append-nil, All, length-append, IfSome}
+use Rattle.std.proofs.Common.{◌≡◌, ◌<◌, ◌≤◌, ◌-◌, ℕ, Bool, true, false, List, [], ◌∷◌, ◌++◌, length, map, Some, None, Option, Result, Ok, Err, arith, refl, sym, ap, subst, ◌∙◌, nat_lt, cond, append_assoc, append-nil, All, length-append, IfSome}
 use Rattle.std.specs.Option.{option_map}
-use Rattle.std.proofs.lemmas.List.Elements.{All-head, All-tail, All-push, All-nil}
-use Rattle.std.proofs.lemmas.List.{map-append}
-use Rattle.nq_model.specs.Cells.{RowFits}
-use Rattle.nq_model.specs.Orders.{AreDistinct}
-use Rattle.nq_model.specs.Tables.{names_of, types_of}
-use Rattle.nq_model.specs.Terms.{PlacedTerm, PlacedNode, at}
+use Rattle.nq_model.specs.SchemaTables.{IsTableOf}
+use Rattle.nq_model.specs.Terms.{PlacedTerm}
 use Rattle.nq_model.specs.Types.{TypeTree}
-use Rattle.nq_model.specs.Typing.{shape_named}
 use Rattle.nq_model.specs.Judging.{BrokenRule, program_judged}
-use Rattle.nq_model.proofs.Judging.{judged_accepted}
 use Rattle.nq_model.specs.declared.table.Cell.{Cell}
 use Rattle.nq_model.specs.declared.table.Schema.{Schema}
 use Rattle.nq_model.specs.declared.table.TableShape.{TableShape}
 use Rattle.nq_edge.specs.Edge.{Files, bytes_at, IsLonger, TellsMore}
-use Rattle.sql_profile.specs.Servers.{table_names}
 use Rattle.sql_profile.specs.declared.server.Loaded.{Loaded}
-use Rattle.nq_top.specs.Commands.{Command, command_of}
+use Rattle.nq_top.specs.Commands.{Command, command_of, file_of}
 use Rattle.nq_top.specs.Reading.{Reading, refused_as, ill_typed, type_read, rows_read}
-use Rattle.nq_top.specs.Judging.{Judgement, refused, written, after, at_once, judged, fetched_then, read_then, table_named, built, command_judged, judgement, loaded_as}
+use Rattle.nq_top.specs.Judging.{Judgement, Verdict, refused, written, after, at_once, judged, fetched_then, read_then, command_judged, judgement, loaded_as, tables_judged}
+use Rattle.nq_top.specs.Plans.{AreReadFor}
 use Rattle.nq_top.specs.Shown.{ShredsQuery}
-use Rattle.nq_top.specs.Gathering.{Told, Judges, RefusalTells, GatherTells, FetchedWithin, FetchRefused, FetchNames, Refuses, IsUnquoted, AreServable, AreLoadable, IsTyped, CanGather}
+use Rattle.nq_top.specs.Gathering.{Told, Judges, Accepts, RefusalTells, GatherTells, TablesTell, ReadsBehind, FetchedWithin, FetchRefused, FetchNames, Refuses, IsTyped}
 use Rattle.nq_top.specs.declared.gathered.Gathered.{Gathered}
 use Rattle.nq_top.specs.declared.gathered.Gathered.TheVariants as gathered
 use Rattle.nq_top.specs.declared.refusal.Refused.{Refused}
-use Rattle.nq_top.specs.declared.refusal.Refused.TheVariants.{Usage, TooLong, NotBuilt}
+use Rattle.nq_top.specs.declared.refusal.Refused.TheVariants.{Usage, TooLong}
 use Rattle.nq_top.specs.declared.refusal.InputRefusal.{InputRefusal}
 use Rattle.nq_top.specs.declared.refusal.InputRefusal.TheVariants as input
 
@@ -137,13 +131,6 @@ type_refused schema term next old new r refuses same = read_refused (type_read s
 pub is_typed : (schema : Schema) (term : PlacedTerm) (type : TypeTree) → type_read schema term ≡ Ok type → IsTyped schema term
 is_typed schema term type e = record { type = type; typed = e }
 
--- the table that is named
-pub name_next : (named : Option (List ℕ)) (name : List ℕ) (next : List ℕ → Judgement) → named ≡ Some name → read_then (built named) next ≡ next name
-name_next named name next e = read_next (built named) name next (ap built e)
-
-pub name_refused : (named : Option (List ℕ)) (next : List ℕ → Judgement) → named ≡ None → read_then (built named) next ≡ at_once (refused NotBuilt)
-name_refused named next e = ap (λ (n : Option (List ℕ)). read_then (built n) next) e
-
 -- An input is fetched and read, and is refused.
 pub reading_stops : {A : Type 0} (held : Option Files) (name input text bytes : List ℕ) (limit : ℕ) (read : Reading → List ℕ → Result A Refused) (later : Reading → Files → A → Judgement)
     → (old mid : Told) (r : InputRefusal)
@@ -180,12 +167,6 @@ reading_goes (Some files) mid_held name input text bytes limit read later old mi
     (subst P (sym (fetch_next files name limit next text within))
     (gather_after name (next text) old mid new result told (subst Q (sym goes) here)))
 
--- what holds without a reading holds of each
-pub at_any_reading : (held : Option Files) (judges : Files → Judgement) (old new : Told) (result : Result Gathered InputRefusal)
-    → IfSome held (λ files. GatherTells (judges files) old new result) → IfSome held (λ files. (reading : Reading) → GatherTells (judges files) old new result)
-at_any_reading None judges old new result tells = tt
-at_any_reading (Some files) judges old new result tells = λ reading. tells
-
 -- the words are a command
 pub command_goes : (held : Option Files) (words : List (List ℕ)) (command : Option Command) (old new : Told) (result : Result Gathered InputRefusal)
     → command_of words ≡ command
@@ -205,8 +186,8 @@ unfolding judgement
 writes_at_once None words command said text old is comes same = tt
 writes_at_once (Some files) words command said text old is comes same = λ reading.
     let whole : command_judged reading (command_of words) files ≡ at_once (written said) = ap (λ (c : Option Command). command_judged reading c files) is ∙ comes reading files in
-    let P : Judgement → Type 0 = λ j. Judges j (written text) old old in
-    subst P (sym whole) (record { comes_to = ap written (sym same); fetched = tells_nothing old old refl; shreds = tt })
+    let P : Judgement → Type 0 = λ j. Accepts j (gathered.Text text) old old in
+    subst P (sym whole) (record { comes_to = same; fetched = tells_nothing old old refl; shreds = tt })
 
 -- words of no listed form
 pub refused_at_once : (held : Option Files) (words : List (List ℕ)) (old : Told) → command_of words ≡ None
@@ -218,80 +199,90 @@ refused_at_once (Some files) words old is = λ reading.
     let P : Judgement → Type 0 = λ j. Judges j (refused Usage) old old in
     subst P (sym whole) (record { comes_to = refl; fetched = tells_nothing old old refl; shreds = tt })
 
--- one more table was read
-pub can_gather_more : (done : List Loaded) (shape : TableShape) (shapes : List TableShape) (asked : ℕ) (rows : List (List Cell))
-    → CanGather done (shape ∷ shapes) asked → All (RowFits (types_of shape.columns)) rows → CanGather (done ++ loaded_as shape rows ∷ []) shapes asked
-can_gather_more done shape shapes asked rows can fit =
-    let table : Loaded = loaded_as shape rows in
-    let P : List (List ℕ) → Type 0 = AreDistinct in
-    let names : table_names done ++ map (λ s. s.name) (shape ∷ shapes) ≡ table_names (done ++ table ∷ []) ++ map (λ s. s.name) shapes = sym (ap (λ (l : List (List ℕ)). l ++ map (λ s. s.name) shapes) (map-append (λ (t : Loaded). t.name) done (table ∷ [])) ∙ append_assoc (table_names done) (shape.name ∷ []) (map (λ s. s.name) shapes)) in
-    record {
-      done_unquoted = All-push (λ (t : Loaded). IsUnquoted t.name) done table can.done_unquoted (All-head (λ (s : TableShape). IsUnquoted s.name) shape shapes can.unquoted);
-      unquoted = All-tail (λ (s : TableShape). IsUnquoted s.name) shape shapes can.unquoted;
-      among = let known = can.among in omega (arith, length-append done (table ∷ []), known);
-      names_differ = subst P names can.names_differ;
-      columns_differ = All-tail (λ (s : TableShape). AreDistinct (names_of s.columns)) shape shapes can.columns_differ;
-      done_differ = All-push (λ (t : Loaded). AreDistinct (names_of t.columns)) done table can.done_differ (All-head (λ (s : TableShape). AreDistinct (names_of s.columns)) shape shapes can.columns_differ);
-      done_fit = All-push (λ (t : Loaded). All (RowFits (types_of t.columns)) t.rows) done table can.done_fit fit;
-    }
-
--- no table was read yet
-pub can_gather_none : (shapes : List TableShape) (asked : ℕ) → AreLoadable shapes → asked < length shapes → CanGather [] shapes asked
-can_gather_none shapes asked loadable within =
-    record {
-      done_unquoted = All-nil (λ (t : Loaded). IsUnquoted t.name);
-      unquoted = loadable.unquoted;
-      among = omega (arith, within);
-      names_differ = loadable.names_differ;
-      columns_differ = loadable.columns_differ;
-      done_differ = All-nil (λ (t : Loaded). AreDistinct (names_of t.columns));
-      done_fit = All-nil (λ (t : Loaded). All (RowFits (types_of t.columns)) t.rows);
-    }
-
 pub typed_program : (v : Result TypeTree BrokenRule) (type : TypeTree) → refused_as ill_typed v ≡ Ok type → v ≡ Ok type
 typed_program (Ok k) type typed = let same : k ≡ type = cc in ap (λ (t : TypeTree). Ok t) same
 typed_program (Err rule) type typed = absurd (cc)
 
--- a typed query that is `table t` names a table of the schema
-pub named_is_there : (schema : Schema) (term : PlacedTerm) (name : List ℕ) → IsTyped schema term → table_named term ≡ Some name
-    → shape_named name schema.tables ≢ None
-unfolding type_read table_named
-named_is_there schema (at place (PlacedNode.table l)) name typed is =
-    let program : PlacedTerm = at place (PlacedNode.table l) in
-    let there = (judged_accepted schema program typed.type (typed_program (program_judged schema program) typed.type typed.typed)).typed in
-    let same : l ≡ name = cc in
-    λ none. let never : shape_named l schema.tables ≡ None = ap (λ (n : List ℕ). shape_named n schema.tables) same ∙ none in
-    let both : Some there.0 ≡ None = sym there.1 ∙ never in absurd (cc)
-named_is_there schema (at place _) name typed is = absurd (cc)
+-- what the reading of tables tells of what came after a fetch, it tells of the whole
+pub tables_after : (name : List ℕ) (later : Judgement) (next : List Loaded → Verdict) (old mid new : Told) (result : Result (List Loaded) InputRefusal) → TellsMore old mid (name ∷ [])
+    → TablesTell later next mid new result → TablesTell (after name later) next old new result
+tables_after name later next old mid new (Ok tables) first tells =
+    record { comes_to = tells.comes_to; fetched = tells_then old mid new (name ∷ []) later.names first tells.fetched; shreds = tells.shreds }
+tables_after name later next old mid new (Err r) first tells = refusal_after name later old mid new r first tells
 
--- the same, as the program has the name and the tables
-pub named_is_there_at : (schema : Schema) (term : PlacedTerm) (name text : List ℕ) (shapes : List TableShape) → IsTyped schema term → table_named term ≡ Some name
-    → text ≡ name → shapes ≡ schema.tables → shape_named text shapes ≢ None
-named_is_there_at schema term name text shapes typed named same_text same_shapes =
-    λ none. named_is_there schema term name typed named
-    (ap (λ (n : List ℕ). shape_named n schema.tables) (sym same_text) ∙ ap (shape_named text) (sym same_shapes) ∙ none)
+-- One table text is fetched and read.
+module _ (files : Files) (folder name text : List ℕ) (shape : TableShape) (shapes : List TableShape) (left : ℕ) (done : List Loaded) (next : List Loaded → Verdict) (named : name ≡ file_of folder shape.name) (within : FetchedWithin (bytes_at files name) left text) where
+  abbrev later : List ℕ → List (List Cell) → Judgement
+  later given rows = tables_judged files folder shapes (left - length given) (done ++ loaded_as shape rows ∷ []) next
 
-pub can_gather_at : (tables shapes : List TableShape) (asked : ℕ) (done : List Loaded) → AreLoadable tables → shapes ≡ tables → done ≡ [] → asked < length shapes
-    → CanGather done shapes asked
-can_gather_at tables shapes asked done loadable same empty within =
-    let here : AreLoadable shapes = subst AreLoadable (sym same) loadable in
-    let P : List Loaded → Type 0 = λ d. CanGather d shapes asked in
-    subst P (sym empty) (can_gather_none shapes asked here within)
+  abbrev step : List ℕ → Judgement
+  step given = read_then (rows_read shape given) (later given)
 
--- all tables were read
-pub can_gather_all : (done : List Loaded) (asked : ℕ) → CanGather done [] asked → AreServable done asked
-can_gather_all done asked can =
-    let P : List (List ℕ) → Type 0 = AreDistinct in
-    record {
-      unquoted = can.done_unquoted;
-      among = let known = can.among in omega (arith, known);
-      names_differ = subst P (append-nil (table_names done)) can.names_differ;
-      columns_differ = can.done_differ;
-      fit = can.done_fit;
-    }
+  abbrev whole : Judgement
+  whole = tables_judged files folder (shape ∷ shapes) left done next
 
-pub ruleset gather_rules = (gather_after, refusal_after, fetch_next, fetch_refused, rows_next, rows_refused, can_gather_more, can_gather_all, tells_nothing)
+  whole_is : whole ≡ after name (step text)
+  whole_is = ap (λ (n : List ℕ). fetched_then files n left step) (sym named) ∙ fetch_next files name left step text within
 
-pub ruleset run_rules = (name_next, name_refused, can_gather_none, named_is_there, tells_nothing)
+  -- the others are read after it
+  table_told : (rows : List (List Cell)) (old mid new : Told) (result : Result (List Loaded) InputRefusal) → TellsMore old mid (name ∷ []) → rows_read shape text ≡ Ok rows
+      → TablesTell (later text rows) next mid new result → TablesTell whole next old new result
+  table_told rows old mid new result told read tells =
+      let goes : step text ≡ later text rows = read_next (rows_read shape text) rows (later text) read in
+      let P : Judgement → Type 0 = λ j. TablesTell j next old new result in
+      let Q : Judgement → Type 0 = λ j. TablesTell j next mid new result in
+      subst P (sym whole_is) (tables_after name (step text) next old mid new result told (subst Q (sym goes) tells))
+
+  -- memory wants after it
+  table_ends : (old mid : Told) → TellsMore old mid (name ∷ []) → RefusalTells whole old mid input.Memory
+  table_ends old mid told =
+      record { front = name ∷ []; back = (step text).names; all = ap (λ (j : Judgement). j.names) whole_is; fetched = told }
+
+pub table_goes : (held mid_held : Option Files) (folder name text : List ℕ) (shape : TableShape) (shapes : List TableShape) (left rest : ℕ) (done more : List Loaded) (rows : List (List Cell)) (old mid new : Told) (result : Result (List Loaded) InputRefusal)
+    → name ≡ file_of folder shape.name → mid_held ≡ held → IfSome held (λ files. FetchedWithin (bytes_at files name) left text) → TellsMore old mid (name ∷ [])
+    → rows_read shape text ≡ Ok rows → rest ≡ left - length text → more ≡ done ++ loaded_as shape rows ∷ []
+    → IfSome mid_held (λ files. (next : List Loaded → Verdict) → TablesTell (tables_judged files folder shapes rest more next) next mid new result)
+    → IfSome held (λ files. (next : List Loaded → Verdict) → TablesTell (tables_judged files folder (shape ∷ shapes) left done next) next old new result)
+table_goes None mid_held folder name text shape shapes left rest done more rows old mid new result named same within told read fewer longer tells = tt
+table_goes (Some files) mid_held folder name text shape shapes left rest done more rows old mid new result named same within told read fewer longer tells = λ next.
+    let H : Option Files → Type 0 = λ h. IfSome h (λ fs. (next : List Loaded → Verdict) → TablesTell (tables_judged fs folder shapes rest more next) next mid new result) in
+    let here = subst H same tells next in
+    let P : ℕ → Type 0 = λ n. TablesTell (tables_judged files folder shapes n more next) next mid new result in
+    let Q : List Loaded → Type 0 = λ d. TablesTell (tables_judged files folder shapes (left - length text) d next) next mid new result in
+    table_told files folder name text shape shapes left done next named within rows old mid new result told read (subst Q longer (subst P fewer here))
+
+pub table_wants : (held : Option Files) (folder name text : List ℕ) (shape : TableShape) (shapes : List TableShape) (left : ℕ) (done : List Loaded) (old mid : Told)
+    → name ≡ file_of folder shape.name → IfSome held (λ files. FetchedWithin (bytes_at files name) left text) → TellsMore old mid (name ∷ [])
+    → IfSome held (λ files. (next : List Loaded → Verdict) → TablesTell (tables_judged files folder (shape ∷ shapes) left done next) next old mid (Err input.Memory))
+table_wants None folder name text shape shapes left done old mid named within told = tt
+table_wants (Some files) folder name text shape shapes left done old mid named within told = λ next.
+    table_ends files folder name text shape shapes left done next named within old mid told
+
+-- no table is left to be read
+pub reads_none : (done : List Loaded) → ReadsBehind done [] done
+reads_none done = record { rest = []; all = sym (append-nil done); read = record { rows = []; stored = tt; is = refl } }
+
+-- one more table was read
+pub reads_more : (done more tables : List Loaded) (shape : TableShape) (shapes : List TableShape) (rows : List (List Cell)) → more ≡ done ++ loaded_as shape rows ∷ [] → IsTableOf shape rows
+    → ReadsBehind more shapes tables → ReadsBehind done (shape ∷ shapes) tables
+reads_more done more tables shape shapes rows is stored reads = record {
+  rest = loaded_as shape rows ∷ reads.rest;
+  all = reads.all ∙ ap (λ (d : List Loaded). d ++ reads.rest) is ∙ append_assoc done (loaded_as shape rows ∷ []) reads.rest;
+  read = record {
+    rows = rows ∷ reads.read.rows;
+    stored = (stored, reads.read.stored);
+    is = ap (λ (d : List Loaded). loaded_as shape rows ∷ d) reads.read.is;
+  };
+}
+
+-- tables behind none are those that were read
+pub reads_all : (done tables : List Loaded) (shapes : List TableShape) → done ≡ [] → ReadsBehind done shapes tables → AreReadFor shapes tables
+reads_all done tables shapes empty reads =
+    let same : tables ≡ reads.rest = reads.all ∙ ap (λ (d : List Loaded). d ++ reads.rest) empty in
+    subst (λ (ts : List Loaded). AreReadFor shapes ts) (sym same) reads.read
+
+pub ruleset gather_rules = (gather_after, refusal_after, fetch_next, fetch_refused, tells_nothing)
+
+pub ruleset table_rules = (tables_after, refusal_after, fetch_next, fetch_refused, rows_next, rows_refused, reads_none, reads_more, tells_nothing)
 
 pub ruleset type_rules = (type_next, type_refused, is_typed)

@@ -2,11 +2,9 @@ pub mod SchemaTexts
 pub mod QueryReadings
 pub mod Readings
 pub mod Gathers
-pub mod Meaning
-pub mod Loads
-pub mod Serves
 pub mod Showings
 pub mod Runs
 pub mod Statuses
 pub mod Completeness
-pub mod NamedTables
+pub mod Plans
+pub mod QueryRuns

@@ -1,14 +1,11 @@
 -- What the reader of schemas answers, in the words of any reading of schema texts.
 use Rattle.std.proofs.Common.{◌≡◌, ◌≢◌, ◌⊎◌, ℕ, List, Option, Some, None, Result, Ok, Err, refl, sym, ap, ◌∙◌, inl, inr, subst, IsErrAnd, MatchResult}
-use Rattle.std.proofs.lemmas.List.Elements.{All-weaker}
-use Rattle.nq_model.specs.Orders.{AreDistinct}
 use Rattle.nq_model.specs.SchemaTexts.{Fault, HasFault, Spells}
-use Rattle.nq_model.specs.Tables.{IsProperShape, IsProperSchema, names_of}
 use Rattle.nq_model.specs.declared.table.Schema.{Schema}
 use Rattle.schema_reader.specs.Answers.{fault_view, IsFault, Reads}
 use Rattle.schema_reader.specs.declared.fault.SchemaFault.{SchemaFault}
 use Rattle.schema_reader.specs.declared.fault.SchemaFault.TheVariants as code
-use Rattle.nq_top.specs.Gathering.{IsOfText, schema_refusal, ReadSays, IsUnquoted, AreLoadable}
+use Rattle.nq_top.specs.Gathering.{IsOfText, schema_refusal, ReadSays}
 use Rattle.nq_top.specs.Reading.{SchemaReading, refused_as, schema_read}
 use Rattle.nq_top.specs.declared.refusal.Refused.TheVariants.{Schema as SchemaRefused}
 
@@ -121,13 +118,4 @@ refusal_of_text (code.NoColumn p) = tt
 refusal_of_text (code.KeyColumn p) = tt
 refusal_of_text (code.OverLimit p) = tt
 
--- the tables of a proper schema may be loaded
-pub loadable : (schema : Schema) → IsProperSchema schema → AreLoadable schema.tables
-loadable schema proper =
-    record {
-      unquoted = All-weaker IsProperShape (λ shape. IsUnquoted shape.name) (λ shape is. is.named.no_quote) schema.tables proper.proper;
-      names_differ = proper.tables_differ;
-      columns_differ = All-weaker IsProperShape (λ shape. AreDistinct (names_of shape.columns)) (λ shape is. is.columns_differ) schema.tables proper.proper;
-    }
-
-pub ruleset schema_rules = (refusal_of_text, loadable)
+pub ruleset schema_rules = (refusal_of_text)

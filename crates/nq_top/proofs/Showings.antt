@@ -25,14 +25,14 @@ use Rattle.nq_top.specs.Shown.{Shows, ShredsQuery, shown_texts, shown_frames}
 use Rattle.nq_top.specs.declared.gathered.Gathered.{Gathered}
 use Rattle.nq_top.specs.declared.gathered.Gathered.TheVariants as gathered
 use Rattle.nq_top.specs.declared.refusal.InputRefusal.{InputRefusal}
-use Rattle.nq_top.proofs.Gathers.{typed_program, tells_nothing, type_next, at_any_reading}
+use Rattle.nq_top.proofs.Gathers.{typed_program, tells_nothing, type_next}
 
 -- a query whose type is read is accepted
 pub read_accepted : (schema : Schema) (term : PlacedTerm) (type : TypeTree) → type_read schema term ≡ Ok type → IsAccepted schema (bare term) type
 unfolding type_read
 read_accepted schema term type read = judged_accepted schema term type (typed_program (program_judged schema term) type read)
 
-bag_again : (type : TypeTree) → IsPlainBag type → bag (element_type type) ≡ type
+pub bag_again : (type : TypeTree) → IsPlainBag type → bag (element_type type) ≡ type
 bag_again (bag a) h = refl
 bag_again TypeTree.int h = absurd h
 bag_again TypeTree.bool h = absurd h
@@ -93,11 +93,17 @@ module _ (held : Option Files) (aim : Aim) (schema : Schema) (term : PlacedTerm)
 
   -- a query that is run
   pub aim_runs : (folder : List ℕ) (old new : Told) (result : Result Gathered InputRefusal) → aim ≡ run folder
-      → IfSome held (λ files. GatherTells (run_judged files folder schema term) old new result) → AimTells old new result
+      → type_read schema term ≡ Ok type
+      → IfSome held (λ files. (plain : PlainReading) (k : TypeTree) → type_read schema term ≡ Ok k → GatherTells (run_judged plain files folder schema term k) old new result) → AimTells old new result
   unfolding aim_judged
-  aim_runs folder old new result is tells =
+  aim_runs folder old new result is read tells =
       let P : Aim → Type 0 = λ a. IfSome held (λ files. (reading : Reading) → GatherTells (aim_judged reading.plain files a schema term type) old new result) in
-      subst P (sym is) (at_any_reading held (λ files. run_judged files folder schema term) old new result tells)
+      subst P (sym is) (go held tells)
+    where
+      go : (h : Option Files) → IfSome h (λ files. (plain : PlainReading) (k : TypeTree) → type_read schema term ≡ Ok k → GatherTells (run_judged plain files folder schema term k) old new result)
+          → IfSome h (λ files. (reading : Reading) → GatherTells (run_judged reading.plain files folder schema term type) old new result)
+      go None all = tt
+      go (Some files) all = λ reading. all reading.plain type read
 
   -- a text that is written without a fetch
   pub aim_says : (said text : List ℕ) (old : Told) → ((plain : PlainReading) (files : Files) → aim_judged plain files aim schema term type ≡ at_once (written said)) → text ≡ said
@@ -109,7 +115,7 @@ module _ (held : Option Files) (aim : Aim) (schema : Schema) (term : PlacedTerm)
       says None all = tt
       says (Some files) all = λ reading.
           let P : Judgement → Type 0 = λ j. GatherTells j old old (Ok (gathered.Text text)) in
-          subst P (sym (all reading.plain files)) (record { comes_to = ap written (sym same); fetched = tells_nothing old old refl; shreds = tt })
+          subst P (sym (all reading.plain files)) (record { comes_to = same; fetched = tells_nothing old old refl; shreds = tt })
 
   -- SQL texts that are shown
   pub aim_shows : (text : List ℕ) (old : Told) → aim ≡ show_sql → type_read schema term ≡ Ok type
@@ -122,7 +128,7 @@ module _ (held : Option Files) (aim : Aim) (schema : Schema) (term : PlacedTerm)
       go (Some files) = λ reading.
           let P : Aim → Type 0 = λ a. GatherTells (aim_judged reading.plain files a schema term type) old old (Ok (gathered.Text text)) in
           let all = shows reading.plain type read in
-          subst P (sym is) (record { comes_to = ap written (sym all.is); fetched = tells_nothing old old refl; shreds = all.shreds })
+          subst P (sym is) (record { comes_to = all.is; fetched = tells_nothing old old refl; shreds = all.shreds })
 
   -- a query whose type was read comes to what the aim comes to
   pub term_tells : (old new : Told) (result : Result Gathered InputRefusal) → type_read schema term ≡ Ok type → AimTells old new result

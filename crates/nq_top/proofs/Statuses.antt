@@ -4,11 +4,11 @@ use Rattle.nq_edge.specs.Edge.{Files}
 use Rattle.sql_profile.specs.Servers.{RoseBelow}
 use Rattle.nq_top.specs.Noting.{Notes}
 use Rattle.nq_top.specs.Refusals.{status_of}
-use Rattle.nq_top.specs.Serving.{ServerState}
+use Rattle.nq_serve.specs.Serving.{ServerState}
 use Rattle.nq_top.specs.Running.{Answer, InputCount, OutputCount, ServerCount, PutsOnly, Keeps, AskedOnly, Blames, RoseAt, ServerRoseAt, PutsAt, KeepsAt, AskedAt, Comes}
 use Rattle.nq_top.specs.declared.refusal.Refused.TheVariants as refused
 use Rattle.nq_top.specs.declared.refusal.InputRefusal.TheVariants as input
-use Rattle.nq_top.specs.declared.refusal.ServerRefusal.TheVariants as server
+use Rattle.nq_serve.specs.declared.refusal.ServerRefusal.TheVariants as server
 use Rattle.nq_top.specs.declared.refusal.Refusal.TheVariants as refusal
 
 -- the count of the inputs
@@ -21,7 +21,6 @@ inputs_of before now (Err (refusal.Input (input.Refused (refused.Schema fault)))
 inputs_of before now (Err (refusal.Input (input.Refused (refused.Query fault)))) h = h
 inputs_of before now (Err (refusal.Input (input.Refused (refused.IllTyped rule place)))) h = h
 inputs_of before now (Err (refusal.Input (input.Refused (refused.Table name fault)))) h = h
-inputs_of before now (Err (refusal.Input (input.Refused refused.NotBuilt))) h = h
 inputs_of before now (Err (refusal.Input (input.Failed name))) h = h
 inputs_of before now (Err (refusal.Server server.Memory)) h = h
 inputs_of before now (Err (refusal.Server (server.TableFailed name))) h = h
@@ -42,7 +41,6 @@ output_of before now (Err (refusal.Input (input.Refused (refused.Schema fault)))
 output_of before now (Err (refusal.Input (input.Refused (refused.Query fault)))) h = h
 output_of before now (Err (refusal.Input (input.Refused (refused.IllTyped rule place)))) h = h
 output_of before now (Err (refusal.Input (input.Refused (refused.Table name fault)))) h = h
-output_of before now (Err (refusal.Input (input.Refused refused.NotBuilt))) h = h
 output_of before now (Err (refusal.Input (input.Failed name))) h = h
 output_of before now (Err (refusal.Server server.Memory)) h = h
 output_of before now (Err (refusal.Server (server.TableFailed name))) h = h
@@ -63,7 +61,6 @@ server_of bound before now (Err (refusal.Input (input.Refused (refused.Schema fa
 server_of bound before now (Err (refusal.Input (input.Refused (refused.Query fault)))) h = h
 server_of bound before now (Err (refusal.Input (input.Refused (refused.IllTyped rule place)))) h = h
 server_of bound before now (Err (refusal.Input (input.Refused (refused.Table name fault)))) h = h
-server_of bound before now (Err (refusal.Input (input.Refused refused.NotBuilt))) h = h
 server_of bound before now (Err (refusal.Input (input.Failed name))) h = h
 server_of bound before now (Err (refusal.Server server.Memory)) h = h
 server_of bound before now (Err (refusal.Server (server.TableFailed name))) h = h
@@ -84,7 +81,6 @@ puts_of old new (Err (refusal.Input (input.Refused (refused.Schema fault)))) h =
 puts_of old new (Err (refusal.Input (input.Refused (refused.Query fault)))) h = h
 puts_of old new (Err (refusal.Input (input.Refused (refused.IllTyped rule place)))) h = h
 puts_of old new (Err (refusal.Input (input.Refused (refused.Table name fault)))) h = h
-puts_of old new (Err (refusal.Input (input.Refused refused.NotBuilt))) h = h
 puts_of old new (Err (refusal.Input (input.Failed name))) h = h
 puts_of old new (Err (refusal.Server server.Memory)) h = h
 puts_of old new (Err (refusal.Server (server.TableFailed name))) h = h
@@ -105,7 +101,6 @@ keeps_of old new (Err (refusal.Input (input.Refused (refused.Schema fault)))) h 
 keeps_of old new (Err (refusal.Input (input.Refused (refused.Query fault)))) h = h
 keeps_of old new (Err (refusal.Input (input.Refused (refused.IllTyped rule place)))) h = h
 keeps_of old new (Err (refusal.Input (input.Refused (refused.Table name fault)))) h = h
-keeps_of old new (Err (refusal.Input (input.Refused refused.NotBuilt))) h = h
 keeps_of old new (Err (refusal.Input (input.Failed name))) h = h
 keeps_of old new (Err (refusal.Server server.Memory)) h = h
 keeps_of old new (Err (refusal.Server (server.TableFailed name))) h = h
@@ -126,7 +121,6 @@ asked_of asks (Err (refusal.Input (input.Refused (refused.Schema fault)))) h = h
 asked_of asks (Err (refusal.Input (input.Refused (refused.Query fault)))) h = h
 asked_of asks (Err (refusal.Input (input.Refused (refused.IllTyped rule place)))) h = h
 asked_of asks (Err (refusal.Input (input.Refused (refused.Table name fault)))) h = h
-asked_of asks (Err (refusal.Input (input.Refused refused.NotBuilt))) h = h
 asked_of asks (Err (refusal.Input (input.Failed name))) h = h
 asked_of asks (Err (refusal.Server server.Memory)) h = tt
 asked_of asks (Err (refusal.Server (server.TableFailed name))) h = h
@@ -147,7 +141,6 @@ is_usage (Err (refusal.Input (input.Refused (refused.Schema fault)))) h = cc
 is_usage (Err (refusal.Input (input.Refused (refused.Query fault)))) h = cc
 is_usage (Err (refusal.Input (input.Refused (refused.IllTyped rule place)))) h = cc
 is_usage (Err (refusal.Input (input.Refused (refused.Table name fault)))) h = cc
-is_usage (Err (refusal.Input (input.Refused refused.NotBuilt))) h = cc
 is_usage (Err (refusal.Input (input.Failed name))) h = cc
 is_usage (Err (refusal.Server server.Memory)) h = cc
 is_usage (Err (refusal.Server (server.TableFailed name))) h = cc
@@ -169,7 +162,6 @@ blames_of honest (Err (refusal.Input (input.Refused (refused.Schema fault)))) h 
 blames_of honest (Err (refusal.Input (input.Refused (refused.Query fault)))) h blames = absurd (cc)
 blames_of honest (Err (refusal.Input (input.Refused (refused.IllTyped rule place)))) h blames = absurd (cc)
 blames_of honest (Err (refusal.Input (input.Refused (refused.Table name fault)))) h blames = absurd (cc)
-blames_of honest (Err (refusal.Input (input.Refused refused.NotBuilt))) h blames = absurd (cc)
 blames_of honest (Err (refusal.Input (input.Failed name))) h blames = absurd (cc)
 blames_of honest (Err (refusal.Server server.Memory)) h blames = absurd (cc)
 blames_of honest (Err (refusal.Server (server.TableFailed name))) h blames = absurd (cc)

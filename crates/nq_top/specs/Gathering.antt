@@ -1,26 +1,25 @@
 -- What the gathering of inputs says of the calls and of what is held.
-use Rattle.std.specs.Prelude.{◌≡◌, ◌<◌, ◌≤◌, ◌+◌, ℕ, Bool, true, false, ⊤, List, [], ◌∷◌, ◌++◌, length, map, All, Contains, Option, Some, IfSome, Result, Ok, Err}
+use Rattle.std.specs.Prelude.{◌≡◌, ◌≤◌, ℕ, Bool, true, false, ⊤, List, [], ◌∷◌, ◌++◌, length, Option, Some, IfSome, Result, Ok, Err}
 use Rattle.nq_edge.specs.Edge.{Rose, TellsMore, IsLonger}
-use Rattle.nq_model.specs.Cells.{RowFits}
-use Rattle.nq_model.specs.Orders.{AreDistinct}
-use Rattle.nq_model.specs.Tables.{names_of, types_of}
 use Rattle.nq_model.specs.Terms.{PlacedTerm}
 use Rattle.nq_model.specs.Types.{TypeTree}
 use Rattle.nq_model.specs.declared.table.Schema.{Schema}
 use Rattle.nq_model.specs.declared.table.TableShape.{TableShape}
-use Rattle.sql_profile.specs.Servers.{table_names}
 use Rattle.sql_profile.specs.declared.server.Loaded.{Loaded}
 use Rattle.schema_reader.specs.declared.fault.SchemaFault.{SchemaFault}
 use Rattle.schema_reader.specs.declared.fault.SchemaFault.TheVariants as schema
 use Rattle.query_syntax.specs.declared.fault.SyntaxFault.{SyntaxFault}
 use Rattle.query_syntax.specs.declared.fault.SyntaxFault.TheVariants as query
 use Rattle.nq_top.specs.Reading.{type_read}
-use Rattle.nq_top.specs.Judging.{Judgement, Verdict, refused, written, accepted}
+use Rattle.nq_serve.specs.Plans.{Plan, plan_view, IsServable}
+use Rattle.nq_serve.specs.declared.plan.Plan.{Plan as Asked}
+use Rattle.nq_top.specs.Judging.{Judgement, Verdict, missing, refused, written, planned}
+use Rattle.nq_top.specs.Plans.{AreReadFor, IsSound}
 use Rattle.nq_top.specs.Shown.{ShredsQuery}
 use Rattle.nq_top.specs.declared.gathered.Gathered.{Gathered}
 use Rattle.nq_top.specs.declared.gathered.Gathered.TheVariants as gathered
 use Rattle.nq_top.specs.declared.refusal.Refused.{Refused}
-use Rattle.nq_top.specs.declared.refusal.Refused.TheVariants.{Usage, TooLong, NotBuilt, Schema as SchemaRefused, Query as QueryRefused, IllTyped, Table as TableRefused}
+use Rattle.nq_top.specs.declared.refusal.Refused.TheVariants.{Usage, TooLong, Schema as SchemaRefused, Query as QueryRefused, IllTyped, Table as TableRefused}
 use Rattle.nq_top.specs.declared.refusal.InputRefusal.{InputRefusal}
 use Rattle.nq_top.specs.declared.refusal.InputRefusal.TheVariants as input
 
@@ -69,7 +68,6 @@ IsOfText (input.Refused (TooLong failed limit)) = ⊥
 IsOfText (input.Refused (SchemaRefused fault)) = ⊤
 IsOfText (input.Refused (QueryRefused fault)) = ⊤
 IsOfText (input.Refused (IllTyped rule place)) = ⊤
-IsOfText (input.Refused NotBuilt) = ⊥
 IsOfText (input.Refused (TableRefused failed fault)) = ⊤
 IsOfText (input.Failed failed) = ⊥
 
@@ -105,19 +103,39 @@ abbrev pub ReadSays : {A B : Type 0} → (B → A) → Result A Refused → Resu
 ReadSays view given (Ok b) = given ≡ Ok (view b)
 ReadSays view given (Err r) = Refuses given r
 
--- what gathered inputs come to
-abbrev pub verdict_of : Gathered → Verdict
-verdict_of (gathered.Tables tables asked) = accepted tables asked
-verdict_of (gathered.Text text) = written text
-
 -- whether a server is asked
 abbrev pub gathered_asks : Gathered → Bool
-gathered_asks (gathered.Tables tables asked) = true
+gathered_asks (gathered.Plan asked) = true
 gathered_asks (gathered.Text text) = false
 
+-- a plan that is the one of a query, and sound for it
+pub record HoldsPlan (plan : Plan) (query : PlacedTerm) (asked : Asked) : Type 0 where
+  pub is : plan_view asked ≡ plan
+  pub sound : IsSound plan query
+
+-- the verdict is what gathered inputs come to
+abbrev pub ComesTo : Verdict → Gathered → Type 0
+ComesTo (missing name) g = ⊥
+ComesTo (refused r) g = ⊥
+ComesTo (written said) (gathered.Text text) = text ≡ said
+ComesTo (written said) (gathered.Plan asked) = ⊥
+ComesTo (planned plan query) (gathered.Text text) = ⊥
+ComesTo (planned plan query) (gathered.Plan asked) = HoldsPlan plan query asked
+
+-- the inputs come to this, and all their names were fetched; SQL texts that are shown shred their query
+pub record Accepts (judgement : Judgement) (gathered : Gathered) (old new : Told) : Type 0 where
+  pub comes_to : ComesTo judgement.verdict gathered
+  pub fetched : TellsMore old new judgement.names
+  pub shreds : IfSome judgement.shown ShredsQuery
+
 abbrev pub GatherTells : Judgement → Told → Told → Result Gathered InputRefusal → Type 0
-GatherTells judgement old new (Ok gathered) = Judges judgement (verdict_of gathered) old new
+GatherTells judgement old new (Ok gathered) = Accepts judgement gathered old new
 GatherTells judgement old new (Err r) = RefusalTells judgement old new r
+
+-- what the reading of table texts says, whatever comes of the tables
+abbrev pub TablesTell : Judgement → (List Loaded → Verdict) → Told → Told → Result (List Loaded) InputRefusal → Type 0
+TablesTell judgement next old new (Ok tables) = Judges judgement (next tables) old new
+TablesTell judgement next old new (Err r) = RefusalTells judgement old new r
 
 -- what one fetch says of its input
 pub record FetchedWithin (held : Option (List ℕ)) (limit : ℕ) (bytes : List ℕ) : Type 0 where
@@ -140,39 +158,18 @@ FetchNames name old new (Err input.Memory) = new ≡ old
 FetchNames name old new (Err (input.Refused r)) = TellsMore old new (name ∷ [])
 FetchNames name old new (Err (input.Failed failed)) = TellsMore old new (name ∷ [])
 
--- a name without a double quote
-abbrev pub IsUnquoted : List ℕ → Type 0
-IsUnquoted name = Contains name 34 → ⊥
-
--- the tables may be loaded one after the other, and one of them may be asked for by its name
-pub record AreServable (tables : List Loaded) (asked : ℕ) : Type 0 where
-  pub unquoted : All (λ table. IsUnquoted table.name) tables
-  pub among : asked < length tables
-  pub names_differ : AreDistinct (table_names tables)
-  pub columns_differ : All (λ table. AreDistinct (names_of table.columns)) tables
-  pub fit : All (λ table. All (RowFits (types_of table.columns)) table.rows) tables
-
-abbrev pub IsServable : Gathered → Type 0
-IsServable (gathered.Tables tables asked) = AreServable tables asked
-IsServable (gathered.Text text) = ⊤
-
--- tables of these shapes may be loaded, whatever rows of their columns they hold
-pub record AreLoadable (shapes : List TableShape) : Type 0 where
-  pub unquoted : All (λ shape. IsUnquoted shape.name) shapes
-  pub names_differ : AreDistinct (map (λ shape. shape.name) shapes)
-  pub columns_differ : All (λ shape. AreDistinct (names_of shape.columns)) shapes
+-- the plan of gathered inputs may be served
+abbrev pub CanServe : Gathered → Type 0
+CanServe (gathered.Plan asked) = IsServable (plan_view asked)
+CanServe (gathered.Text text) = ⊤
 
 -- the term has a type over the schema
 pub record IsTyped (schema : Schema) (term : PlacedTerm) : Type 0 where
   pub type : TypeTree
   pub typed : type_read schema term ≡ Ok type
 
--- tables that were read and shapes that are still to be read make tables that may be loaded
-pub record CanGather (done : List Loaded) (shapes : List TableShape) (asked : ℕ) : Type 0 where
-  pub done_unquoted : All (λ table. IsUnquoted table.name) done
-  pub unquoted : All (λ shape. IsUnquoted shape.name) shapes
-  pub among : asked < length done + length shapes
-  pub names_differ : AreDistinct (table_names done ++ map (λ shape. shape.name) shapes)
-  pub columns_differ : All (λ shape. AreDistinct (names_of shape.columns)) shapes
-  pub done_differ : All (λ table. AreDistinct (names_of table.columns)) done
-  pub done_fit : All (λ table. All (RowFits (types_of table.columns)) table.rows) done
+-- tables of these shapes, behind those that were read before
+pub record ReadsBehind (done : List Loaded) (shapes : List TableShape) (tables : List Loaded) : Type 0 where
+  pub rest : List Loaded
+  pub all : tables ≡ done ++ rest
+  pub read : AreReadFor shapes rest

@@ -1,7 +1,6 @@
 -- What the inputs of a command come to where no call fails: each is fetched and judged before the next.
-use Rattle.std.specs.Prelude.{ℕ, ◌-◌, ◌+◌, nat_lt, List, [], ◌∷◌, ◌++◌, length, Option, Some, None, Result, Ok, Err, cond}
-use Rattle.std.specs.Str.{bytes_eq}
-use Rattle.nq_model.specs.Terms.{PlacedTerm, PlacedNode, at}
+use Rattle.std.specs.Prelude.{ℕ, ◌-◌, nat_lt, List, [], ◌∷◌, ◌++◌, length, Option, Some, None, Result, Ok, Err, cond}
+use Rattle.nq_model.specs.Terms.{PlacedTerm}
 use Rattle.nq_model.specs.Types.{TypeTree}
 use Rattle.nq_model.specs.declared.table.Cell.{Cell}
 use Rattle.nq_model.specs.declared.table.Schema.{Schema}
@@ -11,18 +10,20 @@ use Rattle.show_texts.specs.Paths.{paths_text}
 use Rattle.sql_profile.specs.declared.server.Loaded.{Loaded}
 use Rattle.nq_top.specs.Commands.{Aim, run, check, show_types, show_paths, show_sql, Command, help, version, of_query, command_of, file_of, accepted_line, type_line}
 use Rattle.nq_top.specs.Help.{help_text, version_text}
+use Rattle.nq_serve.specs.Plans.{Plan}
+use Rattle.nq_top.specs.Plans.{query_plan}
 use Rattle.nq_top.specs.Reading.{PlainReading, Reading, schema_read, term_read, type_read, rows_read}
 use Rattle.nq_top.specs.Shown.{Shown, shown_texts, shown_frames}
 use Rattle.nq_top.specs.declared.refusal.Refused.{Refused}
-use Rattle.nq_top.specs.declared.refusal.Refused.TheVariants.{Usage, TooLong, NotBuilt}
+use Rattle.nq_top.specs.declared.refusal.Refused.TheVariants.{Usage, TooLong}
 
--- The first refusal; or a name that is not held, whose fetch fails; or the text that is written; or the
--- tables of the schema in its order, with the place of the one whose rows a server is asked for.
+-- The first refusal; or a name that is not held, whose fetch fails; or the text that is written; or the plan of a query,
+-- over the tables of the schema in its order.
 pub data Verdict : Type 0 where
   missing : List ℕ → Verdict
   refused : Refused → Verdict
   written : List ℕ → Verdict
-  accepted : List Loaded → ℕ → Verdict
+  planned : Plan → PlacedTerm → Verdict
 
 -- the names that are fetched, in order, and what comes of them; and the SQL texts, where they are shown
 pub record Judgement : Type 0 where
@@ -58,36 +59,21 @@ read_then (Err r) next = at_once (refused r)
 abbrev pub loaded_as : TableShape → List (List Cell) → Loaded
 loaded_as shape rows = record { name = shape.name; columns = shape.columns; rows = rows }
 
--- the table texts, each with what the ones before it left of the limit
-abbrev pub tables_judged : Files → List ℕ → List TableShape → ℕ → List Loaded → ℕ → Judgement
-tables_judged files folder [] left done asked = at_once (accepted done asked)
-tables_judged files folder (shape ∷ shapes) left done asked =
+-- the table texts, each with what the ones before it left of the limit, and what comes of the tables
+abbrev pub tables_judged : Files → List ℕ → List TableShape → ℕ → List Loaded → (List Loaded → Verdict) → Judgement
+tables_judged files folder [] left done next = at_once (next done)
+tables_judged files folder (shape ∷ shapes) left done next =
     fetched_then files (file_of folder shape.name) left
-    (λ text. read_then (rows_read shape text) (λ rows. tables_judged files folder shapes (left - length text) (done ++ loaded_as shape rows ∷ []) asked))
-
--- the table that a query is, if it is `table t`
-unfoldable pub table_named : PlacedTerm → Option (List ℕ)
-table_named (at place (PlacedNode.table name)) = Some name
-table_named _ = None
-
--- a query of another form is not built
-abbrev pub built : Option (List ℕ) → Result (List ℕ) Refused
-built (Some name) = Ok name
-built None = Err NotBuilt
-
--- how many tables stand before the first of that name
-abbrev pub place_named : List ℕ → List TableShape → ℕ
-place_named name [] = 0
-place_named name (shape ∷ shapes) = cond (bytes_eq name shape.name) 0 (1 + place_named name shapes)
+    (λ text. read_then (rows_read shape text) (λ rows. tables_judged files folder shapes (left - length text) (done ++ loaded_as shape rows ∷ []) next))
 
 -- a query that is run
-abbrev pub run_judged : Files → List ℕ → Schema → PlacedTerm → Judgement
-run_judged files folder schema term =
-    read_then (built (table_named term)) (λ name. tables_judged files folder schema.tables 67108864 [] (place_named name schema.tables))
+abbrev pub run_judged : PlainReading → Files → List ℕ → Schema → PlacedTerm → TypeTree → Judgement
+run_judged plain files folder schema term type =
+    tables_judged files folder schema.tables 67108864 [] (λ tables. planned (query_plan plain schema term type tables) term)
 
 -- a query that is accepted with its type
 unfoldable pub aim_judged : PlainReading → Files → Aim → Schema → PlacedTerm → TypeTree → Judgement
-aim_judged plain files (run folder) schema term type = run_judged files folder schema term
+aim_judged plain files (run folder) schema term type = run_judged plain files folder schema term type
 aim_judged plain files check schema term type = at_once (written accepted_line)
 aim_judged plain files show_types schema term type = at_once (written (type_line type))
 aim_judged plain files show_paths schema term type = at_once (written (paths_text type))

@@ -6,8 +6,7 @@ pub mod Reading
 pub mod Shown
 pub mod Judging
 pub mod Gathering
-pub mod Meanings
 pub mod Serving
-pub mod Loading
 pub mod Noting
 pub mod Running
+pub mod Plans

@@ -10,8 +10,8 @@ use Rattle.nq_top.specs.declared.refusal.Refused.{Refused}
 use Rattle.nq_top.specs.declared.refusal.Refused.TheVariants as refused
 use Rattle.nq_top.specs.declared.refusal.InputRefusal.{InputRefusal}
 use Rattle.nq_top.specs.declared.refusal.InputRefusal.TheVariants as input
-use Rattle.nq_top.specs.declared.refusal.ServerRefusal.{ServerRefusal}
-use Rattle.nq_top.specs.declared.refusal.ServerRefusal.TheVariants as server
+use Rattle.nq_serve.specs.declared.refusal.ServerRefusal.{ServerRefusal}
+use Rattle.nq_serve.specs.declared.refusal.ServerRefusal.TheVariants as server
 use Rattle.nq_top.specs.declared.refusal.Refusal.{Refusal}
 use Rattle.nq_top.specs.declared.refusal.Refusal.TheVariants as refusal
 
@@ -21,7 +21,6 @@ refused_status (refused.TooLong name limit) = 10
 refused_status (refused.Schema fault) = 3
 refused_status (refused.Query fault) = 4
 refused_status (refused.IllTyped rule place) = 5
-refused_status refused.NotBuilt = 13
 refused_status (refused.Table name fault) = 6
 
 abbrev pub input_status : InputRefusal → ℕ
@@ -101,7 +100,6 @@ refused_note (refused.TooLong name limit) = codes "nq: input too long: " ++ (nam
 refused_note (refused.Schema fault) = schema_note fault
 refused_note (refused.Query fault) = query_note fault
 refused_note (refused.IllTyped rule place) = type_note rule place
-refused_note refused.NotBuilt = codes "nq: not built\n"
 refused_note (refused.Table name fault) = table_note name fault
 
 abbrev pub input_note : InputRefusal → List ℕ

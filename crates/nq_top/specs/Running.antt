@@ -1,20 +1,21 @@
 -- What a run comes to, whole.
-use Rattle.std.specs.Prelude.{◌≡◌, ◌⊎◌, ◌==◌, ◌||◌, ℕ, Bool, true, ⊤, List, [], ◌∷◌, ◌++◌, All, MatchBool, Option, Some, slice_get, IfSome, Result, Ok, Err}
+use Rattle.std.specs.Prelude.{◌≡◌, ◌⊎◌, ◌==◌, ◌||◌, ℕ, Bool, true, ⊤, List, [], ◌∷◌, ◌++◌, All, get_or, MatchBool, Option, Some, slice_get, IfSome, Result, Ok, Err}
 use Rattle.std.specs.List.{list_any}
 use Rattle.nq_model.specs.Cells.{RowFits}
-use Rattle.nq_model.specs.Canonical.{canonical_text}
+use Rattle.nq_model.specs.Terms.{PlacedTerm}
 use Rattle.nq_edge.specs.Edge.{Files, Rose, TellsMore, AppendsPrefix}
-use Rattle.sql_profile.specs.Scans.{scan_types}
 use Rattle.sql_profile.specs.Servers.{Asks, RoseBelow}
-use Rattle.sql_profile.specs.declared.server.Loaded.{Loaded}
+use Rattle.sql_profile.specs.declared.answer.Answer.{Answer as Answered}
+use Rattle.nq_serve.specs.Plans.{Plan}
+use Rattle.nq_serve.specs.Serving.{ServerState, RefusalCounts}
+use Rattle.nq_serve.specs.declared.refusal.ServerRefusal.{ServerRefusal}
 use Rattle.nq_top.specs.Gathering.{Told, InputCounts, Judges, RefusalTells}
-use Rattle.nq_top.specs.Judging.{Judgement, Verdict, missing, refused, written, accepted}
-use Rattle.nq_top.specs.Meanings.{asked_value}
+use Rattle.nq_top.specs.Judging.{Judgement, Verdict, missing, refused, written, planned}
+use Rattle.nq_top.specs.Plans.{IsMeant}
 use Rattle.nq_top.specs.Noting.{Notes}
 use Rattle.nq_top.specs.Refusals.{status_of}
 use Rattle.nq_top.specs.Shown.{ShredsQuery}
-use Rattle.nq_top.specs.Serving.{ServerState, RefusalCounts, RefusalBlames}
-use Rattle.nq_top.specs.declared.refusal.ServerRefusal.{ServerRefusal}
+use Rattle.nq_top.specs.Serving.{RefusalBlames}
 use Rattle.nq_top.specs.declared.refusal.Refusal.{Refusal}
 use Rattle.nq_top.specs.declared.refusal.Refusal.TheVariants as refusal
 
@@ -22,9 +23,9 @@ use Rattle.nq_top.specs.declared.refusal.Refusal.TheVariants as refusal
 abbrev pub Answer : Type 0
 Answer = Result (Unit {0}) Refusal
 
--- what a server says of the text that it serves for a table among tables, or of its refusal
+-- what a server says of the text that it serves for the plan of a query, or of its refusal
 abbrev pub Served : Type 1
-Served = List Loaded → ℕ → Result (List ℕ) ServerRefusal → Type 0
+Served = Plan → PlacedTerm → Result (List ℕ) ServerRefusal → Type 0
 
 -- 1. what each count did, by the answer
 
@@ -77,12 +78,12 @@ Blames honest (Err refusal.OutputFailed) = ⊤
 
 -- 3. what an answer says of the inputs, of the server and of the output
 
--- the text that is written for a verdict: the inputs say it, or the server serves it for their tables
+-- the text that is written for a verdict: the inputs say it, or the server serves it for their plan
 abbrev pub Gives : Served → Verdict → List ℕ → Type 0
 Gives served (missing name) text = ⊥
 Gives served (refused r) text = ⊥
 Gives served (written said) text = text ≡ said
-Gives served (accepted tables asked) text = served tables asked (Ok text)
+Gives served (planned plan query) text = served plan query (Ok text)
 
 -- the inputs are accepted, all their names were fetched, and the text that they give was put; SQL texts that are
 -- shown shred their query
@@ -93,12 +94,12 @@ pub record Writes (served : Served) (judgement : Judgement) (old new : Told) (pu
   pub puts : put text
   pub shreds : IfSome judgement.shown ShredsQuery
 
--- the inputs come to tables, for which the server gives no text
+-- the inputs come to the plan of a query, for which the server gives no text
 pub record ServesNone (served : Served) (judgement : Judgement) (old new : Told) (r : ServerRefusal) : Type 0 where
-  pub tables : List Loaded
-  pub asked : ℕ
-  pub judges : Judges judgement (accepted tables asked) old new
-  pub serves : served tables asked (Err r)
+  pub plan : Plan
+  pub query : PlacedTerm
+  pub judges : Judges judgement (planned plan query) old new
+  pub serves : served plan query (Err r)
 
 abbrev pub Tells : Served → Judgement → Told → Told → Option (List ℕ) → Option (List ℕ) → Answer → Type 0
 Tells served judgement old new out_old out_new (Ok _) = Writes served judgement old new (TellsMore out_old out_new)
@@ -109,8 +110,8 @@ Tells served judgement old new out_old out_new (Err refusal.OutputFailed) = Writ
 -- what is known of a server that is not seen again: the text of an honest one is that of what the query
 -- means, and its answers fit
 abbrev pub Means : Bool → Served
-Means honest tables asked (Ok text) = honest ≡ true → text ≡ canonical_text (asked_value tables asked)
-Means honest tables asked (Err r) = RefusalBlames honest r
+Means honest plan query (Ok text) = honest ≡ true → IsMeant plan.tables query text
+Means honest plan query (Err r) = RefusalBlames honest r
 
 -- 4. what a status says
 
@@ -126,13 +127,13 @@ ServerRoseAt this bound before now status = MatchBool (status == this) (RoseBelo
 abbrev pub PutsAt : Option (List ℕ) → Option (List ℕ) → ℕ → Type 0
 PutsAt old new status = MatchBool ((status == 0) || (status == 8)) ⊤ (new ≡ old)
 
--- the statuses of what is refused before a server is called
-abbrev pub is_input_status : ℕ → Bool
-is_input_status status = list_any (λ s. s == status) (2 ∷ 3 ∷ 4 ∷ 5 ∷ 6 ∷ 7 ∷ 10 ∷ 13 ∷ [])
+-- the statuses at which a server may have been called
+abbrev pub is_called_status : ℕ → Bool
+is_called_status status = list_any (λ s. s == status) (0 ∷ 1 ∷ 8 ∷ 9 ∷ 11 ∷ [])
 
--- at these the server is as it was
+-- at all others the server is as it was
 abbrev pub KeepsAt : ServerState → ServerState → ℕ → Type 0
-KeepsAt old new status = MatchBool (is_input_status status) (new ≡ old) ⊤
+KeepsAt old new status = MatchBool (is_called_status status) ⊤ (new ≡ old)
 
 -- a server is named only where a command asks it
 abbrev pub AskedAt : Bool → ℕ → Type 0
@@ -151,30 +152,30 @@ abbrev pub IsDone : ℕ → Type 0
 IsDone status = (status ≡ 0) ⊎ (status ≡ 1)
 
 -- the inputs are accepted, and where a server is asked it is fair to them
-abbrev pub IsDue : (List Loaded → ℕ → Type 0) → Verdict → Type 0
+abbrev pub IsDue : (Plan → Type 0) → Verdict → Type 0
 IsDue fair (missing name) = ⊥
 IsDue fair (refused r) = ⊥
 IsDue fair (written text) = ⊤
-IsDue fair (accepted tables asked) = fair tables asked
+IsDue fair (planned plan query) = fair plan
 
 -- Where the inputs are accepted, no call on them or on the output failed, and a server that is asked does
 -- not fail and is fair, the run succeeds but for want of memory.
-abbrev pub Completes : Judgement → Type 0 → (List Loaded → ℕ → Type 0) → ℕ → Type 0
+abbrev pub Completes : Judgement → Type 0 → (Plan → Type 0) → ℕ → Type 0
 Completes judgement failed fair status = (failed → ⊥) → IsDue fair judgement.verdict → IsDone status
 
--- the answers that were told in a call fit the columns of the table that was asked for
-pub record ToldFit (tables : List Loaded) (asked : ℕ) (old new : Option Asks) : Type 0 where
+-- each answer that was told in a call fits the columns of its text
+pub record ToldFit (plan : Plan) (old new : Option Asks) : Type 0 where
   pub before : Asks
   pub more : Asks
   pub was : old ≡ Some before
   pub is : new ≡ Some (before ++ more)
-  pub fit : (table : Loaded) → slice_get tables asked ≡ Some table → All (λ ask. All (RowFits (scan_types table.columns)) ask.1.rows) more
+  pub fit : (place : ℕ) (ask : List ℕ × Answered) → slice_get more place ≡ Some ask → All (RowFits (get_or plan.columns place [])) ask.1.rows
 
 -- a server is honest, or tells its asks and gave answers that fit
-abbrev pub IsFair : Bool → Option Asks → Option Asks → List Loaded → ℕ → Type 0
-IsFair honest old new tables asked = (honest ≡ true) ⊎ ToldFit tables asked old new
+abbrev pub IsFair : Bool → Option Asks → Option Asks → Plan → Type 0
+IsFair honest old new plan = (honest ≡ true) ⊎ ToldFit plan old new
 
 -- a server that did not fail in a call, and is fair
-pub record Serves (failed : Type 0) (honest : Bool) (old new : Option Asks) (tables : List Loaded) (asked : ℕ) : Type 0 where
+pub record Serves (failed : Type 0) (honest : Bool) (old new : Option Asks) (plan : Plan) : Type 0 where
   pub not_failed : failed → ⊥
-  pub fair : IsFair honest old new tables asked
+  pub fair : IsFair honest old new plan

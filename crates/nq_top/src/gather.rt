@@ -1,15 +1,15 @@
 // Reads the inputs of a command, each judged before the next.
-ghost use Rattle.std.specs.Prelude.{◌≡◌, ◌≢◌, ◌<◌, ◌↔◌, true, List, IfOk, IfSome, None, Ok, Err, length, map, option_map, string_bytes};
+ghost use Rattle.std.specs.Prelude.{◌≡◌, ◌≢◌, ◌↔◌, true, IfOk, IfSome, None, Ok, Err, map, string_bytes};
 ghost use Rattle.nq_model.specs.Proper.{IsProperTerm};
 ghost use Rattle.nq_model.specs.Tables.{IsProperSchema};
 ghost use Rattle.nq_model.specs.Terms.{placed, bare};
-ghost use Rattle.nq_model.specs.Types.{type_tree};
-ghost use Rattle.nq_model.specs.Typing.{shape_named};
+ghost use Rattle.nq_model.specs.Types.{TypeTree, type_tree};
+ghost use Rattle.nq_serve.specs.Plans.{plan_view};
 ghost use Rattle.nq_top.specs.Commands.{command_of, aim_asks, asks_server, type_line};
 ghost use Rattle.nq_top.specs.Words.{aim_view};
-ghost use Rattle.nq_top.specs.Reading.{Reading, type_read};
-ghost use Rattle.nq_top.specs.Judging.{judgement, schema_judged, query_judged, term_judged, aim_judged, run_judged, table_named, place_named};
-ghost use Rattle.nq_top.specs.Gathering.{InputCounts, GatherTells, IsTyped, IsServable, gathered_asks};
+ghost use Rattle.nq_top.specs.Reading.{Reading, PlainReading, type_read};
+ghost use Rattle.nq_top.specs.Judging.{judgement, schema_judged, query_judged, term_judged, aim_judged, run_judged};
+ghost use Rattle.nq_top.specs.Gathering.{InputCounts, GatherTells, IsTyped, CanServe, gathered_asks};
 
 use crate::fetch::fetch_input;
 use crate::gathered::Gathered;
@@ -19,10 +19,13 @@ use crate::refusal::{InputRefusal, Refused};
 use crate::shown::shown_text;
 use crate::tables::gather_tables;
 use crate::words::{Aim, Command, command_of};
+use nq_compile::{Compiled, compile};
 use nq_edge::Inputs;
-use nq_model::{Label, List, Memory, Node, Schema, TableShape, Term, Text, Ty};
+use nq_model::{List, Memory, Schema, Term, Text, Ty};
+use nq_serve::Plan;
 use nq_types::write_type;
 use show_texts::paths_text;
+use sql_profile::Loaded;
 use std::alloc::Global;
 
 /// The most bytes of a schema and of a query.
@@ -31,58 +34,47 @@ const TEXT_LIMIT: u64 = 1_048_576;
 /// The most bytes of all table texts together.
 const TABLES_LIMIT: u64 = 67_108_864;
 
-// The table that a query is, if it is `table t`.
-#[tactic(auto, unfolding(crate::specs::Judging::table_named))]
-fn table_named(term: &Term) -> Option<&Label>
-    ensures { option_map (λ name. name.now) result ≡ table_named (placed term.now) }
+// What a server is asked for a compiled query over tables.
+fn plan_of(compiled: Compiled, tables: List<Loaded>) -> Plan
+    ensures { plan_view result ≡ record { tables = tables; texts = compiled.texts; columns = compiled.columns; type = type_tree compiled.result } }
 {
-    match &term.node {
-        Node::Table(name) => Some(name),
-        _ => None,
+    Plan {
+        tables,
+        texts: compiled.texts,
+        columns: compiled.columns,
+        result: compiled.result,
     }
 }
 
-// How many tables stand before the first of this name, which there is.
-fn place_named(shapes: &[TableShape], name: &str) -> usize
-    requires { shape_named name.now shapes.now ≢ None }
-    ensures place { result ≡ place_named name.now shapes.now }
-    ensures within { result < length shapes.now }
-{
-    for (place, shape) in shapes.iter().enumerate() {
-        if name == shape.name.as_str() {
-            return place;
-        }
-    }
-    shapes.len()
-}
-
-// Reads the tables for a query that is run.
-#[tactic(auto, using(crate::proofs::Gathers::run_rules))]
+// Compiles a query that is run, and reads the tables.
 fn gather_run<I: Inputs>(
     alloc: Global,
     inputs: &mut I,
     folder: &str,
     schema: &Schema,
-    term: &Term,
+    term: Term,
 ) -> Result<Gathered, InputRefusal>
     requires proper { IsProperSchema schema.now }
-    requires typed { IsTyped schema.now (placed term.now) }
+    requires proper_term { IsProperTerm (bare (placed term)) }
+    requires typed { IsTyped schema.now (placed term) }
     ensures counts { InputCounts (I.faults inputs.old) (I.faults inputs.new) result }
     ensures listed { result ≢ Err (InputRefusal.Refused Refused.Usage) }
-    ensures servable { IfOk result IsServable }
+    ensures servable { IfOk result CanServe }
     ensures asks { IfOk result (λ gathered. gathered_asks gathered ≡ true) }
-    ensures tells { IfSome (I.held inputs.old) (λ files.
-        GatherTells (run_judged files folder.now schema.now (placed term.now)) (I.fetched inputs.old) (I.fetched inputs.new) result) }
+    ensures tells { IfSome (I.held inputs.old) (λ files. (plain : PlainReading) (type : TypeTree) → type_read schema.now (placed term) ≡ Ok type
+        → GatherTells (run_judged plain files folder.now schema.now (placed term) type) (I.fetched inputs.old) (I.fetched inputs.new) result) }
 {
-    match table_named(term) {
-        Some(name) => {
-            let shapes = schema.tables.as_slice();
-            let asked = place_named(shapes, name.as_str());
-            let done = List::new(alloc);
-            gather_tables(alloc, inputs, folder, shapes, TABLES_LIMIT, done, asked)
-        }
-        None => Err(InputRefusal::Refused(Refused::NotBuilt)),
-    }
+    let compiled = compile(alloc, schema, term)?;
+    let shapes = schema.tables.as_slice();
+    let tables = gather_tables(
+        alloc,
+        inputs,
+        folder,
+        shapes,
+        TABLES_LIMIT,
+        List::new(alloc),
+    )?;
+    Ok(Gathered::Plan(plan_of(compiled, tables)))
 }
 
 // The line of a type.
@@ -109,18 +101,14 @@ fn gather_aim<I: Inputs>(
     requires typed { type_read schema.now (placed term) ≡ Ok (type_tree ty.now) }
     ensures counts { InputCounts (I.faults inputs.old) (I.faults inputs.new) result }
     ensures listed { result ≢ Err (InputRefusal.Refused Refused.Usage) }
-    ensures servable { IfOk result IsServable }
+    ensures servable { IfOk result CanServe }
     ensures asks { IfOk result (λ gathered. gathered_asks gathered ≡ aim_asks (aim_view aim.entry)) }
     ensures tells { IfSome (I.held inputs.old) (λ files. (reading : Reading) →
         GatherTells (aim_judged reading.plain files (aim_view aim.entry) schema.now (placed term) (type_tree ty.now))
         (I.fetched inputs.old) (I.fetched inputs.new) result) }
 {
     match aim {
-        Aim::Run(folder) => {
-            let gathered = gather_run(alloc, inputs, folder, schema, &term);
-            drop(term);
-            gathered
-        }
+        Aim::Run(folder) => gather_run(alloc, inputs, folder, schema, term),
         Aim::Check => Ok(Gathered::Text(List::from_slice(alloc, b"ok\n")?)),
         Aim::ShowTypes => Ok(Gathered::Text(type_line(alloc, ty)?)),
         Aim::ShowPaths => Ok(Gathered::Text(paths_text(alloc, ty)?)),
@@ -141,7 +129,7 @@ fn gather_term<I: Inputs>(
     requires proper_term { IsProperTerm (bare (placed term)) }
     ensures counts { InputCounts (I.faults inputs.old) (I.faults inputs.new) result }
     ensures listed { result ≢ Err (InputRefusal.Refused Refused.Usage) }
-    ensures servable { IfOk result IsServable }
+    ensures servable { IfOk result CanServe }
     ensures asks { IfOk result (λ gathered. gathered_asks gathered ≡ aim_asks (aim_view aim.entry)) }
     ensures tells { IfSome (I.held inputs.old) (λ files. (reading : Reading) →
         GatherTells (term_judged reading.plain files (aim_view aim.entry) schema.now (placed term)) (I.fetched inputs.old) (I.fetched inputs.new) result) }
@@ -168,7 +156,7 @@ fn gather_query<I: Inputs>(
     requires { IsProperSchema schema.now }
     ensures counts { InputCounts (I.faults inputs.old) (I.faults inputs.new) result }
     ensures listed { result ≢ Err (InputRefusal.Refused Refused.Usage) }
-    ensures servable { IfOk result IsServable }
+    ensures servable { IfOk result CanServe }
     ensures asks { IfOk result (λ gathered. gathered_asks gathered ≡ aim_asks (aim_view aim.entry)) }
     ensures tells { IfSome (I.held inputs.old) (λ files. (reading : Reading) →
         GatherTells (query_judged reading files (aim_view aim.entry) schema.now query.now) (I.fetched inputs.old) (I.fetched inputs.new) result) }
@@ -192,7 +180,7 @@ fn gather_schema<I: Inputs>(
 ) -> Result<Gathered, InputRefusal>
     ensures counts { InputCounts (I.faults inputs.old) (I.faults inputs.new) result }
     ensures listed { result ≢ Err (InputRefusal.Refused Refused.Usage) }
-    ensures servable { IfOk result IsServable }
+    ensures servable { IfOk result CanServe }
     ensures asks { IfOk result (λ gathered. gathered_asks gathered ≡ aim_asks (aim_view aim.entry)) }
     ensures tells { IfSome (I.held inputs.old) (λ files. (reading : Reading) →
         GatherTells (schema_judged reading files (aim_view aim.entry) schema.now query.now) (I.fetched inputs.old) (I.fetched inputs.new) result) }
@@ -215,7 +203,7 @@ pub fn gather<I: Inputs>(
     ensures counts { InputCounts (I.faults inputs.old) (I.faults inputs.new) result }
     ensures usage { (result ≡ Err (InputRefusal.Refused Refused.Usage))
         ↔ (command_of (map (λ word. string_bytes word) words.now) ≡ None) }
-    ensures servable { IfOk result IsServable }
+    ensures servable { IfOk result CanServe }
     ensures asks { IfOk result (λ gathered.
         gathered_asks gathered ≡ asks_server (command_of (map (λ word. string_bytes word) words.now))) }
     ensures tells { IfSome (I.held inputs.old) (λ files. (reading : Reading) →

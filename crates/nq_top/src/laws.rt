@@ -1,16 +1,12 @@
 // Laws of what the inputs of a command come to, each on a function that does nothing.
-ghost use Rattle.std.specs.Prelude.{◌≡◌, ℕ, [], List, map};
-ghost use Rattle.nq_model.specs.QueryMeaning.{Means};
+ghost use Rattle.std.specs.Prelude.{◌≡◌, ℕ, List};
 ghost use Rattle.nq_model.specs.Terms.{PlacedTerm, bare};
 ghost use Rattle.nq_model.specs.Types.{TypeTree};
 ghost use Rattle.nq_model.specs.Typing.{IsAccepted};
 ghost use Rattle.nq_model.specs.declared.table.Schema.{Schema};
-ghost use Rattle.nq_edge.specs.Edge.{Files};
 ghost use Rattle.sql_profile.specs.declared.server.Loaded.{Loaded};
+ghost use Rattle.nq_top.specs.Plans.{IsMeant};
 ghost use Rattle.nq_top.specs.Reading.{Reading};
-ghost use Rattle.nq_top.specs.Judging.{run_judged, accepted};
-ghost use Rattle.nq_top.specs.Meanings.{asked_value};
-ghost use Rattle.sql_profile.specs.Servers.{filled_of};
 
 /// There is a reading of schema and query texts and of accepted queries. Any two of them read each text alike, and
 /// unfold each query that is accepted alike.
@@ -22,9 +18,7 @@ pub fn reading_laws()
         → reading.plain.says term ≡ other.plain.says term }
 {}
 
-/// Where a query is run over tables, the value of the one that a server is asked for is what the query means.
-pub fn run_laws()
-    ensures { (files : Files) (folder : List ℕ) (schema : Schema) (term : PlacedTerm) (tables : List Loaded) (asked : ℕ)
-        → (run_judged files folder schema term).verdict ≡ accepted tables asked
-        → Means (map filled_of tables) term (asked_value tables asked) }
+/// A query has one text over given tables.
+pub fn meaning_laws()
+    ensures { (tables : List Loaded) (query : PlacedTerm) (text other : List ℕ) → IsMeant tables query text → IsMeant tables query other → text ≡ other }
 {}

@@ -3,10 +3,11 @@ ghost use Rattle.nq_edge.specs.Lines.{PutsLine};
 ghost use Rattle.nq_top.specs.Refusals.{schema_fault_note, schema_note, query_fault_note, query_note, type_note, table_fault_note, table_note, refused_note, input_note, server_note, note_of};
 ghost use Rattle.nq_top.specs.Noting.{Notes};
 
-use crate::refusal::{InputRefusal, Refusal, Refused, ServerRefusal};
+use crate::refusal::{InputRefusal, Refusal, Refused};
 use itoa::Buffer;
 use nq_edge::{Sink, put_five, put_one, put_seven, put_three};
 use nq_parser::SyntaxFault;
+use nq_serve::ServerRefusal;
 use schema_reader::SchemaFault;
 use table_reader::TableFault;
 
@@ -203,7 +204,6 @@ fn put_refused<N: Sink>(notes: &mut N, refused: &Refused)
         Refused::Schema(fault) => put_schema(notes, fault),
         Refused::Query(fault) => put_query(notes, fault),
         Refused::IllTyped { rule, place } => put_ill_typed(notes, *rule, *place),
-        Refused::NotBuilt => put_one(notes, b"nq: not built\n"),
         Refused::Table(name, fault) => put_table(notes, name.as_str().as_bytes(), fault),
     }
 }

@@ -1,6 +1,7 @@
 // Why a command gives no text.
 use nq_model::{Label, Memory, Text};
 use nq_parser::SyntaxFault;
+use nq_serve::ServerRefusal;
 use schema_reader::SchemaFault;
 use table_reader::TableFault;
 
@@ -17,8 +18,6 @@ pub enum Refused {
     Query(SyntaxFault),
     /// The query breaks this typing rule at this place, first in the order of judging.
     IllTyped { rule: u8, place: u64 },
-    /// The query is not of a form that is built.
-    NotBuilt,
     /// The text of the table of this name is refused.
     Table(Label, TableFault),
 }
@@ -30,18 +29,6 @@ pub enum InputRefusal {
     Refused(Refused),
     /// The input of this name was not read.
     Failed(Text),
-}
-
-/// Why a server gave no answer that fits.
-#[derive(Drop)]
-pub enum ServerRefusal {
-    Memory,
-    /// The table of this name was not loaded.
-    TableFailed(Label),
-    /// The text of this number was not answered.
-    TextFailed(u64),
-    /// The answer to the text of this number does not fit, at this row and column.
-    BadAnswer { text: u64, row: u64, column: u64 },
 }
 
 /// Why a command gives no text.
@@ -60,17 +47,6 @@ impl From<Memory> for InputRefusal {
 
     fn from(_: Memory) -> InputRefusal {
         InputRefusal::Memory
-    }
-}
-
-impl From<Memory> for ServerRefusal {
-    ghost use Rattle.std.specs.Prelude.{◌≡◌};
-    ghost use Rattle.nq_top.specs.declared.refusal.ServerRefusal.TheVariants as refusal;
-
-    ghost from_gives = { λ _ e. e ≡ refusal.Memory };
-
-    fn from(_: Memory) -> ServerRefusal {
-        ServerRefusal::Memory
     }
 }
 

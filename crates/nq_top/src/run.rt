@@ -3,16 +3,17 @@ ghost use Rattle.std.specs.Prelude.{◌≡◌, ◌↔◌, [], List, map, None, E
 ghost use Rattle.nq_top.specs.Commands.{command_of, asks_server};
 ghost use Rattle.nq_top.specs.Reading.{Reading};
 ghost use Rattle.nq_top.specs.Judging.{judgement};
-ghost use Rattle.nq_top.specs.Gathering.{IsServable, gathered_asks};
-ghost use Rattle.nq_top.specs.Serving.{ServerCounts, StaysHonest, TextTells, LeavesServer, ServeTells};
+ghost use Rattle.nq_serve.specs.Serving.{ServerCounts};
+ghost use Rattle.nq_top.specs.Gathering.{CanServe, gathered_asks};
+ghost use Rattle.nq_top.specs.Serving.{StaysHonest, TextTells, LeavesServer, QueryTells};
 ghost use Rattle.nq_top.specs.Running.{InputCount, OutputCount, ServerCount, PutsOnly, Keeps, AskedOnly, Blames, Tells};
 
 use crate::gather::gather;
 use crate::gathered::Gathered;
-use crate::refusal::{InputRefusal, Refusal, Refused, ServerRefusal};
-use crate::serve::serve;
+use crate::refusal::{InputRefusal, Refusal, Refused};
 use nq_edge::{Inputs, PutFault, Sink};
 use nq_model::List;
+use nq_serve::{ServerRefusal, serve};
 use sql_profile::SqlServer;
 use std::alloc::Global;
 
@@ -23,7 +24,7 @@ fn text_for(
     server: &mut Box<dyn SqlServer>,
 ) -> Result<List<u8>, ServerRefusal>
     requires empty { loaded server.old ≡ [] }
-    requires servable { IsServable gathered }
+    requires servable { CanServe gathered }
     ensures counts { ServerCounts (bound server.old) (failures server.old) (failures server.new) result }
     ensures honesty_stays { honest server.new ≡ honest server.old }
     ensures bound_stays { bound server.new ≡ bound server.old }
@@ -37,7 +38,7 @@ fn text_for(
         (honest server.old) result }
 {
     match gathered {
-        Gathered::Tables { tables, asked } => serve(alloc, tables, asked, server),
+        Gathered::Plan(plan) => serve(alloc, plan, server),
         Gathered::Text(text) => Ok(text),
     }
 }
@@ -70,7 +71,7 @@ pub fn run<I: Inputs, O: Sink>(
     ensures asked { AskedOnly (asks_server (command_of (map (λ word. string_bytes word) words.now))) result }
     ensures blames { Blames (honest server.old) result }
     ensures tells { IfSome (I.held inputs.old) (λ files. (reading : Reading) → Tells
-        (λ tables asked. ServeTells tables asked
+        (λ plan query. QueryTells plan query
         (record { loaded = loaded server.old; asks = asks server.old }) (record { loaded = loaded server.new; asks = asks server.new })
         (honest server.old))
         (judgement reading (map (λ word. string_bytes word) words.now) files)

@@ -1,14 +1,13 @@
 // Reads the table texts of a schema, each before the next is fetched.
-ghost use Rattle.std.specs.Prelude.{◌≡◌, ◌≢◌, ◌++◌, ◌∷◌, [], true, List, All, IfOk, IfErr, IfSome, Err};
-ghost use Rattle.nq_model.specs.Cells.{RowFits};
-ghost use Rattle.nq_model.specs.Tables.{types_of};
+ghost use Rattle.std.specs.Prelude.{◌≡◌, ◌≢◌, ◌++◌, ◌∷◌, [], List, IfOk, IfErr, IfSome, Err};
+ghost use Rattle.nq_model.specs.SchemaTables.{IsTableOf};
 ghost use Rattle.nq_top.specs.Commands.{file_of};
 ghost use Rattle.nq_top.specs.Reading.{rows_read};
-ghost use Rattle.nq_top.specs.Judging.{tables_judged, loaded_as};
-ghost use Rattle.nq_top.specs.Gathering.{InputCounts, GatherTells, ReadSays, IsOfText, CanGather, IsServable, gathered_asks};
+ghost use Rattle.sql_profile.specs.declared.server.Loaded.{Loaded};
+ghost use Rattle.nq_top.specs.Judging.{Verdict, tables_judged, loaded_as};
+ghost use Rattle.nq_top.specs.Gathering.{InputCounts, TablesTell, ReadSays, ReadsBehind, IsOfText};
 
 use crate::fetch::fetch_input;
-use crate::gathered::Gathered;
 use crate::refusal::{InputRefusal, Refused};
 use nq_edge::Inputs;
 use nq_model::{ColumnType, Label, List, Memory, TableShape, Text};
@@ -54,7 +53,7 @@ fn loaded_as(alloc: Global, shape: &TableShape, rows: Rows) -> Result<Loaded, Me
 #[tactic(auto, unfolding(crate::specs::Reading::rows_read))]
 fn read_rows(alloc: Global, shape: &TableShape, text: List<u8>) -> Result<Rows, InputRefusal>
     ensures says { ReadSays (λ rows. rows) (rows_read shape.now text) result }
-    ensures fit { IfOk result (All (RowFits (types_of shape.now.columns))) }
+    ensures table { IfOk result (IsTableOf shape.now) }
     ensures refused { IfErr result IsOfText }
 {
     match read_table(alloc, shape, text.as_slice()) {
@@ -68,19 +67,13 @@ fn read_rows(alloc: Global, shape: &TableShape, text: List<u8>) -> Result<Rows, 
 }
 
 // The tables that were read, with one more of these rows.
-#[tactic(auto, using(crate::proofs::Gathers::can_gather_more))]
 fn with_table(
     alloc: Global,
     mut done: List<Loaded>,
     shape: &TableShape,
-    later: &[TableShape],
-    asked: usize,
     rows: Rows,
 ) -> Result<List<Loaded>, Memory>
-    requires can { CanGather done (shape.now ∷ later.now) asked }
-    requires fit { All (RowFits (types_of shape.now.columns)) rows }
-    ensures more { IfOk result (λ tables. tables ≡ done ++ loaded_as shape.now rows ∷ []) }
-    ensures can { IfOk result (λ tables. CanGather tables later.now asked) }
+    ensures { IfOk result (λ tables. tables ≡ done ++ loaded_as shape.now rows ∷ []) }
 {
     let table = loaded_as(alloc, shape, rows)?;
     done.push(table)?;
@@ -88,7 +81,7 @@ fn with_table(
 }
 
 /// Reads the texts of the tables that are left, each before the next is fetched.
-#[tactic(auto, using(crate::proofs::Gathers::gather_rules))]
+#[tactic(auto, using(crate::proofs::Gathers::table_rules))]
 pub fn gather_tables<I: Inputs>(
     alloc: Global,
     inputs: &mut I,
@@ -96,26 +89,20 @@ pub fn gather_tables<I: Inputs>(
     shapes: &[TableShape],
     left: u64,
     done: List<Loaded>,
-    asked: usize,
-) -> Result<Gathered, InputRefusal>
-    requires { CanGather done shapes.now asked }
+) -> Result<List<Loaded>, InputRefusal>
     ensures counts { InputCounts (I.faults inputs.old) (I.faults inputs.new) result }
     ensures listed { result ≢ Err (InputRefusal.Refused Refused.Usage) }
-    ensures servable { IfOk result IsServable }
-    ensures asks { IfOk result (λ gathered. gathered_asks gathered ≡ true) }
-    ensures tells { IfSome (I.held inputs.old) (λ files.
-        GatherTells (tables_judged files folder.now shapes.now left done asked) (I.fetched inputs.old) (I.fetched inputs.new) result) }
+    ensures reads { IfOk result (ReadsBehind done shapes.now) }
+    ensures tells { IfSome (I.held inputs.old) (λ files. (next : List Loaded → Verdict) →
+        TablesTell (tables_judged files folder.now shapes.now left done next) next (I.fetched inputs.old) (I.fetched inputs.new) result) }
 {
     let Some((shape, later)) = shapes.split_first() else {
-        return Ok(Gathered::Tables {
-            tables: done,
-            asked,
-        });
+        return Ok(done);
     };
     let name = file_of(alloc, folder, shape.name.as_str())?;
     let text = fetch_input(alloc, inputs, name, left)?;
     let rest = left - text.len() as u64;
     let rows = read_rows(alloc, shape, text)?;
-    let tables = with_table(alloc, done, shape, later, asked, rows)?;
-    gather_tables(alloc, inputs, folder, later, rest, tables, asked)
+    let tables = with_table(alloc, done, shape, rows)?;
+    gather_tables(alloc, inputs, folder, later, rest, tables)
 }

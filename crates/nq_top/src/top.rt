@@ -6,13 +6,14 @@ ghost use Rattle.nq_top.specs.Commands.{command_of, asks_server};
 ghost use Rattle.nq_top.specs.Reading.{Reading};
 ghost use Rattle.nq_top.specs.Judging.{judgement};
 ghost use Rattle.nq_top.specs.Refusals.{status_of};
-ghost use Rattle.nq_top.specs.Serving.{StaysHonest, LeavesServer, ServeTells};
+ghost use Rattle.nq_top.specs.Serving.{StaysHonest, LeavesServer, QueryTells};
 ghost use Rattle.nq_top.specs.Running.{RoseAt, ServerRoseAt, PutsAt, KeepsAt, AskedAt, Tells, Means, Comes, Completes, Serves};
 
 use crate::note::put_note;
-use crate::refusal::{InputRefusal, Refusal, Refused, ServerRefusal};
+use crate::refusal::{InputRefusal, Refusal, Refused};
 use crate::run::run;
 use nq_edge::{Inputs, Sink};
+use nq_serve::ServerRefusal;
 use sql_profile::SqlServer;
 use std::alloc::Global;
 
@@ -26,7 +27,6 @@ fn refused_status(refused: &Refused) -> u8
         Refused::Schema(_) => 3,
         Refused::Query(_) => 4,
         Refused::IllTyped { .. } => 5,
-        Refused::NotBuilt => 13,
         Refused::Table(..) => 6,
     }
 }
@@ -86,7 +86,7 @@ pub fn nq_lent<I: Inputs, O: Sink, N: Sink>(
     ensures blames { result ≡ 11 → honest server.old ≡ true → ⊥ }
     ensures comes { Comes (I.held inputs.old)
         (λ files answer. (reading : Reading) → Tells
-        (λ tables asked. ServeTells tables asked
+        (λ plan query. QueryTells plan query
         (record { loaded = loaded server.old; asks = asks server.old }) (record { loaded = loaded server.new; asks = asks server.new })
         (honest server.old))
         (judgement reading (map (λ word. string_bytes word) words.now) files)
@@ -107,8 +107,8 @@ pub fn nq_lent<I: Inputs, O: Sink, N: Sink>(
 /// status.
 ///
 /// Its clauses are those of `nq_lent` that do not name the server after the call: 9 comes only where the
-/// server's count of faults was below its bound, and at 0 the text is that of what the query means where
-/// the server is honest.
+/// server's count of faults was below its bound, and where the server is honest the text of a query that is run
+/// is the canonical text of what the query means over the tables.
 pub fn nq_main<I: Inputs, O: Sink, N: Sink>(
     alloc: Global,
     words: &[String],
@@ -133,7 +133,7 @@ pub fn nq_main<I: Inputs, O: Sink, N: Sink>(
     ensures completes { IfSome (I.held inputs.old) (λ files. (reading : Reading) → Completes
         (judgement reading (map (λ word. string_bytes word) words.now) files)
         (Rose (I.faults inputs.old) (I.faults inputs.new) ⊎ Rose (O.faults out.old) (O.faults out.new))
-        (λ tables asked. (failures server ≡ bound server) × (honest server ≡ true)) result) }
+        (λ plan. (failures server ≡ bound server) × (honest server ≡ true)) result) }
 {
     let mut server = server;
     let exit_status = nq_lent(alloc, words, inputs, out, notes, &mut server);

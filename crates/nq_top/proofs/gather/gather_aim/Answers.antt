@@ -7,5 +7,5 @@ use Rattle.nq_top.proofs.gather.gather_aim.Goals as goal
 
 pub returns-in-Run-clause-tells : goal.returns-in-Run-clause-tells
 returns-in-Run-clause-tells g c =
-    aim_runs _ (aim_view c.args.aim) c.args.schema.now (placed c.args.term) (type_tree c.args.ty.now) c.in-Run.folder.now _ _ c.gather_run-gathered.result
-    (ap aim_view c.in-Run.is) c.gather_run-gathered.ensures.tells
+    aim_runs _ (aim_view c.args.aim) c.args.schema.now (placed c.args.term) (type_tree c.args.ty.now) c.in-Run.folder.now _ _ c.gather_run.result
+    (ap aim_view c.in-Run.is) c.requires.typed c.gather_run.ensures.tells

@@ -3,8 +3,5 @@ use Rattle.nq_top.proofs.note.put_refused.Goals as goal
 pub returns-in-TooLong : goal.returns-in-TooLong
 returns-in-TooLong g c = rw c.in-TooLong.is (rw c.as_str.ensures.value at (rw c.as_bytes.ensures.value at c.put_too_long.ensures))
 
-pub returns-in-NotBuilt : goal.returns-in-NotBuilt
-returns-in-NotBuilt g c = rw c.in-NotBuilt.is c.put_one-in-NotBuilt.ensures
-
 pub returns-in-IllTyped : goal.returns-in-IllTyped
 returns-in-IllTyped g c = rw c.in-IllTyped.is c.put_ill_typed.ensures

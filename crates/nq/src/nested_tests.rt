@@ -1,0 +1,181 @@
+// Whole runs of nested queries, over each server.
+use crate::runs::{Wanted, check_run, check_run_over, padded};
+use nq_edge::HeldInputs;
+use nq_model::{List, Text};
+use plain_engine::CrookedServer;
+use sql_profile::SqlServer;
+use std::alloc::Global;
+use std::process::Abort;
+use std::test::Fail;
+
+const ORG: &str = "table departments (name: text);
+table employees (dept: text, name: text, salary: int);
+table tasks (employee: text, task: text);
+table contacts (dept: text, name: text, client: bool);
+";
+
+// Each department with its employees, and each of those with their tasks.
+const STAFF: &str = "let tasksOf = fun (e: text) ->
+  for (t <- table tasks) where (t.employee == e) [t.task];
+for (d <- table departments)
+[(department = d.name,
+  employees = for (e <- table employees) where (e.dept == d.name)
+    [(name = e.name, tasks = tasksOf(e.name))])]
+";
+
+/// A query over the texts of three tables, and what is written.
+#[derive(Clone, Copy)]
+pub struct Nested {
+    pub query: &'static str,
+    pub departments: &'static str,
+    pub employees: &'static str,
+    pub tasks: &'static str,
+    pub out: &'static str,
+}
+
+/// Every department with its people and their tasks.
+pub const WHOLE: Nested = Nested {
+    query: STAFF,
+    departments: "name\nProduct\nQuality\nResearch\nSales\n",
+    employees: "dept,name,salary\nProduct,Alex,20000\nProduct,Bert,900\nSales,Erik,2000000\n",
+    tasks: "employee,task\nAlex,build\nBert,build\nErik,call\nErik,enthuse\n",
+    out: "{(department = 'Product', employees = {(name = 'Alex', tasks = {'build'}), (name = 'Bert', tasks = {'build'})}), (department = 'Quality', employees = {}), (department = 'Research', employees = {}), (department = 'Sales', employees = {(name = 'Erik', tasks = {'call', 'enthuse'})})}\n",
+};
+
+// One department stands twice, so that numbers are tied.
+const TWICE: Nested = Nested {
+    query: "for (d <- table departments) [(d = d.name, es = for (e <- table employees) where (e.dept == d.name) [e.name])]",
+    departments: "name\nProduct\nProduct\n",
+    employees: "dept,name,salary\nProduct,Alex,1\nProduct,Bert,2\n",
+    tasks: "employee,task\nAlex,build\nBert,call\n",
+    out: "{(d = 'Product', es = {'Alex', 'Bert'}), (d = 'Product', es = {'Alex', 'Bert'})}\n",
+};
+
+const TWICE_DEEP: Nested = Nested {
+    query: STAFF,
+    out: "{(department = 'Product', employees = {(name = 'Alex', tasks = {'build'}), (name = 'Bert', tasks = {'call'})}), (department = 'Product', employees = {(name = 'Alex', tasks = {'build'}), (name = 'Bert', tasks = {'call'})})}\n",
+    ..TWICE
+};
+
+const NESTED: [Nested; 12] = [
+    WHOLE,
+    Nested {
+        query: "[: (a: int, b: [text])]",
+        out: "{}\n",
+        ..WHOLE
+    },
+    Nested {
+        query: "[[1] ++ [1]]",
+        out: "{{1, 1}}\n",
+        ..WHOLE
+    },
+    Nested {
+        query: "for (x <- table employees) [()]",
+        out: "{(), (), ()}\n",
+        ..WHOLE
+    },
+    // Both parents have the number 1.
+    Nested {
+        query: "(for (d <- table departments) where (d.name == 'Sales') [(n = 'a', b = for (e <- table employees) where (e.dept == d.name) [e.name])]) ++ [(n = 'b', b = [: text])]",
+        out: "{(b = {}, n = 'b'), (b = {'Erik'}, n = 'a')}\n",
+        ..WHOLE
+    },
+    TWICE,
+    TWICE_DEEP,
+    // Functions that take functions.
+    Nested {
+        query: "let filter = fun (p: (dept: text, name: text, salary: int) -> bool) ->
+  for (e <- table employees) where (p(e)) [e.name];
+let both = fun (h: ((dept: text, name: text, salary: int) -> bool) -> [text]) ->
+  h(fun (e: (dept: text, name: text, salary: int)) -> e.salary < 1000)
+  ++ h(fun (e: (dept: text, name: text, salary: int)) -> e.salary > 50000);
+both(filter)
+",
+        out: "{'Bert', 'Erik'}\n",
+        ..WHOLE
+    },
+    Nested {
+        query: "let x = 1; let f = fun (y: int) -> for (x <- [10] ++ [20]) [x + y]; f(x)",
+        out: "{11, 21}\n",
+        ..WHOLE
+    },
+    Nested {
+        query: "let lo = fun (n: int) -> n < 1000;
+let hi = fun (n: int) -> n > 50000;
+for (c <- table contacts) for (e <- table employees)
+where (e.dept == c.dept && (if c.client then hi else lo)(e.salary)) [e.name]
+",
+        out: "{'Bert', 'Erik'}\n",
+        ..WHOLE
+    },
+    Nested {
+        query: "for (d <- table departments) [(d = d.name, none = empty(
+  (for (e <- table employees) where (e.dept == d.name) [e.name])
+  ++ (for (c <- table contacts) where (c.dept == d.name
+      && empty(for (t <- table tasks) where (t.employee == c.name) [t])) [c.name])))]
+",
+        out: "{(d = 'Product', none = false), (d = 'Quality', none = false), (d = 'Research', none = true), (d = 'Sales', none = false)}\n",
+        ..WHOLE
+    },
+    Nested {
+        query: "[9223372036854775807 + 1]",
+        out: "{-9223372036854775808}\n",
+        ..WHOLE
+    },
+];
+
+/// The inputs of a query.
+pub fn inputs_of(alloc: Global, nested: &Nested) -> Result<HeldInputs, Fail> {
+    let texts = [
+        ("org", ORG),
+        ("q", nested.query),
+        ("data/departments.csv", nested.departments),
+        ("data/employees.csv", nested.employees),
+        ("data/tasks.csv", nested.tasks),
+        (
+            "data/contacts.csv",
+            "dept,name,client\nProduct,Pam,false\nQuality,Quinn,true\nSales,Sue,true\n",
+        ),
+    ];
+    let mut files = List::new(alloc);
+    for (name, text) in &texts {
+        files.push((Text::from_str(alloc, name)?, padded(alloc, 0, text)?))?;
+    }
+    Ok(HeldInputs::new(alloc, files, List::new(alloc))?)
+}
+
+// What is wanted of a run of it.
+fn wanted(nested: &Nested) -> Wanted {
+    Wanted {
+        words: &["run", "org", "q", "data"],
+        room: 2000,
+        status: 0,
+        out: nested.out,
+        note: "",
+    }
+}
+
+#[test]
+fn writes_what_each_query_means(rt: HostRuntime) -> Result<(), Fail> {
+    let alloc = rt.alloc();
+    for nested in &NESTED {
+        check_run(&rt, alloc, inputs_of(alloc, nested)?, &wanted(nested))?;
+    }
+    Ok(())
+}
+
+#[test]
+fn writes_the_same_where_ties_and_rows_come_in_reverse(rt: HostRuntime) -> Result<(), Fail> {
+    let alloc = rt.alloc();
+    for nested in &[TWICE, TWICE_DEEP] {
+        let server: Box<dyn SqlServer> = Box::new(alloc, CrookedServer::new(alloc))?;
+        check_run_over(
+            &rt,
+            alloc,
+            server,
+            inputs_of(alloc, nested)?,
+            &wanted(nested),
+        )?;
+    }
+    Ok(())
+}
