@@ -6,19 +6,14 @@ use nq_model::{List, Text};
 use std::alloc::Global;
 use std::test::Fail;
 
-const FILES: [(&str, &str); 5] = [
-    (
-        "org",
-        r#"# The people of a company, what they do, and whom they know.
+const SCHEMA: &str = r#"# The people of a company, what they do, and whom they know.
 table departments (name: text, key (name));
 table employees (dept: text, name: text, salary: int, key (name));
 table tasks (employee: text, task: text);
 table contacts (dept: text, name: text, client: bool);
-"#,
-    ),
-    (
-        "data/contacts.csv",
-        r#"dept,name,client
+"#;
+
+const CONTACTS: &str = r#"dept,name,client
 Product,Pam,false
 Product,Pat,true
 Research,Rob,false
@@ -26,20 +21,16 @@ Research,Roy,false
 Sales,Sam,false
 Sales,Sid,false
 Sales,Sue,true
-"#,
-    ),
-    (
-        "data/departments.csv",
-        r#"name
+"#;
+
+const DEPARTMENTS: &str = r#"name
 Product
 Quality
 Research
 Sales
-"#,
-    ),
-    (
-        "data/employees.csv",
-        r#"dept,name,salary
+"#;
+
+const EMPLOYEES: &str = r#"dept,name,salary
 Product,Alex,20000
 Product,Bert,900
 Research,Cora,50000
@@ -47,11 +38,9 @@ Research,Drew,60000
 Sales,Erik,2000000
 Sales,Fred,700
 Sales,Gina,100000
-"#,
-    ),
-    (
-        "data/tasks.csv",
-        r#"employee,task
+"#;
+
+const TASKS: &str = r#"employee,task
 Alex,build
 Bert,build
 Cora,abstract
@@ -64,9 +53,7 @@ Erik,enthuse
 Fred,call
 Gina,call
 Gina,dissemble
-"#,
-    ),
-];
+"#;
 
 // Queries, each with what is written.
 const EXAMPLES: [(&str, &str); 6] = [
@@ -136,10 +123,18 @@ for (d <- table departments)
 // The inputs of a query.
 fn inputs_of(alloc: Global, query: &str) -> Result<HeldInputs, Fail> {
     let mut files = List::new(alloc);
-    files.push((Text::from_str(alloc, "q")?, padded(alloc, 0, query)?))?;
-    for (name, text) in &FILES {
-        files.push((Text::from_str(alloc, name)?, padded(alloc, 0, text)?))?;
-    }
+    let query = padded(alloc, 0, query)?;
+    files.push((Text::from_str(alloc, "q")?, query))?;
+    let text = padded(alloc, 0, SCHEMA)?;
+    files.push((Text::from_str(alloc, "org")?, text))?;
+    let text = padded(alloc, 0, CONTACTS)?;
+    files.push((Text::from_str(alloc, "data/contacts.csv")?, text))?;
+    let text = padded(alloc, 0, DEPARTMENTS)?;
+    files.push((Text::from_str(alloc, "data/departments.csv")?, text))?;
+    let text = padded(alloc, 0, EMPLOYEES)?;
+    files.push((Text::from_str(alloc, "data/employees.csv")?, text))?;
+    let text = padded(alloc, 0, TASKS)?;
+    files.push((Text::from_str(alloc, "data/tasks.csv")?, text))?;
     Ok(HeldInputs::new(alloc, files, List::new(alloc))?)
 }
 

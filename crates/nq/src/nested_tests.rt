@@ -14,6 +14,8 @@ table tasks (employee: text, task: text);
 table contacts (dept: text, name: text, client: bool);
 ";
 
+const CONTACTS: &str = "dept,name,client\nProduct,Pam,false\nQuality,Quinn,true\nSales,Sue,true\n";
+
 // Each department with its employees, and each of those with their tasks.
 const STAFF: &str = "let tasksOf = fun (e: text) ->
   for (t <- table tasks) where (t.employee == e) [t.task];
@@ -126,21 +128,18 @@ where (e.dept == c.dept && (if c.client then hi else lo)(e.salary)) [e.name]
 
 /// The inputs of a query.
 pub fn inputs_of(alloc: Global, nested: &Nested) -> Result<HeldInputs, Fail> {
-    let texts = [
-        ("org", ORG),
-        ("q", nested.query),
-        ("data/departments.csv", nested.departments),
-        ("data/employees.csv", nested.employees),
-        ("data/tasks.csv", nested.tasks),
-        (
-            "data/contacts.csv",
-            "dept,name,client\nProduct,Pam,false\nQuality,Quinn,true\nSales,Sue,true\n",
-        ),
-    ];
     let mut files = List::new(alloc);
-    for (name, text) in &texts {
-        files.push((Text::from_str(alloc, name)?, padded(alloc, 0, text)?))?;
-    }
+    files.push((Text::from_str(alloc, "org")?, padded(alloc, 0, ORG)?))?;
+    let query = padded(alloc, 0, nested.query)?;
+    files.push((Text::from_str(alloc, "q")?, query))?;
+    let departments = padded(alloc, 0, nested.departments)?;
+    files.push((Text::from_str(alloc, "data/departments.csv")?, departments))?;
+    let employees = padded(alloc, 0, nested.employees)?;
+    files.push((Text::from_str(alloc, "data/employees.csv")?, employees))?;
+    let tasks = padded(alloc, 0, nested.tasks)?;
+    files.push((Text::from_str(alloc, "data/tasks.csv")?, tasks))?;
+    let contacts = padded(alloc, 0, CONTACTS)?;
+    files.push((Text::from_str(alloc, "data/contacts.csv")?, contacts))?;
     Ok(HeldInputs::new(alloc, files, List::new(alloc))?)
 }
 
