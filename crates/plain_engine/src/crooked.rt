@@ -8,8 +8,9 @@ use sql_eval::Arrangement;
 use sql_profile::{Answer, Loaded, ServerFault, SqlServer};
 use std::alloc::Global;
 
-/// A server whose answers SQL allows too, as far from those of the plain one as they may be: ties are numbered,
-/// and rows come, in reverse. It is honest, never fails, and does not tell its asks.
+/// A server whose answers SQL allows too, in another arrangement than those of the plain one: in each SELECT ties
+/// are numbered, and rows come, in reverse. The SELECTs of a UNION ALL stay in their order. It is honest, never
+/// fails, and does not tell its asks.
 #[derive(Drop)]
 pub struct CrookedServer {
     tables: List<Loaded>,
