@@ -166,7 +166,7 @@ fn writes_what_each_query_means(rt: HostRuntime) -> Result<(), Fail> {
 #[test]
 fn writes_the_same_where_ties_and_rows_come_in_reverse(rt: HostRuntime) -> Result<(), Fail> {
     let alloc = rt.alloc();
-    for nested in &[TWICE, TWICE_DEEP] {
+    for nested in &NESTED {
         let server: Box<dyn SqlServer> = Box::new(alloc, CrookedServer::new(alloc))?;
         check_run_over(
             &rt,
