@@ -1,2 +1,9 @@
 pub mod Quotes
 pub mod Joined
+pub mod Laid
+pub mod Legible
+pub mod Spelled
+pub mod LegibleForms
+pub mod Meant
+pub mod Texts
+pub mod WordMaps

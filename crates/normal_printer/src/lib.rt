@@ -2,9 +2,11 @@
 #![tactic(auto)]
 
 mod bases;
+mod laws;
 mod levels;
 mod pieces;
 mod text;
 mod types;
 
+pub use laws::printing_laws;
 pub use text::print_normal;

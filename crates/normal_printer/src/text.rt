@@ -1,9 +1,15 @@
 // Comprehensions, their bodies, and whole forms.
-ghost use Rattle.std.specs.Prelude.{◌≡◌, ◌++◌, IfOk, OnOk, map, string_bytes};
-ghost use Rattle.nq_ir.specs.Printed.{named_body, named_fields, nil, printed_text, rec, text_of};
+ghost use Rattle.std.specs.Prelude.{◌≡◌, ◌++◌, IfOk, List, OnOk, [], length, map, string_bytes};
+ghost use Rattle.nq_ir.specs.Meanings.{form_meaning, rows_in};
+ghost use Rattle.nq_ir.specs.Printed.{named_body, named_fields, nil, printed_term, printed_text, rec, text_of};
 ghost use Rattle.nq_ir.specs.Trees.{bodies_of, body_tree, form_tree};
+ghost use Rattle.nq_model.specs.Databases.{FilledTable};
+ghost use Rattle.nq_model.specs.Meaning.{meaning};
+ghost use Rattle.nq_model.specs.QueryTexts.{Spells};
+ghost use Rattle.nq_model.specs.Terms.{PlacedTerm, bare};
 ghost use Rattle.nq_model.specs.Types.{type_tree};
 ghost use Rattle.normal_printer.specs.Parts.{text_at, whole_term};
+ghost use Rattle.normal_printer.specs.Spellable.{IsSpellable};
 
 use crate::bases::{put_base, put_gens, put_where};
 use crate::levels::{UNION, comp_level, level_in};
@@ -95,9 +101,15 @@ fn put_form(text: &mut String, normal: &Normal) -> Result<(), Memory>
 }
 
 /// The text of a normal form: a term of the query language with the variable `xk` for the generator k, one space
-/// between words, parentheses exactly where a part is weaker than its place asks. The only error is that memory wants.
+/// between words, parentheses exactly where a part is weaker than its place asks. Where the form is well formed over a
+/// schema and its names are words, the text spells the term at a depth of its own bytes, and the term means what the
+/// form means. The only error is that memory wants.
 pub fn print_normal(alloc: Global, normal: &Normal) -> Result<List<u8>, Memory>
     ensures is { IfOk result (λ bytes. bytes ≡ printed_text (form_tree normal.now)) }
+    ensures spells { IfOk result (λ bytes. IsSpellable (form_tree normal.now)
+        → (tree : PlacedTerm) × Spells (length bytes) bytes tree × (bare tree ≡ printed_term (form_tree normal.now))) }
+    ensures meaning { IfOk result (λ bytes. IsSpellable (form_tree normal.now) → (tables : List FilledTable)
+        → meaning tables [] (printed_term (form_tree normal.now)) ≡ form_meaning (rows_in tables) (form_tree normal.now)) }
 {
     let mut text = String::new(alloc);
     put_form(&mut text, normal)?;
