@@ -1,9 +1,9 @@
 -- The text of a term, and then more bytes.
-use Rattle.std.proofs.Common.{◌≡◌, ℕ, suc, Bool, true, false, nat_le, List, [], ◌∷◌, ◌++◌, codes, refl, ap, ◌∙◌, append_assoc}
+use Rattle.std.proofs.Common.{◌≡◌, ℕ, suc, Bool, true, false, nat_le, List, ◌∷◌, ◌++◌, codes, refl, ap, ◌∙◌, append_assoc}
 use Rattle.std.specs.Fmt.{decimal}
 use Rattle.nq_model.specs.Canonical.{cell_text}
 use Rattle.nq_model.specs.Types.{TypeTree, FieldTypes}
-use Rattle.nq_ir.specs.Printed.{NamedTerm, var, constant, unary, binary, choose, table, rec, field, single, nil, union, for, guard, empty, NamedFields, no_field, with_field, level, level_of, left_level, sign_of, word_of, name_text, fenced, type_text, more_types, text_of, more_text}
+use Rattle.nq_ir.specs.Printed.{NamedTerm, var, constant, unary, binary, choose, table, rec, field, single, nil, union, for, guard, empty, NamedFields, no_field, with_field, level, level_of, left_level, sign_of, word_of, fenced, type_text, more_types, text_of, more_text}
 
 -- in parentheses, or as it stands
 abbrev pub fence : Bool → (List ℕ → List ℕ) → List ℕ → List ℕ

@@ -1,9 +1,8 @@
 -- The term as which a form prints is legible where the form is well formed and its words are words.
-use Rattle.std.proofs.Common.{◌≡◌, ℕ, ◌<◌, ◌^◌, ◌&&◌, inl, inr, Bool, true, false, cond, nat_eq, List, [], ◌∷◌, ◌++◌, map, Some, refl, sym, ap, ap₂, ◌∙◌, subst}
+use Rattle.std.proofs.Common.{◌≡◌, ℕ, ◌&&◌, inl, inr, Bool, true, false, cond, nat_eq, List, [], ◌∷◌, ◌++◌, Some, refl, sym, ap, ap₂, ◌∙◌, subst}
 use Rattle.std.specs.List.{AllByRecursion as Each}
 use Rattle.std.proofs.lemmas.Bool.Decides.{Decides-eqb}
 use Rattle.nq_model.specs.NamedRows.{Label}
-use Rattle.nq_model.specs.Orders.{AreRising}
 use Rattle.nq_model.specs.Proper.{IsQueryWord, IsOrdered, AreOrdered, labels_of}
 use Rattle.nq_model.specs.Types.{TypeTree, int, bool, text, rec, bag, fun, FieldTypes, none, field, is_plain, are_plain}
 use Rattle.nq_model.specs.declared.table.ColumnType.{ColumnType}
@@ -12,8 +11,8 @@ use Rattle.nq_model.specs.declared.table.TableShape.{TableShape}
 use Rattle.nq_model.specs.declared.term.Binary.TheVariants.{And}
 use Rattle.nq_ir.specs.declared.base.Gen.{Gen}
 use Rattle.nq_ir.specs.Trees.{BaseTree, literal, column, unary, binary, choose, empty, Conds, no_cond, and_cond, Tests, no_test, test, BodyTree, plain_body, rec_body, bag_body, Bodies, no_body, with_body, Comps, no_comp, comp, FormTree}
-use Rattle.nq_ir.specs.Printed.{NamedTerm, NamedFields, under_gens, unit_bag, named_base, named_where, and_then, named_tests, tests_then, named_body, named_fields, named_comps, comps_then, named_form}
-use Rattle.nq_ir.specs.WellFormed.{AreTables, BaseHas, CondsHave, TestsHave, BodyHas, BodiesHave, CompsHave, IsNumber, IsWellFormed, column_type_in, gen_columns, table_columns, numbers, base_numbers, conds_numbers, tests_numbers, body_numbers, bodies_numbers, comps_numbers}
+use Rattle.nq_ir.specs.Printed.{NamedTerm, under_gens, unit_bag, named_base, named_where, and_then, named_tests, tests_then, named_body, named_fields, named_comps, comps_then, named_form}
+use Rattle.nq_ir.specs.WellFormed.{BaseHas, CondsHave, TestsHave, BodyHas, BodiesHave, CompsHave, IsNumber, column_type_in, gen_columns, table_columns, numbers, base_numbers, conds_numbers, tests_numbers, body_numbers, bodies_numbers, comps_numbers}
 use Rattle.nq_ir.specs.Words.{TypeWords, FieldsWords, GensWords, BaseWords, CondsWords, TestsWords, BodyWords, BodiesWords, CompsWords}
 use Rattle.nq_ir.proofs.Distinct.{each_join, each_left, each_right}
 use Rattle.nq_ir.proofs.Numbered.{each_weaker}
@@ -117,10 +116,12 @@ module _ (S : List TableShape) where
     tests_then_legible no_test s sc scope h w n c l = l
     tests_then_legible (test gens bs xs) s sc scope h w n c l =
         let m = each_right IsNumber (numbers gens) (conds_numbers bs ++ tests_numbers xs) n in
-        tests_then_legible xs (NamedTerm.union s (under_gens gens (named_where bs unit_bag))) sc scope h.2 w.2 (each_right IsNumber (conds_numbers bs) (tests_numbers xs) m) c
-        (l, under_legible gens sc (named_where bs unit_bag) w.0 (each_left IsNumber (numbers gens) (conds_numbers bs ++ tests_numbers xs) n)
-        (where_legible bs unit_bag (names_behind gens sc) (gens ++ scope) h.1 w.1 (each_left IsNumber (conds_numbers bs) (tests_numbers xs) m)
-        (each_join (λ (g : Gen). IsBound (names_behind gens sc) g.number) gens scope (covers_own gens sc) (still_covers gens sc scope c)) (tt, tt)))
+        tests_then_legible xs (NamedTerm.union s (under_gens gens (named_where bs unit_bag))) sc scope h.2 w.2 (each_right IsNumber (conds_numbers bs) (tests_numbers xs) m) c (
+          l,
+          under_legible gens sc (named_where bs unit_bag) w.0 (each_left IsNumber (numbers gens) (conds_numbers bs ++ tests_numbers xs) n)
+              (where_legible bs unit_bag (names_behind gens sc) (gens ++ scope) h.1 w.1 (each_left IsNumber (conds_numbers bs) (tests_numbers xs) m)
+              (each_join (λ (g : Gen). IsBound (names_behind gens sc) g.number) gens scope (covers_own gens sc) (still_covers gens sc scope c)) (tt, tt)),
+        )
 
   -- the labels of a record are those of its type
   labels_same : (fs : Bodies) (gs : FieldTypes) (scope : List Gen) → BodiesHave S scope fs gs → named_labels (named_fields fs) ≡ labels_of gs
@@ -184,9 +185,11 @@ module _ (S : List TableShape) where
     comps_then_legible (comp t gens bs b cs) a s sc scope h o p w n c l =
         let m = each_right IsNumber (numbers gens) (conds_numbers bs ++ (body_numbers b ++ comps_numbers cs)) n in
         let k = each_right IsNumber (conds_numbers bs) (body_numbers b ++ comps_numbers cs) m in
-        comps_then_legible cs a (NamedTerm.union s (comp_term gens bs (named_body b))) sc scope h.3 o p w.3 (each_right IsNumber (body_numbers b) (comps_numbers cs) k) c
-        (l, comp_legible gens bs (named_body b) sc scope w.0 (each_left IsNumber (numbers gens) (conds_numbers bs ++ (body_numbers b ++ comps_numbers cs)) n) h.1 w.1 (each_left IsNumber (conds_numbers bs) (body_numbers b ++ comps_numbers cs) m) c
-        (λ all. body_legible b a (names_behind gens sc) (scope ++ gens) h.2 o p w.2 (each_left IsNumber (body_numbers b) (comps_numbers cs) k) all))
+        comps_then_legible cs a (NamedTerm.union s (comp_term gens bs (named_body b))) sc scope h.3 o p w.3 (each_right IsNumber (body_numbers b) (comps_numbers cs) k) c (
+          l,
+          comp_legible gens bs (named_body b) sc scope w.0 (each_left IsNumber (numbers gens) (conds_numbers bs ++ (body_numbers b ++ comps_numbers cs)) n) h.1 w.1 (each_left IsNumber (conds_numbers bs) (body_numbers b ++ comps_numbers cs) m) c
+              (λ all. body_legible b a (names_behind gens sc) (scope ++ gens) h.2 o p w.2 (each_left IsNumber (body_numbers b) (comps_numbers cs) k) all),
+        )
 
 pub form_legible : (form : FormTree) → IsSpellable form → Legible [] (named_form form)
 form_legible form s =

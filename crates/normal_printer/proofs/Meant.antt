@@ -1,5 +1,5 @@
 -- The term as which a form prints means what the form means.
-use Rattle.std.proofs.Common.{◌≡◌, ℕ, suc, List, [], ◌∷◌, ◌++◌, map, zip, refl, sym, ap, ap₂, ◌∙◌, subst, Bool, true, false, cond, filter, flat_map, find, get_or, append_assoc, append-nil, nat_eq, ◌&&◌, Option, Some, None, bytes_eq}
+use Rattle.std.proofs.Common.{◌≡◌, ℕ, suc, List, [], ◌∷◌, ◌++◌, map, zip, refl, sym, ap, ap₂, ◌∙◌, subst, Bool, true, false, cond, filter, flat_map, find, get_or, append_assoc, append-nil, nat_eq, ◌&&◌, Some, bytes_eq}
 use Rattle.std.specs.Prelude.{⊤}
 use Rattle.std.specs.List.{AllByRecursion as Each}
 use Rattle.std.specs.Ordering.{is_gt}
@@ -13,7 +13,7 @@ use Rattle.nq_model.specs.Databases.{FilledTable, rows_value, table_meaning}
 use Rattle.nq_model.specs.Meaning.{cell_of, elements_in, field_in, value_under, put_field, is_none, meaning, field_meanings}
 use Rattle.nq_model.specs.NamedRows.{Label, Row, no_cell, cell_under, named_table, rows_named}
 use Rattle.nq_model.specs.Operators.{is_true, unary_value, binary_value}
-use Rattle.nq_model.specs.Orders.{AreDistinct, AreRising, by_label, label_cmp, put_by}
+use Rattle.nq_model.specs.Orders.{AreDistinct, AreRising, by_label, label_cmp}
 use Rattle.nq_model.specs.Tables.{names_of, row_record}
 use Rattle.nq_model.specs.Proper.{IsOrdered, AreOrdered, labels_of}
 use Rattle.nq_model.specs.Types.{TypeTree, FieldTypes}

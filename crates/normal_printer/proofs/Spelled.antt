@@ -1,16 +1,16 @@
 -- The text of a legible term spells it.
-use Rattle.std.proofs.Common.{◌≡◌, ℕ, suc, ◌+◌, ◌<◌, ◌≤◌, ◌^◌, ℤ, pos, Bool, true, false, ◌==◌, nat_le, List, [], ◌∷◌, ◌++◌, length, codes, Ok, refl, sym, ap, ap₂, ◌∙◌, subst, append_assoc, append-nil, arith}
+use Rattle.std.proofs.Common.{◌≡◌, ℕ, suc, ◌+◌, ◌≤◌, ℤ, Bool, true, false, nat_le, List, [], ◌∷◌, ◌++◌, length, codes, refl, sym, ap, ap₂, ◌∙◌, subst, append_assoc, append-nil, arith}
 use Rattle.std.specs.Fmt.{decimal, signed_decimal}
 use Rattle.std.specs.Str.{IsUtf8}
 use Rattle.std.proofs.lemmas.Bool.Decides.{nat_tests}
 use Rattle.nq_model.specs.Canonical.{doubled_quotes}
 use Rattle.nq_model.specs.NamedRows.{Label}
-use Rattle.nq_model.specs.Orders.{by_label, AreRising}
+use Rattle.nq_model.specs.Orders.{by_label}
 use Rattle.nq_model.specs.Proper.{IsQueryWord, labels_of}
-use Rattle.nq_model.specs.QueryGrammar.{First, IsName, truth_word, TypeSyntax, TBase, TBag, TNoFields, TRec, TypeFields, TOne, TMore, Syntax, Const, Truth, Var, Table, Empty, Paren, NoFields, Rec, Bag, Nil, For, Where, If, Prefix, Infix, Field, Fields, One, More, type_tokens, type_fields_tokens, tokens, fields_tokens, TypeFits, TypeFieldsFit, Fits, FieldsFit, depth, deepest, level as operator_level, left_level as operator_left}
-use Rattle.nq_model.specs.QueryScope.{Name, among, term_of, fields_of, type_of, typed_fields, type_labels, labels, Wrong, wrongs, fields_wrongs, type_wrongs, type_fields_wrongs, undoubled, if_twice, if_unbound}
+use Rattle.nq_model.specs.QueryGrammar.{First, TypeSyntax, TBase, TBag, TNoFields, TRec, TypeFields, TOne, TMore, Syntax, Const, Truth, Var, Table, Empty, Paren, NoFields, Rec, Bag, Nil, For, Where, If, Prefix, Infix, Field, Fields, One, More, type_tokens, type_fields_tokens, tokens, fields_tokens, TypeFits, TypeFieldsFit, Fits, FieldsFit, level as operator_level, left_level as operator_left}
+use Rattle.nq_model.specs.QueryScope.{Name, among, term_of, fields_of, type_of, typed_fields, type_labels, labels, Wrong, wrongs, fields_wrongs, type_wrongs, type_fields_wrongs, if_twice, if_unbound}
 use Rattle.nq_model.specs.QueryTexts.{Spells}
-use Rattle.nq_model.specs.QueryTokens.{Token, Word, Oper, Sign, End, Union, Of, Number, Literal, Opening, Closing, OpeningBag, ClosingBag, Comma, Colon, Dot, Assign, From, tokens_of}
+use Rattle.nq_model.specs.QueryTokens.{Token, Word, Oper, Sign, End, Union, Of, Number, Literal, Closing, Comma, Colon, Assign}
 use Rattle.nq_model.specs.Terms.{TermTree, TermFields, PlacedTerm, PlacedFields, bare, bare_fields}
 use Rattle.nq_model.specs.Types.{TypeTree, FieldTypes, field_types_of}
 use Rattle.nq_model.specs.declared.table.Cell.TheVariants as cell
@@ -23,7 +23,7 @@ use Rattle.nq_ir.specs.Printed.{NamedTerm, var, constant, unary, binary, choose,
 use Rattle.query_syntax.proofs.Lengths.{depth_tokens}
 use Rattle.query_syntax.proofs.Reading.{Reads, Parts, Operand, operator_bytes, read_end, read_all, read_space, read_open, read_close, read_open_bag, read_close_bag, read_comma, read_colon, read_dot, read_assign, read_from, read_union, read_operator, read_minus, read_not, read_word, read_number, read_literal, number_operand, numbered_word, undoubled_doubled}
 use Rattle.normal_printer.proofs.Laid.{fence, type_then, types_then, text_then, fields_then, text_laid}
-use Rattle.normal_printer.proofs.Legible.{Apart, AreSmall, IsBound, Legible, LegibleFields, LegibleType, LegibleTypes, bound_name, bound_place, field_list, listed_fields, named_labels, names, rising_apart, rising_sorted}
+use Rattle.normal_printer.proofs.Legible.{Apart, AreSmall, Legible, LegibleFields, LegibleType, LegibleTypes, bound_name, bound_place, field_list, listed_fields, named_labels, names, rising_apart, rising_sorted}
 
 -- a type is read as a syntax tree, from a place on; and then come more bytes
 record TypeSpelling (a : TypeTree) (place : ℕ) (bytes rest : List ℕ) : Type 0 where

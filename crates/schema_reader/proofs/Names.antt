@@ -3,6 +3,8 @@ use Rattle.std.proofs.Common.{◌≡◌, ◌≢◌, ℕ, zero, suc, ◌≤◌, �
 use Rattle.std.specs.List.{AllByRecursion as Each, AllZip, flat_map, slice_index_or}
 use Rattle.std.proofs.lemmas.List.Elements.{All-from_recursion}
 use Rattle.nq_model.specs.Orders.{AreDistinct}
+use Rattle.nq_model.specs.Proper.{IsQueryWord}
+use Rattle.nq_model.specs.declared.table.TableShape.{TableShape}
 use Rattle.nq_model.specs.Tables.{names_of, IsProperName, IsProperShape, IsProperSchema}
 use Rattle.nq_model.specs.SchemaTokens.{Mark, Symbol, Token, IsWord, is_word_byte}
 use Rattle.nq_model.specs.SchemaTexts.{Name, WrittenColumn, WrittenTable, Slot, Fills, mark_slot, with_commas, column_slots, key_slots, table_slots, schema_slots, IsSymbol, shape_of, schema_of, Fault, FaultAt, StandsBehind, table_names, column_names, key_names}
@@ -188,6 +190,10 @@ tables_words [] w = tt
 tables_words (t ∷ ts) w =
     (each_front (λ n. IsWord n.text) (names_in t) (flat_map names_in ts) w, tables_words ts (each_back (λ n. IsWord n.text) (names_in t) (flat_map names_in ts) w))
 
+-- the names of a table and of its columns
+abbrev pub HasQueryWords : TableShape → Type 0
+HasQueryWords shape = IsQueryWord shape.name × Each IsQueryWord (names_of shape.columns)
+
 module _ (tables : List WrittenTable) (words : AreWords (flat_map names_in tables)) (faultless : (f : Fault) (p : ℕ) → FaultAt tables f p → ⊥) where
   no_twin_column : (t : WrittenTable) → Contains tables t → AreDistinct (column_names t.columns)
   no_twin_column t c = distinct_from (column_names t.columns) (λ before x s k.
@@ -267,3 +273,23 @@ module _ (tables : List WrittenTable) (words : AreWords (flat_map names_in table
         ))));
     proper = All-from_recursion IsProperShape (map shape_of tables) (each_map IsProperShape shape_of tables (each_from (λ t. IsProperShape (shape_of t)) tables shape_proper));
   }
+
+  -- a written schema in which no fault stands has words of at most 64 bytes for names
+  query_word : (w : List ℕ) → IsWord w → (64 < length w → ⊥) → IsQueryWord w
+  query_word w h n = record { word = h; short = omega arith }
+
+  columns_query_words : (t : WrittenTable) → Contains tables t → AreWords (map (λ d. d.name) t.columns) → Each (λ d. IsQueryWord d.name.text) t.columns
+  columns_query_words t c w = each_from (λ d. IsQueryWord d.name.text) t.columns (λ before d s.
+      query_word d.name.text (each_at (λ e. IsWord e.name.text) t.columns before d (each_unmap (λ n. IsWord n.text) (λ e. e.name) t.columns w) s)
+      (λ l. faultless Fault.over_limit d.name.place (inr (t, c, inl (before, d, s, inr l, refl)))))
+
+  shape_query_words : (before : List WrittenTable) (t : WrittenTable) → StandsBehind tables before t → HasQueryWords (shape_of t)
+  shape_query_words before t s =
+      let w = each_at (λ u. AreWords (names_in u)) tables before t (tables_words tables words) s in (
+        query_word t.name.text w.0 (λ l. faultless Fault.over_limit t.name.place (inl (before, t, s, inr l, refl))),
+        subst (Each IsQueryWord) (sym (names_same t))
+        (each_map IsQueryWord (λ d. d.name.text) t.columns (columns_query_words t (stands_contains tables before t s) (each_front (λ n. IsWord n.text) (map (λ d. d.name) t.columns) t.key w.1))),
+      )
+
+  pub schema_query_words : Each HasQueryWords (schema_of tables).tables
+  schema_query_words = each_map HasQueryWords shape_of tables (each_from (λ t. HasQueryWords (shape_of t)) tables shape_query_words)

@@ -1,6 +1,6 @@
 -- A text spells one schema, or it has one fault.
 use Rattle.std.proofs.Common.{◌≡◌, ℕ, zero, suc, ◌≤◌, ◌<◌, false, List, [], ◌∷◌, length, take, refl, sym, ◌∙◌, ap, subst, arith, ◌⊎◌, inl, inr, true≢false, nat_lt, take_all, Some, None}
-use Rattle.std.specs.List.{flat_map}
+use Rattle.std.specs.List.{AllByRecursion as Each, flat_map}
 use Rattle.std.specs.Str.{IsUtf8, IsValidUpTo, is_utf8}
 use Rattle.std.proofs.lemmas.Bool.Decides.{Decides-ltb, nat_tests}
 use Rattle.std.proofs.lemmas.Str.{IsUtf8-from_is_utf8, is_utf8-from_IsUtf8, IsUtf8-nil}
@@ -13,7 +13,7 @@ use Rattle.schema_reader.proofs.Truths.{Truth, yes', no', truth, Found, nothing'
 use Rattle.schema_reader.proofs.Cuts.{Ascend, Ascend-append, AreSymbols, Each-append, tokens_ascend, tokens_symbols}
 use Rattle.schema_reader.proofs.Syntax.{cut_far, Judged, faulty, written, judged, one_place, one_tables, no_syntax_fault}
 use Rattle.schema_reader.proofs.Conditions.{Rise, names_in, walk_none, walk_some}
-use Rattle.schema_reader.proofs.Names.{schema_rise, schema_words, schema_proper}
+use Rattle.schema_reader.proofs.Names.{HasQueryWords, schema_rise, schema_words, schema_proper, schema_query_words}
 
 -- what is known of the tokens of a text
 pub record Ordered (tokens : List Token) : Type 0 where
@@ -46,6 +46,12 @@ pub spelled_proper : (text : List ℕ) (schema : Schema) → Spells text schema 
 spelled_proper text schema s =
     let o = text_ordered text s.written.0 s.written.1 in
     subst IsProperSchema (sym s.same) (schema_proper s.tables (schema_words s.tables s.written.0 s.written.2.filled o.symbols) s.faultless)
+
+-- the names of a spelled schema are words of at most 64 bytes
+pub spelled_words : (text : List ℕ) (schema : Schema) → Spells text schema → Each HasQueryWords schema.tables
+spelled_words text schema s =
+    let o = text_ordered text s.written.0 s.written.1 in
+    subst (λ (z : Schema). Each HasQueryWords z.tables) (sym s.same) (schema_query_words s.tables (schema_words s.tables s.written.0 s.written.2.filled o.symbols) s.faultless)
 
 -- where the walk finds no fault the text spells the schema
 pub spells : (text : List ℕ) (tables : List WrittenTable) → IsUtf8 text → WritesTables text tables → tables_fault [] tables ≡ None → Spells text (schema_of tables)
