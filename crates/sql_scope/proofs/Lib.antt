@@ -1,3 +1,4 @@
+pub mod Naming
 pub mod Lookups
 pub mod Scopes
 pub mod Walks

@@ -6,7 +6,7 @@ use Rattle.sql_profile.specs.Scope.{Broken, Fine, IsWellScoped, Shapes, Verdict,
 use Rattle.sql_profile.specs.Trees.{PlacedSql, bare}
 use Rattle.sql_profile.proofs.Scoped.{tree_judged, tree_fine}
 use Rattle.sql_scope.specs.Answers.{HasCause, IsBroken}
-use Rattle.sql_scope.specs.Steps.{Faults, Gives}
+use Rattle.sql_scope.specs.Steps.{Faults}
 use Rattle.sql_scope.specs.declared.fault.ScopeFault.{ScopeFault}
 use Rattle.sql_scope.specs.declared.fault.ScopeFault.TheVariants.{Memory, Broken as Fault}
 

@@ -1,17 +1,15 @@
 -- The walk over lists, part by part.
-use Rattle.std.proofs.Common.{◌≡◌, ℕ, Bool, true, false, cond, List, [], ◌∷◌, ◌++◌, map, Option, Some, None, is_some, refl, sym, ap, ◌∙◌, subst, append_assoc}
+use Rattle.std.proofs.Common.{◌≡◌, ℕ, Bool, true, false, cond, List, [], ◌∷◌, ◌++◌, map, Option, Some, None, is_some, refl, sym, ap, ◌∙◌, append_assoc}
 use Rattle.nq_model.specs.Tables.{Columns, names_of, types_of}
 use Rattle.nq_model.specs.declared.table.ColumnType.{ColumnType}
-use Rattle.sql_profile.specs.declared.tree.Expr.{Expr}
 use Rattle.sql_profile.specs.declared.tree.Item.{Item}
 use Rattle.sql_profile.specs.declared.tree.Select.{Select}
 use Rattle.sql_profile.specs.declared.tree.Source.{Source}
-use Rattle.sql_profile.specs.Scope.{Aliases, Broken, Fine, Shapes, Verdict, among, and_then, found, judge_expr, judge_items, judge_others, judge_query, judge_select, judge_sources, judge_value, names_in, or_broken, same_types, select_place, unless}
-use Rattle.sql_profile.specs.Trees.{PlacedItem, PlacedItems, PlacedSelect, item_at, items_of, no_item_at, placed_item, placed_select, placed_value, query_of, then_item_at}
-use Rattle.sql_profile.proofs.Trees.{item_placed, select_placed}
-use Rattle.sql_scope.specs.Steps.{Faults, alike, before, judge_source, placed_items}
-use Rattle.sql_scope.specs.declared.fault.ScopeFault.{ScopeFault}
-use Rattle.sql_scope.specs.declared.fault.ScopeFault.TheVariants as fault
+use Rattle.sql_profile.specs.Scope.{Aliases, Broken, Fine, Shapes, Verdict, among, and_then, found, judge_items, judge_others, judge_query, judge_select, judge_sources, judge_value, names_in, or_broken, same_types, select_place, unless}
+use Rattle.sql_profile.specs.Trees.{PlacedItem, items_of, placed_item, placed_select, placed_value, query_of}
+use Rattle.sql_profile.proofs.Trees.{item_placed}
+use Rattle.sql_scope.specs.Names.{before}
+use Rattle.sql_scope.specs.Steps.{alike, judge_source, placed_items}
 use Rattle.sql_scope.proofs.Lookups.{among_found, among_reversed, before_more}
 
 -- these before those of a verdict

@@ -1,19 +1,18 @@
 -- What a step of the walk answers, beside its verdict; and what the program's values stand for.
-use Rattle.std.specs.Prelude.{◌≡◌, ℕ, ⊤, cond, List, [], ◌∷◌, ◌++◌, map, Option, Some, None, is_some, Result, Ok, Err}
+use Rattle.std.specs.Prelude.{◌≡◌, ℕ, ⊤, cond, List, [], ◌++◌, map, Option, Some, None, is_some, Result, Ok, Err}
+use Rattle.std.specs.Borrow.{Bor}
 use Rattle.std.specs.Option.{option_map}
 use Rattle.nq_model.specs.Tables.{Columns, types_of}
 use Rattle.sql_profile.specs.declared.tree.Expr.{Expr}
 use Rattle.sql_profile.specs.declared.tree.Item.{Item}
 use Rattle.sql_profile.specs.declared.tree.Source.{Source}
-use Rattle.sql_profile.specs.Scope.{Aliases, Broken, Fine, Shapes, Verdict, and_then, found, judge_items, judge_keep, or_broken, same_types, shapes_of_schema, unless}
+use Rattle.sql_profile.specs.Scope.{Aliases, Broken, Fine, Shapes, Verdict, and_then, found, judge_items, judge_keep, or_broken, same_types, unless}
 use Rattle.sql_profile.specs.Trees.{PlacedExprs, PlacedItems, PlacedKeep, PlacedSelect, select_at, exprs_of, items_of, keep_of, placed_expr, placed_item}
 use Rattle.sql_scope.specs.declared.fault.ScopeFault.{ScopeFault}
 use Rattle.sql_scope.specs.declared.fault.ScopeFault.TheVariants as fault
-use Rattle.sql_scope.specs.declared.aliases.Bound.{Bound}
 use Rattle.sql_scope.specs.declared.aliases.Scope.{Scope}
 use Rattle.sql_scope.specs.declared.aliases.Scope.TheFolds.{fold-Scope}
 use Rattle.sql_scope.specs.declared.aliases.Scope.TheOpen.{Scope-F}
-use Rattle.sql_scope.specs.declared.tables.Tables.{Tables}
 
 -- the fault of a step, where it is not want of memory, is that of the verdict
 abbrev pub Faults : {A : Type 0} → Verdict A → ScopeFault → Type 0
@@ -25,18 +24,9 @@ abbrev pub Gives : {A : Type 0} → Result A ScopeFault → Verdict A → Type 0
 Gives (Ok x) v = v ≡ Fine x
 Gives (Err e) v = Faults v e
 
--- one after the other before these
-abbrev pub before : {A : Type 0} → List A → List A → List A
-before [] ts = ts
-before (w ∷ ws) ts = before ws (w ∷ ts)
-
--- the WITH queries, the newest first, and then the tables
-abbrev pub shapes_in : Tables → Shapes
-shapes_in t = before t.withs (shapes_of_schema t.shapes.now)
-
 -- the aliases of a FROM
-abbrev pub bounds : List Bound → Aliases
-bounds own = map (λ b. (b.alias.now, b.columns.now)) own
+abbrev pub bounds : List (List ℕ × Bor Columns) → Aliases
+bounds own = map (λ x. (x.0, x.1.now)) own
 
 abbrev pub scope_layer : Scope-F Aliases → Aliases
 scope_layer Scope-F.Outermost = []

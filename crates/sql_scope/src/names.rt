@@ -1,37 +1,99 @@
-// Columns under their names.
-ghost use Rattle.std.specs.Prelude.{◌≡◌};
-ghost use Rattle.nq_model.specs.Tables.{names_of, types_of};
-ghost use Rattle.sql_profile.specs.Scope.{among, found, same_types};
+// Values under names, the first of a name found by a hash table.
+ghost use Rattle.std.specs.Prelude.{◌≡◌, ◌++◌, [], ◌∷◌, IfOk, map, option_copied};
+ghost use Rattle.nq_model.specs.Tables.{types_of};
+ghost use Rattle.sql_profile.specs.Scope.{found, same_types};
 
-use nq_model::{ColumnType, Label};
+use nq_model::{ColumnType, Label, List, Memory};
+use std::alloc::Global;
+use std::collections::HashMap;
+use std::marker::Model;
 
-// The type of the first column of this name.
-pub(crate) fn found(columns: &[(Label, ColumnType)], name: &Label) -> Option<ColumnType>
-    ensures { result ≡ found name.now columns.now }
-{
-    for column in columns {
-        if name.as_str() == column.0.as_str() {
-            return Some(column.1);
-        }
-    }
-    None
+// A list of values under names, which contracts see as the list of its pairs.
+#[derive(Drop)]
+pub(crate) struct Names<'a, V> {
+    listed: List<(&'a Label, V)>,
+    // The place of the first under each name.
+    firsts: HashMap<&'a str, usize>,
 }
 
-// Whether one of the columns has this name.
-pub(crate) fn among(columns: &[(Label, ColumnType)], name: &Label) -> bool
-    ensures { result ≡ among name.now (names_of columns.now) }
-{
-    for column in columns {
-        if name.as_str() == column.0.as_str() {
-            return true;
-        }
-    }
-    false
+// Columns, each with its type.
+pub(crate) type Columns<'a> = Names<'a, ColumnType>;
+
+impl<'a, V> Model for Names<'a, V> {
+    ghost use Rattle.std.specs.Prelude.{◌≡◌, ℕ, List};
+    ghost use Rattle.std.specs.HashMap.{get_by};
+    ghost use Rattle.std.specs.Str.{bytes_eq};
+    ghost use Rattle.sql_scope.specs.Names.{named, place_of};
+
+    ghost Value = { List (List ℕ × V) };
+
+    ghost view = { λ names. named names.listed };
+
+    ghost invariant = { λ names. (name : List ℕ) → get_by (λ k. bytes_eq name k.now) names.firsts ≡ place_of name (named names.listed) };
 }
 
-// Whether there are as many columns of the same types in order.
-pub(crate) fn same_types(some: &[(Label, ColumnType)], others: &[(Label, ColumnType)]) -> bool
-    ensures { result ≡ same_types (types_of some.now) (types_of others.now) }
+impl<'a, V: Drop> Names<'a, V> {
+    // No names, with room for so many.
+    pub(crate) fn with_capacity(alloc: Global, names: usize) -> Result<Names<'a, V>, Memory>
+        ensures { IfOk result (λ made. made ≡ []) }
+    {
+        Ok(Names {
+            listed: List::with_capacity(alloc, names)?,
+            firsts: HashMap::with_capacity(alloc, names)?,
+        })
+    }
+
+    // These and one more behind them.
+    pub(crate) fn with(self, name: &'a Label, value: V) -> Result<Names<'a, V>, Memory>
+        ensures { IfOk result (λ longer. longer ≡ self.entry ++ (name.now, value) ∷ []) }
+    {
+        let Names {
+            mut listed,
+            mut firsts,
+        } = self;
+        if !firsts.contains_key(name.as_str()) {
+            firsts.insert(name.as_str(), listed.len())?;
+        }
+        listed.push((name, value))?;
+        Ok(Names { listed, firsts })
+    }
+}
+
+impl<'a, V> Names<'a, V> {
+    // What stands first under a name.
+    pub(crate) fn get(&self, name: &Label) -> Option<&V>
+        ensures { option_copied result ≡ found name.now self.now }
+    {
+        match self.firsts.get(name.as_str()) {
+            Some(place) => Some(&self.listed.as_slice()[*place].1),
+            None => None,
+        }
+    }
+}
+
+impl<'a> Names<'a, ColumnType> {
+    // The types of the columns.
+    pub(crate) fn types(&self, alloc: Global) -> Result<List<ColumnType>, Memory>
+        ensures { IfOk result (λ types. types ≡ types_of self.now) }
+    {
+        let columns = self.listed.as_slice();
+        let mut types = List::with_capacity(alloc, columns.len())?;
+        for column in columns {
+            types.push(column.1)?;
+        }
+        Ok(types)
+    }
+
+    // Whether there are as many columns of the same types in order.
+    pub(crate) fn same_types(&self, others: &Names<'_, ColumnType>) -> bool
+        ensures { result ≡ same_types (types_of self.now) (types_of others.now) }
+    {
+        same_types(self.listed.as_slice(), others.listed.as_slice())
+    }
+}
+
+fn same_types(some: &[(&Label, ColumnType)], others: &[(&Label, ColumnType)]) -> bool
+    ensures { result ≡ same_types (map (λ c. c.1) some.now) (map (λ c. c.1) others.now) }
 {
     for place in 0..some.len().min(others.len()) {
         if some[place].1 != others[place].1 {

@@ -8,11 +8,10 @@ ghost use Rattle.sql_scope.specs.Steps.{Gives, aliases_in};
 use crate::aliases::Scope;
 use crate::base::{binary_type, unary_type};
 use crate::fault::ScopeFault;
-use crate::names::found;
 use nq_model::{Binary, ColumnType, Label, Unary};
 
 pub(crate) fn column(
-    scope: &Scope<'_>,
+    scope: &Scope<'_, '_, '_>,
     place: u64,
     alias: &Label,
     name: &Label,
@@ -20,8 +19,8 @@ pub(crate) fn column(
     ensures { Gives result (column_type place (found alias.now (aliases_in scope.now)) name.now) }
 {
     match scope.find(alias) {
-        Some(columns) => match found(columns, name) {
-            Some(ty) => Ok(ty),
+        Some(columns) => match columns.get(name) {
+            Some(ty) => Ok(*ty),
             None => Err(ScopeFault::Broken { rule: 4, place }),
         },
         None => Err(ScopeFault::Broken { rule: 3, place }),

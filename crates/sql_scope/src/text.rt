@@ -1,24 +1,28 @@
 // Whole texts.
-ghost use Rattle.std.specs.Prelude.{◌≡◌, ℕ, IfErr, IfOk, IsErrAnd, MatchResult, OnOk, map};
+ghost use Rattle.std.specs.Prelude.{◌≡◌, ℕ, IfErr, IfOk, IsErrAnd, MatchResult, map};
 ghost use Rattle.nq_model.specs.Tables.{Columns, types_of};
 ghost use Rattle.sql_profile.specs.Scope.{Broken, Fine, IsWellScoped, judge, judge_withs, shapes_of_schema};
 ghost use Rattle.sql_profile.specs.Trees.{placed, placed_with, sql_tree};
 ghost use Rattle.sql_scope.specs.Answers.{HasCause, IsBroken};
-ghost use Rattle.sql_scope.specs.Steps.{Faults, Gives, shapes_in};
+ghost use Rattle.sql_scope.specs.Steps.{Faults, Gives};
 ghost use Rattle.sql_scope.specs.declared.fault.ScopeFault.TheVariants.{Memory as want};
 
-use crate::aliases::Scope;
 use crate::fault::ScopeFault;
+use crate::names::Columns;
 use crate::tables::Tables;
-use crate::walk::judge_query;
-use nq_model::{ColumnType, Label, List, Memory, Schema};
+use crate::walk::judge_whole;
+use nq_model::{ColumnType, List, Schema};
 use sql_profile::{SqlText, With};
 use std::alloc::Global;
 
-// The WITH queries in order, each under a new name, with the earlier ones.
-fn judge_withs(alloc: Global, tables: &mut Tables<'_>, withs: &[With]) -> Result<(), ScopeFault>
-    ensures ok { OnOk result (judge_withs (shapes_in tables.old) (map placed_with withs.now) ≡ Fine (shapes_in tables.new)) }
-    ensures err { IfErr result (Faults (judge_withs (shapes_in tables.old) (map placed_with withs.now))) }
+// The tables and the WITH queries, judged in order, each under a new name and with the earlier ones.
+fn judge_withs<'a>(
+    alloc: Global,
+    mut tables: Tables<'a>,
+    withs: &'a [With],
+) -> Result<Tables<'a>, ScopeFault>
+    ensures ok { IfOk result (λ all. judge_withs tables.entry (map placed_with withs.now) ≡ Fine all) }
+    ensures err { IfErr result (Faults (judge_withs tables.entry (map placed_with withs.now))) }
 {
     for with in withs {
         if tables.find(&with.name).is_some() {
@@ -27,34 +31,23 @@ fn judge_withs(alloc: Global, tables: &mut Tables<'_>, withs: &[With]) -> Result
                 place: with.place,
             });
         }
-        let columns = judge_query(alloc, tables, &Scope::Outermost, &with.query)?;
-        tables.push(with.name.copy(alloc)?, columns)?;
+        let columns = judge_whole(alloc, &tables, &with.query)?;
+        tables = tables.with(&with.name, columns)?;
     }
-    Ok(())
+    Ok(tables)
 }
 
 // The columns of a text.
-fn judge(
+fn judge<'a>(
     alloc: Global,
-    schema: &Schema,
-    text: &SqlText,
-) -> Result<List<(Label, ColumnType)>, ScopeFault>
+    schema: &'a Schema,
+    text: &'a SqlText,
+) -> Result<Columns<'a>, ScopeFault>
     ensures { Gives result (judge (shapes_of_schema schema.now.tables) (placed text.now)) }
 {
-    let mut tables = Tables::new(alloc, schema.tables.as_slice());
-    judge_withs(alloc, &mut tables, text.withs.as_slice())?;
-    judge_query(alloc, &tables, &Scope::Outermost, &text.main)
-}
-
-// The types of columns.
-fn types_of(alloc: Global, columns: &[(Label, ColumnType)]) -> Result<List<ColumnType>, Memory>
-    ensures { IfOk result (λ types. types ≡ types_of columns.now) }
-{
-    let mut types = List::with_capacity(alloc, columns.len())?;
-    for column in columns {
-        types.push(column.1)?;
-    }
-    Ok(types)
+    let tables = Tables::new(alloc, schema.tables.as_slice(), text.withs.len())?;
+    let tables = judge_withs(alloc, tables, text.withs.as_slice())?;
+    judge_whole(alloc, &tables, &text.main)
 }
 
 /// The types of the columns of a tree that is well scoped over the tables of a schema; or the first broken rule
@@ -71,5 +64,5 @@ pub fn scope(alloc: Global, schema: &Schema, text: &SqlText) -> Result<List<Colu
         → IsErrAnd result (IsBroken rule place) }
 {
     let columns = judge(alloc, schema, text)?;
-    Ok(types_of(alloc, columns.as_slice())?)
+    Ok(columns.types(alloc)?)
 }

@@ -2,26 +2,37 @@
 ghost use Rattle.std.specs.Prelude.{◌≡◌, [], IfErr, IfOk};
 ghost use Rattle.sql_profile.specs.Scope.{Fine, judge_expr, judge_items, judge_keep, judge_keys, judge_query, judge_select, judge_sources, judge_value};
 ghost use Rattle.sql_profile.specs.Trees.{placed_expr, placed_query, placed_select, placed_value};
-ghost use Rattle.sql_scope.specs.Steps.{Faults, Gives, aliases_in, alike, bounds, judge_columns, judge_parts, judge_source, placed_items, placed_keep, placed_keys, shapes_in};
+ghost use Rattle.sql_scope.specs.Steps.{Faults, Gives, aliases_in, alike, bounds, judge_columns, judge_parts, judge_source, placed_items, placed_keep, placed_keys};
 
-use crate::aliases::{Bound, Scope, bound_named};
+use crate::aliases::{Scope, Sources};
 use crate::fault::ScopeFault;
-use crate::names::{among, same_types};
+use crate::names::{Columns, Names};
 use crate::rules;
 use crate::tables::Tables;
-use nq_model::{ColumnType, Label, List};
+use nq_model::ColumnType;
 use sql_profile::{Expr, ExprNode, Item, ItemValue, Query, Select, Source};
 use std::alloc::Global;
 
+// The columns of a whole query, where no alias is seen.
+pub(crate) fn judge_whole<'a>(
+    alloc: Global,
+    tables: &Tables<'a>,
+    query: &'a Query,
+) -> Result<Columns<'a>, ScopeFault>
+    ensures { Gives result (judge_query tables.now [] (placed_query query.now)) }
+{
+    judge_query(alloc, tables, &Scope::Outermost, query)
+}
+
 // The type of an expression.
 #[cycle(judge)]
-fn judge_expr(
+fn judge_expr<'t, 'a>(
     alloc: Global,
-    tables: &Tables<'_>,
-    scope: &Scope<'_>,
-    expr: &Expr,
+    tables: &'t Tables<'a>,
+    scope: &Scope<'_, 't, 'a>,
+    expr: &'a Expr,
 ) -> Result<ColumnType, ScopeFault>
-    ensures { Gives result (judge_expr (shapes_in tables.now) (aliases_in scope.now) (placed_expr expr.now)) }
+    ensures { Gives result (judge_expr tables.now (aliases_in scope.now) (placed_expr expr.now)) }
 {
     let place = expr.place;
     match &expr.node {
@@ -53,15 +64,15 @@ fn judge_expr(
 
 // The columns of a query: those of its first SELECT, as which each further one has to be typed.
 #[cycle(judge)]
-pub(crate) fn judge_query(
+pub(crate) fn judge_query<'t, 'a>(
     alloc: Global,
-    tables: &Tables<'_>,
-    scope: &Scope<'_>,
-    query: &Query,
-) -> Result<List<(Label, ColumnType)>, ScopeFault>
-    ensures { Gives result (judge_query (shapes_in tables.now) (aliases_in scope.now) (placed_query query.now)) }
+    tables: &'t Tables<'a>,
+    scope: &Scope<'_, 't, 'a>,
+    query: &'a Query,
+) -> Result<Columns<'a>, ScopeFault>
+    ensures { Gives result (judge_query tables.now (aliases_in scope.now) (placed_query query.now)) }
 {
-    let mut first: Option<List<(Label, ColumnType)>> = None;
+    let mut first: Option<Columns<'a>> = None;
     for select in query.selects.as_slice() {
         let columns = judge_select(alloc, tables, scope, select)?;
         first = Some(alike(first, columns, select.place)?);
@@ -74,28 +85,28 @@ pub(crate) fn judge_query(
 
 // The columns of a SELECT.
 #[cycle(judge)]
-fn judge_select(
+fn judge_select<'t, 'a>(
     alloc: Global,
-    tables: &Tables<'_>,
-    scope: &Scope<'_>,
-    select: &Select,
-) -> Result<List<(Label, ColumnType)>, ScopeFault>
-    ensures { Gives result (judge_select (shapes_in tables.now) (aliases_in scope.now) (placed_select select.now)) }
+    tables: &'t Tables<'a>,
+    scope: &Scope<'_, 't, 'a>,
+    select: &'a Select,
+) -> Result<Columns<'a>, ScopeFault>
+    ensures { Gives result (judge_select tables.now (aliases_in scope.now) (placed_select select.now)) }
 {
-    let own = judge_sources(alloc, &*tables, select.from.as_slice())?;
-    let inner = Scope::Inner(own.as_slice(), &*scope);
+    let own = judge_sources(alloc, tables, select.from.as_slice())?;
+    let inner = Scope::Inner(&own, &*scope);
     judge_parts(alloc, tables, &inner, select)
 }
 
 // The columns of a SELECT where the aliases of its FROM are seen: its condition, and then its items.
 #[cycle(judge)]
-fn judge_parts(
+fn judge_parts<'t, 'a>(
     alloc: Global,
-    tables: &Tables<'_>,
-    scope: &Scope<'_>,
-    select: &Select,
-) -> Result<List<(Label, ColumnType)>, ScopeFault>
-    ensures { Gives result (judge_parts (shapes_in tables.now) (aliases_in scope.now) (placed_select select.now)) }
+    tables: &'t Tables<'a>,
+    scope: &Scope<'_, 't, 'a>,
+    select: &'a Select,
+) -> Result<Columns<'a>, ScopeFault>
+    ensures { Gives result (judge_parts tables.now (aliases_in scope.now) (placed_select select.now)) }
 {
     judge_keep(alloc, tables, scope, &select.keep)?;
     judge_columns(alloc, tables, scope, select)
@@ -103,26 +114,26 @@ fn judge_parts(
 
 // The columns that the items of a SELECT make.
 #[cycle(judge)]
-fn judge_columns(
+fn judge_columns<'t, 'a>(
     alloc: Global,
-    tables: &Tables<'_>,
-    scope: &Scope<'_>,
-    select: &Select,
-) -> Result<List<(Label, ColumnType)>, ScopeFault>
-    ensures { Gives result (judge_columns (shapes_in tables.now) (aliases_in scope.now) (placed_select select.now)) }
+    tables: &'t Tables<'a>,
+    scope: &Scope<'_, 't, 'a>,
+    select: &'a Select,
+) -> Result<Columns<'a>, ScopeFault>
+    ensures { Gives result (judge_columns tables.now (aliases_in scope.now) (placed_select select.now)) }
 {
     judge_items(alloc, tables, scope, select.items.as_slice())
 }
 
 // The condition of a SELECT, if there is one, is a truth value.
 #[cycle(judge)]
-fn judge_keep(
+fn judge_keep<'t, 'a>(
     alloc: Global,
-    tables: &Tables<'_>,
-    scope: &Scope<'_>,
-    keep: &Option<Expr>,
+    tables: &'t Tables<'a>,
+    scope: &Scope<'_, 't, 'a>,
+    keep: &'a Option<Expr>,
 ) -> Result<ColumnType, ScopeFault>
-    ensures { Gives result (judge_keep (shapes_in tables.now) (aliases_in scope.now) (placed_keep keep.now)) }
+    ensures { Gives result (judge_keep tables.now (aliases_in scope.now) (placed_keep keep.now)) }
 {
     match keep {
         None => Ok(ColumnType::Bool),
@@ -135,36 +146,36 @@ fn judge_keep(
 
 // The columns that items make, whose names differ.
 #[cycle(judge)]
-fn judge_items(
+fn judge_items<'t, 'a>(
     alloc: Global,
-    tables: &Tables<'_>,
-    scope: &Scope<'_>,
-    items: &[Item],
-) -> Result<List<(Label, ColumnType)>, ScopeFault>
-    ensures { Gives result (judge_items (shapes_in tables.now) (aliases_in scope.now) [] (placed_items items.now)) }
+    tables: &'t Tables<'a>,
+    scope: &Scope<'_, 't, 'a>,
+    items: &'a [Item],
+) -> Result<Columns<'a>, ScopeFault>
+    ensures { Gives result (judge_items tables.now (aliases_in scope.now) [] (placed_items items.now)) }
 {
-    let mut columns = List::with_capacity(alloc, items.len())?;
+    let mut columns = Names::with_capacity(alloc, items.len())?;
     for item in items {
         let ty = judge_value(alloc, tables, scope, &item.value)?;
-        if among(columns.as_slice(), &item.name) {
+        if columns.get(&item.name).is_some() {
             return Err(ScopeFault::Broken {
                 rule: 7,
                 place: item.place,
             });
         }
-        columns.push((item.name.copy(alloc)?, ty))?;
+        columns = columns.with(&item.name, ty)?;
     }
     Ok(columns)
 }
 
 #[cycle(judge)]
-fn judge_value(
+fn judge_value<'t, 'a>(
     alloc: Global,
-    tables: &Tables<'_>,
-    scope: &Scope<'_>,
-    value: &ItemValue,
+    tables: &'t Tables<'a>,
+    scope: &Scope<'_, 't, 'a>,
+    value: &'a ItemValue,
 ) -> Result<ColumnType, ScopeFault>
-    ensures { Gives result (judge_value (shapes_in tables.now) (aliases_in scope.now) (placed_value value.now)) }
+    ensures { Gives result (judge_value tables.now (aliases_in scope.now) (placed_value value.now)) }
 {
     match value {
         ItemValue::Plain(expr) => judge_expr(alloc, tables, scope, expr),
@@ -174,13 +185,13 @@ fn judge_value(
 
 // Order keys may have any type.
 #[cycle(judge)]
-fn judge_keys(
+fn judge_keys<'t, 'a>(
     alloc: Global,
-    tables: &Tables<'_>,
-    scope: &Scope<'_>,
-    keys: &[Expr],
+    tables: &'t Tables<'a>,
+    scope: &Scope<'_, 't, 'a>,
+    keys: &'a [Expr],
 ) -> Result<ColumnType, ScopeFault>
-    ensures { Gives result (judge_keys (shapes_in tables.now) (aliases_in scope.now) (placed_keys keys.now)) }
+    ensures { Gives result (judge_keys tables.now (aliases_in scope.now) (placed_keys keys.now)) }
 {
     for key in keys {
         judge_expr(alloc, tables, scope, key)?;
@@ -189,56 +200,53 @@ fn judge_keys(
 }
 
 // The aliases of a FROM, each with the columns of its source.
-fn judge_sources<'a>(
+fn judge_sources<'t, 'a>(
     alloc: Global,
-    tables: &'a Tables<'_>,
+    tables: &'t Tables<'a>,
     sources: &'a [Source],
-) -> Result<List<Bound<'a>>, ScopeFault>
-    ensures ok { IfOk result (λ own. judge_sources (shapes_in tables.now) [] sources.now ≡ Fine (bounds own)) }
-    ensures err { IfErr result (Faults (judge_sources (shapes_in tables.now) [] sources.now)) }
+) -> Result<Sources<'t, 'a>, ScopeFault>
+    ensures ok { IfOk result (λ own. judge_sources tables.now [] sources.now ≡ Fine (bounds own)) }
+    ensures err { IfErr result (Faults (judge_sources tables.now [] sources.now)) }
 {
-    let mut own = List::with_capacity(alloc, sources.len())?;
+    let mut own = Names::with_capacity(alloc, sources.len())?;
     for source in sources {
-        let bound = judge_source(tables, own.as_slice(), source)?;
-        own.push(bound)?;
+        let columns = judge_source(tables, &own, source)?;
+        own = own.with(&source.alias, columns)?;
     }
     Ok(own)
 }
 
-// A source names a table or a WITH query, and its alias is none of the earlier ones.
-fn judge_source<'a>(
-    tables: &'a Tables<'_>,
-    earlier: &[Bound<'a>],
-    source: &'a Source,
-) -> Result<Bound<'a>, ScopeFault>
-    ensures ok { IfOk result (λ bound. judge_source (shapes_in tables.now) (bounds earlier.now) source.now ≡ Fine (bound.alias.now, bound.columns.now)) }
-    ensures err { IfErr result (Faults (judge_source (shapes_in tables.now) (bounds earlier.now) source.now)) }
+// The columns of a source, which names a table or a WITH query, and whose alias is none of the earlier ones.
+fn judge_source<'t, 'a>(
+    tables: &'t Tables<'a>,
+    earlier: &Sources<'_, '_>,
+    source: &Source,
+) -> Result<&'t Columns<'a>, ScopeFault>
+    ensures ok { IfOk result (λ columns. judge_source tables.now (bounds earlier.now) source.now ≡ Fine (source.now.alias, columns.now)) }
+    ensures err { IfErr result (Faults (judge_source tables.now (bounds earlier.now) source.now)) }
 {
     let place = source.place;
     let Some(columns) = tables.find(&source.table) else {
         return Err(ScopeFault::Broken { rule: 1, place });
     };
-    if bound_named(earlier, &source.alias).is_some() {
+    if earlier.get(&source.alias).is_some() {
         return Err(ScopeFault::Broken { rule: 2, place });
     }
-    Ok(Bound {
-        alias: &source.alias,
-        columns,
-    })
+    Ok(columns)
 }
 
 // The columns of the first SELECT, as which this one has to be typed.
-fn alike(
-    first: Option<List<(Label, ColumnType)>>,
-    columns: List<(Label, ColumnType)>,
+fn alike<'a>(
+    first: Option<Columns<'a>>,
+    columns: Columns<'a>,
     place: u64,
-) -> Result<List<(Label, ColumnType)>, ScopeFault>
-    ensures { Gives result (alike first columns place) }
+) -> Result<Columns<'a>, ScopeFault>
+    ensures { Gives result (alike first.entry columns.entry place) }
 {
     match first {
         None => Ok(columns),
         Some(first) => {
-            if same_types(columns.as_slice(), first.as_slice()) {
+            if columns.same_types(&first) {
                 Ok(first)
             } else {
                 Err(ScopeFault::Broken { rule: 8, place })

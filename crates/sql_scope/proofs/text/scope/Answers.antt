@@ -12,10 +12,10 @@ returns-in_err-columns-clause-scoped c =
 
 pub returns-clause-ok : goal.returns-clause-ok
 returns-clause-ok c =
-    let types : c.in_ok-types_of.field-0 ≡ types_of c.in_ok-columns.columns = search rules in
+    let types : c.in_ok-types.field-0 ≡ types_of c.in_ok-columns.columns = search rules in
     (c.in_ok-columns.columns, tree_judged (shapes_of_schema c.args.schema.now.tables) (placed c.args.text.now) c.in_ok-columns.columns c.in_ok-columns.ensures, types)
 
 pub returns-clause-scoped : goal.returns-clause-scoped
 returns-clause-scoped c =
-    let types : c.in_ok-types_of.field-0 ≡ types_of c.in_ok-columns.columns = search rules in
-    types_scoped (shapes_of_schema c.args.schema.now.tables) (placed c.args.text.now) c.in_ok-types_of.field-0 c.in_ok-columns.columns c.in_ok-columns.ensures types
+    let types : c.in_ok-types.field-0 ≡ types_of c.in_ok-columns.columns = search rules in
+    types_scoped (shapes_of_schema c.args.schema.now.tables) (placed c.args.text.now) c.in_ok-types.field-0 c.in_ok-columns.columns c.in_ok-columns.ensures types
