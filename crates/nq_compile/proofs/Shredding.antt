@@ -11,7 +11,7 @@ use Rattle.nq_model.specs.declared.table.Cell.{Cell}
 use Rattle.nq_model.specs.declared.table.Schema.{Schema}
 use Rattle.nq_ir.specs.Among.{Among, first, later}
 use Rattle.nq_ir.specs.Lets.{FlatRow, FormGives, IsLetFormOf, insert_lets}
-use Rattle.nq_ir.specs.Meanings.{EachBoth, rows_in, form_meaning}
+use Rattle.nq_ir.specs.Meanings.{EachBoth, rows_in}
 use Rattle.nq_ir.specs.Parts.{element_types}
 use Rattle.nq_ir.specs.Paths.{paths, element_at}
 use Rattle.nq_ir.specs.Shredded.{ShreddedTree, IsShreddedOf, shredded}
