@@ -15,13 +15,14 @@ use Rattle.nq_ir.specs.WellFormed.{IsWellFormed}
 use Rattle.nq_ir.specs.declared.path.Step.{Step}
 use Rattle.nq_ir.specs.declared.shredded.Shredded.{Shredded}
 use Rattle.shred_types.specs.Columns.{columns_at, answer_columns}
+use Rattle.nq_compile.specs.Reading.{TagAndNumberRead}
 use Rattle.nq_compile.specs.Shreds.{Shreds, form_means}
 use Rattle.sql_profile.specs.Printed.{printed}
 use Rattle.sql_profile.specs.Texts.{Spells}
 use Rattle.sql_profile.specs.Tokens.{First}
 use Rattle.sql_profile.specs.Trees.{PlacedSql, SqlTree, bare}
 use Rattle.nq_compile.specs.Texts.{tree_of, text_of, texts_of, SpellsItself}
-use Rattle.nq_compile.proofs.Shredding.{texts_shred}
+use Rattle.nq_compile.proofs.Shredding.{texts_read, texts_shred}
 
 -- forms whose trees are these
 abbrev AreAt : FormTree → List (List Step) → List Shredded → Type 0
@@ -69,11 +70,19 @@ spell_mapped : (schema : Schema) (forms : List Shredded) → Each (λ f. SpellsI
 spell_mapped schema [] h = tt
 spell_mapped schema (f ∷ forms) h = (h.0, spell_mapped schema forms h.1)
 
+spell_at : (schema : Schema) (form : FormTree) (forms : List Shredded) → AreAt form (paths (bag form.element)) forms → All (λ f. SpellsItself schema (shredded_tree f)) forms →
+    Each (SpellsItself schema) (map (shredded form) (paths (bag form.element)))
+spell_at schema form forms e spell =
+    let P : List ShreddedTree → Type 0 = λ l. Each (SpellsItself schema) l in
+    subst P e (spell_mapped schema forms (recursion_from_All (λ f. SpellsItself schema (shredded_tree f)) forms spell))
+
+pub forms_read : (schema : Schema) (form : FormTree) → IsProperSchema schema → IsWellFormed schema.tables form → (forms : List Shredded) → AreAt form (paths (bag form.element)) forms →
+    All (λ f. SpellsItself schema (shredded_tree f)) forms → TagAndNumberRead schema form (texts_of schema form)
+forms_read schema form proper well forms e spell = texts_read schema proper form well (spell_at schema form forms e spell)
+
 pub forms_shred : (schema : Schema) (form : FormTree) → IsProperSchema schema → IsWellFormed schema.tables form → (forms : List Shredded) → AreAt form (paths (bag form.element)) forms →
     All (λ f. SpellsItself schema (shredded_tree f)) forms → Shreds schema form.element (texts_of schema form) (form_means form)
-forms_shred schema form proper well forms e spell =
-    let P : List ShreddedTree → Type 0 = λ l. Each (SpellsItself schema) l in
-    texts_shred schema proper form well (subst P e (spell_mapped schema forms (recursion_from_All (λ f. SpellsItself schema (shredded_tree f)) forms spell)))
+forms_shred schema form proper well forms e spell = texts_shred schema proper form well (spell_at schema form forms e spell)
 
 -- printed bytes of a form's tree that spell the tree they are printed from
 pub spells_itself : (schema : Schema) (s : ShreddedTree) (tree : SqlTree) (bytes : List ℕ) → tree ≡ tree_of schema s → bytes ≡ printed tree →

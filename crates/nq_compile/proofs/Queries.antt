@@ -1,5 +1,5 @@
 -- From a query to the texts of the normal form of the plain term to which it unfolds.
-use Rattle.std.proofs.Common.{◌≡◌, ℕ, List, [], refl, sym, ap, ◌∙◌, subst}
+use Rattle.std.proofs.Common.{◌≡◌, ℕ, List, [], refl, sym, ap₂, ◌∙◌, subst}
 use Rattle.nq_model.specs.Databases.{FilledTable, database}
 use Rattle.nq_model.specs.Meaning.{meaning}
 use Rattle.nq_model.specs.QueryMeaning.{Means}
@@ -20,7 +20,6 @@ use Rattle.nq_ir.specs.NormalForms.{normal_form}
 use Rattle.nq_ir.specs.Trees.{FormTree}
 use Rattle.unfold.specs.Unfolded.{IsUnfolding}
 use Rattle.nq_compile.specs.Shreds.{Shreds, form_means}
-use Rattle.nq_compile.specs.Texts.{texts_of}
 use Rattle.nq_compile.proofs.Shredding.{shreds_same}
 
 -- the form means what the plain term means
@@ -52,9 +51,13 @@ module _ (schema : Schema) (query plain : PlacedTerm) (form : FormTree) (reached
           let P : Nested → Type 0 = λ x. Same x (form_meaning (rows_in d) form) in
           (form_meaning (rows_in d) form, refl, same_sym v (form_meaning (rows_in d) form) (subst P (sym one) (means tables stored)))
 
-  -- the texts are those of the normal form of the plain term
-  pub query_texts : (texts : List (List ℕ)) → form ≡ normal_form schema.tables form.element (bare plain) → texts ≡ texts_of schema form →
-      (element : TypeTree) (other : PlacedTerm) → IsAccepted schema (bare query) (bag element) → Unfolds query other → texts ≡ texts_of schema (normal_form schema.tables element (bare other))
-  query_texts texts is of element other accepted unfolds =
-      let once : plain ≡ other = reached_once reached.unfolds unfolds in
-      of ∙ ap (texts_of schema) (is ∙ ap (λ a. normal_form schema.tables a (bare plain)) (same_element element accepted) ∙ ap (λ t. normal_form schema.tables element (bare t)) once)
+  -- the form is the normal form of the plain term to which the query unfolds
+  same_form : form ≡ normal_form schema.tables form.element (bare plain) → (element : TypeTree) (other : PlacedTerm) → IsAccepted schema (bare query) (bag element) → Unfolds query other →
+      form ≡ normal_form schema.tables element (bare other)
+  same_form is element other accepted unfolds =
+      is ∙ ap₂ (λ a t. normal_form schema.tables a (bare t)) (same_element element accepted) (reached_once reached.unfolds unfolds)
+
+  -- what holds of the form holds of that normal form
+  pub query_form : (P : FormTree → Type 0) → P form → form ≡ normal_form schema.tables form.element (bare plain) →
+      (element : TypeTree) (other : PlacedTerm) → IsAccepted schema (bare query) (bag element) → Unfolds query other → P (normal_form schema.tables element (bare other))
+  query_form P holds is element other accepted unfolds = subst P (same_form is element other accepted unfolds) holds

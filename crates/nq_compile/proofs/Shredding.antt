@@ -11,7 +11,7 @@ use Rattle.nq_model.specs.declared.table.Cell.{Cell}
 use Rattle.nq_model.specs.declared.table.Schema.{Schema}
 use Rattle.nq_ir.specs.Among.{Among, first, later}
 use Rattle.nq_ir.specs.Lets.{FlatRow, FormGives, IsLetFormOf, insert_lets}
-use Rattle.nq_ir.specs.Meanings.{EachBoth, rows_in, form_meaning}
+use Rattle.nq_ir.specs.Meanings.{EachBoth, rows_in}
 use Rattle.nq_ir.specs.Parts.{element_types}
 use Rattle.nq_ir.specs.Paths.{paths, element_at}
 use Rattle.nq_ir.specs.Shredded.{ShreddedTree, IsShreddedOf, shredded}
@@ -34,8 +34,9 @@ use Rattle.flatten.proofs.Allowed.{allowed_rows}
 use Rattle.flatten.proofs.Spellable.{tree_spellable}
 use Rattle.flatten.proofs.ScopeTree.{tree_scoped, types_named}
 use Rattle.stitcher.specs.FlatNumbers.{flat_numbers, AreLaidOut}
-use Rattle.stitcher.specs.Schemes.{AnswerRows, stitched}
+use Rattle.stitcher.specs.Schemes.{AnswerRows, Reads, stitched}
 use Rattle.stitcher.proofs.Stitched.{read_is_mean, flat_reads}
+use Rattle.nq_compile.specs.Reading.{TagAndNumberRead}
 use Rattle.nq_compile.specs.Shreds.{IsScopedText, Shreds, form_means}
 use Rattle.nq_compile.specs.Texts.{tree_of, text_of, texts_of, SpellsItself}
 
@@ -126,23 +127,27 @@ module _ (schema : Schema) (proper_schema : IsProperSchema schema) (form : FormT
           laid = laid_more (element_at (bag form.element) p) (map (element_at (bag form.element)) ps) here.0 rest.rows answer answers here.2 rest.laid;
         }
 
-    answers_mean : (answers : List AnswerRows) → Spell (paths (bag form.element)) → Allow (texts_of schema form) answers →
-        Same (stitched (flat_numbers (element_types (bag form.element))) form.element answers) (form_meaning (rows_in (database schema.tables tables)) form)
-    answers_mean answers spell allows =
+    answers_read : (answers : List AnswerRows) → Spell (paths (bag form.element)) → Allow (texts_of schema form) answers →
+        Reads (flat_numbers (element_types (bag form.element))) answers form (rows_in (database schema.tables tables))
+    answers_read answers spell allows =
         let all = texts_give (paths (bag form.element)) answers (λ path among. among) spell allows in
         let elements = elements_are form.element (proper form.element well.labels_rise) in
         let P : List TypeTree → Type 0 = λ types. AreLaidOut types all.rows answers in
         let laid : AreLaidOut (element_types (bag form.element)) all.rows answers = subst P elements all.laid in
-        read_is_mean (flat_numbers (element_types (bag form.element))) schema form (rows_in (database schema.tables tables)) answers well
-        (flat_reads schema form tables all.rows answers proper_schema well stored all.give laid)
+        flat_reads schema form tables all.rows answers proper_schema well stored all.give laid
+
+  -- tag and number read the answers to the texts
+  pub texts_read : Spell (paths (bag form.element)) → TagAndNumberRead schema form (texts_of schema form)
+  texts_read spell tables stored answers allows = answers_read tables stored answers spell allows
 
   -- the texts shred the form
   pub texts_shred : Spell (paths (bag form.element)) → Shreds schema form.element (texts_of schema form) (form_means form)
   texts_shred spell = record {
     scoped = texts_scoped (paths (bag form.element)) (λ path among. among) spell;
     stitched = λ tables stored answers allows v means.
-        let P : Nested → Type 0 = λ w. Same (stitched (flat_numbers (element_types (bag form.element))) form.element answers) w in
-        subst P (sym means) (answers_mean tables stored answers spell allows);
+        let scheme = flat_numbers (element_types (bag form.element)) in
+        let P : Nested → Type 0 = λ w. Same (stitched scheme form.element answers) w in
+        subst P (sym means) (read_is_mean scheme schema form (rows_in (database schema.tables tables)) answers well (answers_read tables stored answers spell allows));
   }
 
 -- texts that shred what means the same shred this too

@@ -1,2 +1,3 @@
 pub mod Shreds
+pub mod Reading
 pub mod Texts

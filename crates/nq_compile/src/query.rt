@@ -11,6 +11,7 @@ ghost use Rattle.nq_ir.specs.NormalForms.{normal_form};
 ghost use Rattle.nq_ir.specs.Paths.{paths};
 ghost use Rattle.shred_types.specs.Columns.{columns_at};
 ghost use Rattle.shred_types.specs.Under.{steps_of};
+ghost use Rattle.nq_compile.specs.Reading.{TagAndNumberRead};
 ghost use Rattle.nq_compile.specs.Shreds.{Shreds};
 ghost use Rattle.nq_compile.specs.Texts.{texts_of};
 
@@ -35,6 +36,8 @@ pub fn compile(alloc: Global, schema: &Schema, term: Term) -> Result<Compiled, M
     ensures columns { IfOk result (λ compiled. compiled.columns ≡ map (columns_at (type_tree compiled.result)) (paths (type_tree compiled.result))) }
     ensures texts { IfOk result (λ compiled. (element : TypeTree) (plain : PlacedTerm) → IsAccepted schema.now (term_tree term) (bag element)
         → Unfolds (placed term) plain → compiled.texts ≡ texts_of schema.now (normal_form schema.now.tables element (bare plain))) }
+    ensures read { IfOk result (λ compiled. (element : TypeTree) (plain : PlacedTerm) → IsAccepted schema.now (term_tree term) (bag element)
+        → Unfolds (placed term) plain → TagAndNumberRead schema.now (normal_form schema.now.tables element (bare plain)) compiled.texts) }
     ensures shreds { IfOk result (λ compiled. (element : TypeTree) → IsAccepted schema.now (term_tree term) (bag element)
         → Shreds schema.now element compiled.texts (λ tables value. Means tables (placed term) value)) }
 {

@@ -7,9 +7,10 @@ use Rattle.nq_model.specs.Typing.{IsAccepted}
 use Rattle.nq_model.specs.Unfolding.{Unfolds}
 use Rattle.nq_ir.specs.NormalForms.{normal_form}
 use Rattle.nq_ir.specs.Trees.{FormTree, form_tree}
+use Rattle.nq_compile.specs.Reading.{TagAndNumberRead}
 use Rattle.nq_compile.specs.Shreds.{Shreds, form_means}
 use Rattle.nq_compile.specs.Texts.{texts_of}
-use Rattle.nq_compile.proofs.Queries.{same_type, query_shreds, query_texts}
+use Rattle.nq_compile.proofs.Queries.{same_type, query_shreds, query_form}
 use Rattle.nq_compile.proofs.query.compile.Goals as goal
 
 pub returns-clause-result : goal.returns-clause-result
@@ -28,9 +29,20 @@ returns-clause-texts c =
     IfOk-weaker c.compile_normal.result (λ compiled. compiled.texts ≡ texts_of schema form)
     (λ compiled. (element : TypeTree) (plain : PlacedTerm) → IsAccepted schema (term_tree c.args.term) (bag element) → Unfolds (placed c.args.term) plain →
     compiled.texts ≡ texts_of schema (normal_form schema.tables element (bare plain)))
-    (λ compiled of element plain accepted unfolds. query_texts schema (placed c.args.term) (placed c.in_ok-plain.plain) form c.in_ok-plain.ensures.reached c.in_ok-normal.ensures.of_type
-    compiled.texts c.in_ok-normal.ensures.form of element plain accepted unfolds)
+    (λ compiled of. let P : FormTree → Type 0 = λ f. compiled.texts ≡ texts_of schema f in
+    query_form schema (placed c.args.term) (placed c.in_ok-plain.plain) form c.in_ok-plain.ensures.reached c.in_ok-normal.ensures.of_type P of c.in_ok-normal.ensures.form)
     c.compile_normal.ensures.texts
+
+pub returns-clause-read : goal.returns-clause-read
+returns-clause-read c =
+    let schema = c.args.schema.now in
+    let form : FormTree = form_tree c.in_ok-normal.normal in
+    IfOk-weaker c.compile_normal.result (λ compiled. TagAndNumberRead schema form compiled.texts)
+    (λ compiled. (element : TypeTree) (plain : PlacedTerm) → IsAccepted schema (term_tree c.args.term) (bag element) → Unfolds (placed c.args.term) plain →
+    TagAndNumberRead schema (normal_form schema.tables element (bare plain)) compiled.texts)
+    (λ compiled read. let P : FormTree → Type 0 = λ f. TagAndNumberRead schema f compiled.texts in
+    query_form schema (placed c.args.term) (placed c.in_ok-plain.plain) form c.in_ok-plain.ensures.reached c.in_ok-normal.ensures.of_type P read c.in_ok-normal.ensures.form)
+    c.compile_normal.ensures.read
 
 pub returns-clause-shreds : goal.returns-clause-shreds
 returns-clause-shreds c =
