@@ -12,7 +12,7 @@ use Rattle.nq_model.specs.declared.table.TableShape.{TableShape}
 use Rattle.nq_model.proofs.Canonical.{label_order}
 use Rattle.nq_model.proofs.Orders.{sorted_mapped}
 use Rattle.nq_model.proofs.StableSorts.{stable_sort}
-use Rattle.nq_ir.specs.RawForms.{RawBody, raw_field, raw_plain, raw_column, put_raw, columns_body, raw_field_among, raw_form, raw_fields}
+use Rattle.nq_ir.specs.RawForms.{RawBody, RawFields, no_raw_field, raw_field, raw_plain, raw_rec, raw_column, put_raw, columns_body, raw_field_among, raw_field_in, raw_form, raw_fields, up_body, up_fields}
 use Rattle.normalise.specs.Raw.{fields_of, fields_view, raw_body, raw_fields_of}
 use Rattle.normalise.specs.declared.raw.RawBody.{RawBody as CodeBody}
 
@@ -62,3 +62,19 @@ found l [] i x d h e b = absurd (omega (arith, h))
 found l (y ∷ fs) zero x d h e b =
     ap (λ t. Some (cond t (raw_body y.1) (raw_field_among l (raw_fields_of fs)))) (sym (ap (λ (z : Label × CodeBody). bytes_eq l z.0) e) ∙ b)
 found l (y ∷ fs) (suc i) x d h e b = found l fs i x d (omega (arith, h)) e b
+
+-- a field of a body under n more generators is the field under as many
+field_up : (n : ℕ) (l : Label) (fs : RawFields) → raw_field_among l (up_fields n 0 fs) ≡ up_body n 0 (raw_field_among l fs)
+field_up n l no_raw_field = refl
+field_up n l (raw_field k b fs) = go (bytes_eq l k) (field_up n l fs)
+  where
+    go : (t : Bool) → raw_field_among l (up_fields n 0 fs) ≡ up_body n 0 (raw_field_among l fs) → cond t (up_body n 0 b) (raw_field_among l (up_fields n 0 fs)) ≡ up_body n 0 (cond t b (raw_field_among l fs))
+    go true i = refl
+    go false i = i
+
+-- the field that stands at a place, under n more generators
+pub field_under : (n : ℕ) (l : Label) (fs : List (Label × CodeBody)) (i : ℕ) (x : Label × CodeBody) → i < length fs → x ≡ slice_index_or fs i x → Some (raw_field_among l (raw_fields_of fs)) ≡ option_map (λ f. raw_body f.1) (slice_get fs i) → up_body n 0 (raw_body x.1) ≡ raw_field_in l (up_body n 0 (raw_rec (raw_fields_of fs)))
+field_under n l fs i x below here found =
+    let p : Some (raw_field_among l (raw_fields_of fs)) ≡ Some (raw_body x.1) = found ∙ ap (option_map (λ f. raw_body f.1)) (got fs i x x below here) in
+    let q : raw_body x.1 ≡ raw_field_among l (raw_fields_of fs) = cc in
+    ap (up_body n 0) q ∙ sym (field_up n l (raw_fields_of fs))

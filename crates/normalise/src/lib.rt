@@ -7,6 +7,7 @@ mod comps;
 mod depth;
 mod fields;
 mod forms;
+mod lent;
 mod number_base;
 mod number_body;
 mod numbers;

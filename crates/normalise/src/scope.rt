@@ -1,9 +1,10 @@
 // The bodies of the variables around a term.
-ghost use Rattle.std.specs.Prelude.{◌≡◌, IfOk, get_or};
+ghost use Rattle.std.specs.Prelude.{◌≡◌, IfOk, IfSome, get_or};
 ghost use Rattle.nq_ir.specs.RawForms.{up_body, no_raw_body};
 ghost use Rattle.normalise.specs.Raw.{raw_body};
-ghost use Rattle.normalise.specs.Scopes.{bodies};
+ghost use Rattle.normalise.specs.Scopes.{bodies, lent_body};
 
+use crate::lent::Lent;
 use crate::raw::{RawBase, RawBody};
 use crate::raw_copy::plus;
 use nq_model::Memory;
@@ -46,6 +47,23 @@ impl<'a> Scope<'a> {
                 }
             }
             Scope::Under { count, outer } => outer.body_of(alloc, k, plus(more, *count)?),
+        }
+    }
+
+    /// The body of the variable `k`, under `more` generators, if there is one.
+    pub(crate) fn lent(&self, k: u64, more: u64) -> Result<Option<Lent<'a>>, Memory>
+        ensures { IfOk result (λ found. IfSome found (λ of. lent_body of ≡ up_body more 0 (get_or (bodies self.now) k no_raw_body))) }
+    {
+        match self {
+            Scope::Top => Ok(None),
+            Scope::Inner { body, outer } => {
+                if k == 0 {
+                    Ok(Some(Lent { body: *body, more }))
+                } else {
+                    outer.lent(k - 1, more)
+                }
+            }
+            Scope::Under { count, outer } => outer.lent(k, plus(more, *count)?),
         }
     }
 }

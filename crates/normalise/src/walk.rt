@@ -10,6 +10,7 @@ use crate::comps::{base_in, comps_in, put_inside};
 use crate::depth::shallow;
 use crate::fields::field_in;
 use crate::forms::{binary, emptiness, guard, single, text, unary, union, with_fields};
+use crate::lent::part_of;
 use crate::raw::{RawBase, RawBody, RawComp};
 use crate::scope::Scope;
 use crate::table::table_body;
@@ -43,10 +44,13 @@ fn body(alloc: Global, schema: &Schema, term: &Term, scope: &Scope) -> Result<Ra
             choice(alloc, &test, yes, no)
         }
         Node::Rec(fields) => with_fields(fields_of(alloc, schema, fields.as_slice(), scope)?),
-        Node::Field { of, label } => {
-            let of = body(alloc, schema, of, scope)?;
-            Ok(field_in(label, of))
-        }
+        Node::Field { of, label } => match part_of(term, scope)? {
+            Some(part) => part.copy(alloc),
+            None => {
+                let of = body(alloc, schema, of, scope)?;
+                Ok(field_in(label, of))
+            }
+        },
         Node::Empty(of) => emptiness(alloc, comps(alloc, schema, of, scope)?),
         Node::Single(of) => single(alloc, body(alloc, schema, of, scope)?),
         Node::Nil(_) => Ok(RawBody::Bag(List::new(alloc))),

@@ -48,3 +48,8 @@ body-returns-after-loop-comp t c =
     body_bag c.loop-comp.all
     ∙ ap raw_bag (e ∙ ap (λ (z : RawComps). each_comp z rest) (ap raw_comps c.as_slice-items.ensures ∙ c.in_ok-source-in-For.ensures ∙ ap (λ (u : Term). raw_comps_in (raw_form S (term_tree u) es)) c.deref-in-For.ensures))
     ∙ sym (ap (λ z. raw_form S z es) old)
+
+pub body-returns-in-Some : goal.body-returns-in-Some
+body-returns-in-Some t c =
+    let part_is = rw c.in-Some.is at c.in_ok-part-in-Field.ensures in
+    IfOk-weaker c.copy.result _ _ (λ b e. e ∙ part_is c.args.schema.now.tables) c.copy.ensures
