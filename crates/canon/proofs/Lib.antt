@@ -7,3 +7,4 @@ mod Sorted
 mod Typed
 mod FlatRows
 mod Places
+mod RowTexts

@@ -34,7 +34,7 @@ fn common_end(rows: &Rows, first: usize, count: usize, places: &[u32]) -> Option
 }
 
 // The places of columns between two places.
-fn columns_between(alloc: Global, first: usize, end: usize) -> Result<Vec<usize>, Memory>
+pub(crate) fn columns_between(alloc: Global, first: usize, end: usize) -> Result<Vec<usize>, Memory>
     ensures { IfOk result (λ columns. columns.items ≡ count_from first (end - first)) }
 {
     let mut columns = Vec::with_capacity(alloc, end.saturating_sub(first))?;
@@ -85,7 +85,7 @@ fn put_rows_in_order(
     Ok(sorted)
 }
 
-fn write_cell(text: &mut String, cell: &CellRef<'_>) -> Result<(), Memory>
+pub(crate) fn write_cell(text: &mut String, cell: &CellRef<'_>) -> Result<(), Memory>
     ensures { OnOk result (string_bytes text.new ≡ string_bytes text.old ++ cell_text (cell_seen cell.now)) }
 {
     match cell {

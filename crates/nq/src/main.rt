@@ -54,6 +54,8 @@ fn main(rt: HostRuntime) -> ExitCode {
 }
 
 #[cfg(test)]
+mod answer_tests;
+#[cfg(test)]
 mod example_tests;
 #[cfg(test)]
 mod nested_tests;

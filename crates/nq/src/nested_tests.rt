@@ -44,8 +44,8 @@ pub const WHOLE: Nested = Nested {
     out: "{(department = 'Product', employees = {(name = 'Alex', tasks = {'build'}), (name = 'Bert', tasks = {'build'})}), (department = 'Quality', employees = {}), (department = 'Research', employees = {}), (department = 'Sales', employees = {(name = 'Erik', tasks = {'call', 'enthuse'})})}\n",
 };
 
-// One department stands twice, so that numbers are tied.
-const TWICE: Nested = Nested {
+/// One department stands twice, so that numbers are tied.
+pub const TWICE: Nested = Nested {
     query: "for (d <- table departments) [(d = d.name, es = for (e <- table employees) where (e.dept == d.name) [e.name])]",
     departments: "name\nProduct\nProduct\n",
     employees: "dept,name,salary\nProduct,Alex,1\nProduct,Bert,2\n",
@@ -59,8 +59,14 @@ const TWICE_DEEP: Nested = Nested {
     ..TWICE
 };
 
-const NESTED: [Nested; 12] = [
+const NESTED: [Nested; 13] = [
     WHOLE,
+    Nested {
+        query: "table departments",
+        departments: "name\n",
+        out: "{}\n",
+        ..WHOLE
+    },
     Nested {
         query: "[: (a: int, b: [text])]",
         out: "{}\n",
@@ -128,6 +134,11 @@ where (e.dept == c.dept && (if c.client then hi else lo)(e.salary)) [e.name]
 
 /// The inputs of a query.
 pub fn inputs_of(alloc: Global, nested: &Nested) -> Result<HeldInputs, Fail> {
+    inputs_failing(alloc, nested, &[])
+}
+
+/// The inputs of a query, of which the fetches with these numbers fail.
+pub fn inputs_failing(alloc: Global, nested: &Nested, failing: &[u64]) -> Result<HeldInputs, Fail> {
     let mut files = List::new(alloc);
     files.push((Text::from_str(alloc, "org")?, padded(alloc, 0, ORG)?))?;
     let query = padded(alloc, 0, nested.query)?;
@@ -140,7 +151,8 @@ pub fn inputs_of(alloc: Global, nested: &Nested) -> Result<HeldInputs, Fail> {
     files.push((Text::from_str(alloc, "data/tasks.csv")?, tasks))?;
     let contacts = padded(alloc, 0, CONTACTS)?;
     files.push((Text::from_str(alloc, "data/contacts.csv")?, contacts))?;
-    Ok(HeldInputs::new(alloc, files, List::new(alloc))?)
+    let failing = List::from_slice(alloc, failing)?;
+    Ok(HeldInputs::new(alloc, files, failing)?)
 }
 
 // What is wanted of a run of it.

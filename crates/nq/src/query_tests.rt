@@ -34,15 +34,17 @@ for (d <- table departments)
 
 const HELP: &str = "nq answers typed queries over flat tables.
 
-nq run SCHEMA QUERY DIR     writes the value of the query over the tables of DIR
-nq check SCHEMA QUERY       writes ok where the query is accepted
-nq show types SCHEMA QUERY  writes the type of the query
-nq show paths SCHEMA QUERY  writes a line for each bag constructor of the type
-nq show sql SCHEMA QUERY    writes an SQL text for each bag constructor of the type
-nq --help                   writes this text
-nq --version                writes the name and the version of the program
+nq run SCHEMA QUERY DIR       writes the value of the query over the tables of DIR
+nq answer SCHEMA SQLFILE DIR  writes the rows of the SQL text over the tables of DIR
+nq check SCHEMA QUERY         writes ok where the query is accepted
+nq show types SCHEMA QUERY    writes the type of the query
+nq show normal SCHEMA QUERY   writes the normal form of the query, which is a query itself
+nq show paths SCHEMA QUERY    writes a line for each bag constructor of the type
+nq show sql SCHEMA QUERY      writes an SQL text for each bag constructor of the type
+nq --help                     writes this text
+nq --version                  writes the name and the version of the program
 
-SCHEMA and QUERY are files, and the table t is the file DIR/t.csv.
+SCHEMA, QUERY and SQLFILE are files, and the table t is the file DIR/t.csv.
 README.md explains the statuses, under Commands.
 ";
 
@@ -72,6 +74,11 @@ const CHECK: Row = Row {
 const SHOW: Row = Row {
     words: &["show", "types", "org", "q"],
     out: "[int]\n",
+    ..CHECK
+};
+
+const NORMAL: Row = Row {
+    words: &["show", "normal", "org", "q"],
     ..CHECK
 };
 
@@ -112,7 +119,7 @@ const USAGE: Row = Row {
     ..CHECK
 };
 
-const ROWS: [Row; 49] = [
+const ROWS: [Row; 50] = [
     CHECK,
     Row {
         query: "[9223372036854775808]",
@@ -226,6 +233,11 @@ const ROWS: [Row; 49] = [
         query: "[(b = 1, a = [(c = true)])]",
         out: "[(a: [(c: bool)], b: int)]\n",
         ..SHOW
+    },
+    Row {
+        query: NESTED,
+        out: "for (x1 <- table departments) [(department = x1.name, employees = for (x2 <- table employees) where (x2.dept == x1.name) [(name = x2.name, tasks = for (x3 <- table tasks) where (x3.employee == x2.name) [x3.task])])]\n",
+        ..NORMAL
     },
     Row {
         query: NESTED,

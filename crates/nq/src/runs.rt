@@ -3,7 +3,7 @@ ghost use Rattle.std.specs.Prelude.{◌≡◌, []};
 
 use nq_edge::{HeldInputs, HeldSink};
 use nq_model::List;
-use nq_top::nq_main;
+use nq_top::{nq_lent, nq_main};
 use plain_engine::PlainServer;
 use sql_profile::SqlServer;
 use std::alloc::Global;
@@ -32,6 +32,22 @@ pub fn padded(alloc: Global, blanks: usize, text: &str) -> Result<List<u8>, Fail
     Ok(bytes)
 }
 
+// The words of a run.
+fn words_of(alloc: Global, wanted: &Wanted) -> Result<Vec<String>, Fail> {
+    let mut words = Vec::new(alloc);
+    for word in wanted.words {
+        words.push(String::from_str(alloc, word)?)?;
+    }
+    Ok(words)
+}
+
+// Compares what came of a run with what is wanted.
+fn compare(rt: &impl Abort, status: u8, out: &HeldSink, notes: &HeldSink, wanted: &Wanted) {
+    assert_eq!(rt; status, wanted.status, "{} {}", wanted.out, wanted.note);
+    assert_eq!(rt; out.bytes(), wanted.out.as_bytes());
+    assert_eq!(rt; notes.bytes(), wanted.note.as_bytes());
+}
+
 /// Runs the program over these inputs and the plain server.
 pub fn check_run(
     rt: &impl Abort,
@@ -53,10 +69,7 @@ pub fn check_run_over(
 ) -> Result<(), Fail>
     requires { loaded server ≡ [] }
 {
-    let mut words = Vec::new(alloc);
-    for word in wanted.words {
-        words.push(String::from_str(alloc, word)?)?;
-    }
+    let words = words_of(alloc, wanted)?;
     let mut out = HeldSink::new(alloc, wanted.room)?;
     let mut notes = HeldSink::new(alloc, 200)?;
     let status = nq_main(
@@ -67,8 +80,31 @@ pub fn check_run_over(
         &mut notes,
         server,
     );
-    assert_eq!(rt; status, wanted.status, "{} {}", wanted.out, wanted.note);
-    assert_eq!(rt; out.bytes(), wanted.out.as_bytes());
-    assert_eq!(rt; notes.bytes(), wanted.note.as_bytes());
+    compare(rt, status, &out, &notes, wanted);
+    Ok(())
+}
+
+/// Runs the program over these inputs and a server that is lent and holds no table.
+pub fn check_run_lent(
+    rt: &impl Abort,
+    alloc: Global,
+    server: &mut Box<dyn SqlServer>,
+    mut inputs: HeldInputs,
+    wanted: &Wanted,
+) -> Result<(), Fail>
+    requires { loaded server.old ≡ [] }
+{
+    let words = words_of(alloc, wanted)?;
+    let mut out = HeldSink::new(alloc, wanted.room)?;
+    let mut notes = HeldSink::new(alloc, 200)?;
+    let status = nq_lent(
+        alloc,
+        words.as_slice(),
+        &mut inputs,
+        &mut out,
+        &mut notes,
+        server,
+    );
+    compare(rt, status, &out, &notes, wanted);
     Ok(())
 }

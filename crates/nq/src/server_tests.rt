@@ -1,12 +1,13 @@
-// Whole runs over servers that fail, and over servers that answer what a script says.
-use crate::nested_tests::{Nested, WHOLE, inputs_of};
-use crate::runs::{Wanted, check_run_over};
+// Whole runs over servers that fail, and over servers that answer what a script says; handed over, and lent.
+ghost use Rattle.std.specs.Prelude.{◌≡◌, [], IfOk};
+
+use crate::nested_tests::{Nested, TWICE, WHOLE, inputs_failing, inputs_of};
+use crate::runs::{Wanted, check_run, check_run_lent, check_run_over};
 use nq_model::{Cell, List, Text};
 use plain_engine::{FailingServer, ScriptedServer};
 use rows::Rows;
 use sql_profile::{Answer, SqlServer};
 use std::alloc::Global;
-use std::process::Abort;
 use std::test::Fail;
 
 const FAILED: Wanted = Wanted {
@@ -18,11 +19,24 @@ const FAILED: Wanted = Wanted {
 };
 
 // The numbers of calls that fail, each with the note line. Four loads come before the first ask.
-const FAILURES: [(u64, &str); 4] = [
+const FAILURES: [(u64, &str); 7] = [
     (1, "nq: server failed: table departments\n"),
     (2, "nq: server failed: table employees\n"),
+    (3, "nq: server failed: table tasks\n"),
+    (4, "nq: server failed: table contacts\n"),
     (5, "nq: server failed: text 1\n"),
     (6, "nq: server failed: text 2\n"),
+    (7, "nq: server failed: text 3\n"),
+];
+
+// The numbers of fetches that fail, each with the note line.
+const FETCHES: [(u64, &str); 6] = [
+    (1, "nq: input failed: org\n"),
+    (2, "nq: input failed: q\n"),
+    (3, "nq: input failed: data/departments.csv\n"),
+    (4, "nq: input failed: data/employees.csv\n"),
+    (5, "nq: input failed: data/tasks.csv\n"),
+    (6, "nq: input failed: data/contacts.csv\n"),
 ];
 
 #[test]
@@ -36,6 +50,24 @@ fn names_the_call_that_failed(rt: HostRuntime) -> Result<(), Fail> {
             ..FAILED
         };
         check_run_over(&rt, alloc, server, inputs_of(alloc, &WHOLE)?, &wanted)?;
+        let failing = List::from_slice(alloc, &[*number])?;
+        let mut lent: Box<dyn SqlServer> = Box::new(alloc, FailingServer::new(alloc, failing))?;
+        check_run_lent(&rt, alloc, &mut lent, inputs_of(alloc, &WHOLE)?, &wanted)?;
+    }
+    Ok(())
+}
+
+#[test]
+fn names_the_input_that_failed(rt: HostRuntime) -> Result<(), Fail> {
+    let alloc = rt.alloc();
+    for (number, note) in &FETCHES {
+        let wanted = Wanted {
+            status: 7,
+            note: *note,
+            ..FAILED
+        };
+        let inputs = inputs_failing(alloc, &WHOLE, &[*number])?;
+        check_run(&rt, alloc, inputs, &wanted)?;
     }
     Ok(())
 }
@@ -45,54 +77,163 @@ const DEPARTMENTS: Nested = Nested {
     ..WHOLE
 };
 
-// A cell behind a tag and a number.
-fn row(alloc: Global, tag: i64, number: i64, cell: Cell) -> Result<List<Cell>, Fail> {
-    let mut row = List::new(alloc);
-    row.push(Cell::Int(tag))?;
-    row.push(Cell::Int(number))?;
-    row.push(cell)?;
-    Ok(row)
+// A cell of an answer.
+#[derive(Clone, Copy)]
+enum Given {
+    Int(i64),
+    Text(&'static str),
 }
 
+// A query and the answers of a script, each of rows of cells; and the status, the output and the note that are wanted.
+#[derive(Clone, Copy)]
+struct Script {
+    query: Nested,
+    answers: &'static [&'static [&'static [Given]]],
+    status: u8,
+    out: &'static str,
+    note: &'static str,
+}
+
+const MOON: Script = Script {
+    query: DEPARTMENTS,
+    answers: &[&[&[Given::Int(0), Given::Int(1), Given::Text("Moon")]]],
+    status: 0,
+    out: "{(name = 'Moon')}\n",
+    note: "",
+};
+
+const MISFIT: Script = Script {
+    status: 11,
+    out: "",
+    ..MOON
+};
+
+const SCRIPTS: [Script; 7] = [
+    MOON,
+    // A row under an index that no row gives is not used.
+    Script {
+        answers: &[&[
+            &[Given::Int(0), Given::Int(1), Given::Text("Moon")],
+            &[Given::Int(9), Given::Int(9), Given::Text("Sun")],
+        ]],
+        ..MOON
+    },
+    // Rows under one index belong to each row that gives it.
+    Script {
+        query: TWICE,
+        answers: &[
+            &[
+                &[
+                    Given::Int(0),
+                    Given::Int(1),
+                    Given::Text("P"),
+                    Given::Int(1),
+                    Given::Int(1),
+                ],
+                &[
+                    Given::Int(0),
+                    Given::Int(1),
+                    Given::Text("Q"),
+                    Given::Int(1),
+                    Given::Int(1),
+                ],
+            ],
+            &[
+                &[Given::Int(1), Given::Int(1), Given::Text("Alex")],
+                &[Given::Int(1), Given::Int(3), Given::Text("Bert")],
+            ],
+        ],
+        out: "{(d = 'P', es = {'Alex'}), (d = 'Q', es = {'Alex'})}\n",
+        ..MOON
+    },
+    Script {
+        answers: &[&[&[Given::Int(0), Given::Int(1), Given::Int(5)]]],
+        note: "nq: bad answer: text 1 row 1 column 3\n",
+        ..MISFIT
+    },
+    Script {
+        answers: &[&[&[
+            Given::Int(0),
+            Given::Int(1),
+            Given::Text("a"),
+            Given::Int(7),
+        ]]],
+        note: "nq: bad answer: text 1 row 1 column 4\n",
+        ..MISFIT
+    },
+    Script {
+        query: TWICE,
+        answers: &[
+            &[&[
+                Given::Int(0),
+                Given::Int(1),
+                Given::Text("P"),
+                Given::Int(1),
+                Given::Int(1),
+            ]],
+            &[&[Given::Int(1), Given::Int(1)]],
+        ],
+        note: "nq: bad answer: text 2 row 1 column 3\n",
+        ..MISFIT
+    },
+    Script {
+        query: TWICE,
+        answers: &[&[&[
+            Given::Int(0),
+            Given::Int(1),
+            Given::Text("P"),
+            Given::Int(1),
+            Given::Int(1),
+        ]]],
+        status: 9,
+        note: "nq: server failed: text 2\n",
+        ..MISFIT
+    },
+];
+
 // An answer of these rows.
-fn answer(alloc: Global, cells: List<List<Cell>>) -> Result<Answer, Fail> {
+fn answer(alloc: Global, given: &[&[Given]]) -> Result<Answer, Fail> {
     let mut rows = Rows::new(alloc);
-    for row in cells.as_slice() {
+    for cells in given {
+        let mut row = List::new(alloc);
+        for cell in *cells {
+            row.push(match cell {
+                Given::Int(number) => Cell::Int(*number),
+                Given::Text(text) => Cell::Text(Text::from_str(alloc, text)?),
+            })?;
+        }
         rows.push(row.as_slice())?;
     }
     Ok(Answer { rows })
 }
 
-// Runs `table departments` over a server that gives this one answer.
-fn run_script(rt: &impl Abort, alloc: Global, given: Answer, wanted: &Wanted) -> Result<(), Fail> {
+// A server that gives the answers of a script.
+fn scripted(alloc: Global, script: &Script) -> Result<ScriptedServer, Fail>
+    ensures { IfOk result (λ server. ⟦<ScriptedServer as SqlServer>⟧.loaded server ≡ []) }
+{
     let mut answers = List::new(alloc);
-    answers.push(given)?;
-    let server: Box<dyn SqlServer> = Box::new(alloc, ScriptedServer::new(alloc, answers))?;
-    check_run_over(rt, alloc, server, inputs_of(alloc, &DEPARTMENTS)?, wanted)
+    for given in script.answers {
+        answers.push(answer(alloc, given)?)?;
+    }
+    Ok(ScriptedServer::new(alloc, answers))
 }
 
 #[test]
 fn writes_what_a_script_answers(rt: HostRuntime) -> Result<(), Fail> {
     let alloc = rt.alloc();
-    let moon = Wanted {
-        status: 0,
-        out: "{(name = 'Moon')}\n",
-        ..FAILED
-    };
-    let mut rows = List::new(alloc);
-    rows.push(row(alloc, 0, 1, Cell::Text(Text::from_str(alloc, "Moon")?))?)?;
-    run_script(&rt, alloc, answer(alloc, rows)?, &moon)?;
-    // A row under an index that no row gives is not used.
-    let mut rows = List::new(alloc);
-    rows.push(row(alloc, 0, 1, Cell::Text(Text::from_str(alloc, "Moon")?))?)?;
-    rows.push(row(alloc, 9, 9, Cell::Text(Text::from_str(alloc, "Sun")?))?)?;
-    run_script(&rt, alloc, answer(alloc, rows)?, &moon)?;
-    let misfit = Wanted {
-        status: 11,
-        note: "nq: bad answer: text 1 row 1 column 3\n",
-        ..FAILED
-    };
-    let mut rows = List::new(alloc);
-    rows.push(row(alloc, 0, 1, Cell::Int(5))?)?;
-    run_script(&rt, alloc, answer(alloc, rows)?, &misfit)
+    for script in &SCRIPTS {
+        let wanted = Wanted {
+            status: script.status,
+            out: script.out,
+            note: script.note,
+            ..FAILED
+        };
+        let server: Box<dyn SqlServer> = Box::new(alloc, scripted(alloc, script)?)?;
+        let inputs = inputs_of(alloc, &script.query)?;
+        check_run_over(&rt, alloc, server, inputs, &wanted)?;
+        let mut lent: Box<dyn SqlServer> = Box::new(alloc, scripted(alloc, script)?)?;
+        let inputs = inputs_of(alloc, &script.query)?;
+        check_run_lent(&rt, alloc, &mut lent, inputs, &wanted)?;
+    }
+    Ok(())
 }

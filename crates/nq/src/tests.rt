@@ -239,10 +239,11 @@ fn takes_inputs_of_the_limit_and_none_longer(rt: HostRuntime) -> Result<(), Fail
     check(&rt, alloc, &shared, 0, 67_108_838)
 }
 
-// A schema, two table texts, and the status and the note that refuse them.
+// A schema, a query, two table texts, and the status and the note that refuse them.
 #[derive(Clone, Copy)]
 struct Refusal {
     schema: &'static str,
+    query: &'static str,
     employees: &'static str,
     contacts: &'static str,
     status: u8,
@@ -250,15 +251,19 @@ struct Refusal {
 }
 
 const PEOPLE: Refusal = Refusal {
-    schema: "table employees (dept: text, name: text, salary: int);
-table contacts (dept: text, name: text, client: bool);",
+    schema: "table departments (name: text);
+table employees (dept: text, name: text, salary: int);
+table tasks (employee: text, task: text);
+table contacts (dept: text, name: text, client: bool);
+",
+    query: "table departments",
     employees: "dept,name,salary\nProduct,Alex,20000\n",
     contacts: "dept,name,client\nSales,Sue,true\n",
     status: 6,
     note: "",
 };
 
-const REFUSALS: [Refusal; 10] = [
+const REFUSALS: [Refusal; 11] = [
     Refusal {
         employees: "dept,name,pay\n",
         note: "nq: table employees refused: Header\n",
@@ -275,6 +280,11 @@ const REFUSALS: [Refusal; 10] = [
         ..PEOPLE
     },
     Refusal {
+        employees: "dept,name,salary\nProduct,Alex,12a\n",
+        note: "nq: table employees refused: BadInt row 1 column 3\n",
+        ..PEOPLE
+    },
+    Refusal {
         contacts: "dept,name,client\nSales,Sue,yes\n",
         note: "nq: table contacts refused: BadBool row 1 column 3\n",
         ..PEOPLE
@@ -286,9 +296,9 @@ const REFUSALS: [Refusal; 10] = [
         ..PEOPLE
     },
     Refusal {
-        schema: "table employees (a: int, b: text, key (a));",
-        employees: "a,b\n1,x\n2,y\n1,z\n",
-        note: "nq: table employees refused: TwiceKey row 3 earlier 1\n",
+        schema: "table t (a: int, b: text, key (a));",
+        query: "table t",
+        note: "nq: table t refused: TwiceKey row 3 earlier 1\n",
         ..PEOPLE
     },
     Refusal {
@@ -320,13 +330,19 @@ const REFUSALS: [Refusal; 10] = [
 // The texts of a refusal as inputs.
 fn texts_of(alloc: Global, case: &Refusal) -> Result<HeldInputs, Fail> {
     let schema = List::from_slice(alloc, case.schema.as_bytes())?;
-    let query = List::from_slice(alloc, b"table employees")?;
+    let query = List::from_slice(alloc, case.query.as_bytes())?;
     let employees = List::from_slice(alloc, case.employees.as_bytes())?;
     let contacts = List::from_slice(alloc, case.contacts.as_bytes())?;
+    let departments = List::from_slice(alloc, b"name\nSales\n")?;
+    let tasks = List::from_slice(alloc, b"employee,task\n")?;
+    let t = List::from_slice(alloc, b"a,b\n1,x\n2,y\n1,z\n")?;
     let mut files = List::new(alloc);
     files.push((Text::from_str(alloc, "org")?, schema))?;
     files.push((Text::from_str(alloc, "q")?, query))?;
+    files.push((Text::from_str(alloc, "data/departments.csv")?, departments))?;
     files.push((Text::from_str(alloc, "data/employees.csv")?, employees))?;
+    files.push((Text::from_str(alloc, "data/tasks.csv")?, tasks))?;
+    files.push((Text::from_str(alloc, "data/t.csv")?, t))?;
     files.push((Text::from_str(alloc, "data/contacts.csv")?, contacts))?;
     Ok(HeldInputs::new(alloc, files, List::new(alloc))?)
 }
@@ -349,4 +365,30 @@ fn refuses_each_text(rt: HostRuntime) -> Result<(), Fail> {
         check_refusal(&rt, rt.alloc(), case)?;
     }
     Ok(())
+}
+
+// So many tables of one column.
+fn tables_text(alloc: Global, count: u64) -> Result<List<u8>, Fail> {
+    let mut text = List::new(alloc);
+    for number in 1..=count {
+        let table = format!(in alloc; "table t{number} (a: int);")?;
+        text.extend_from_slice(table.as_bytes())?;
+    }
+    Ok(text)
+}
+
+#[test]
+fn refuses_a_schema_of_more_tables_than_the_limit(rt: HostRuntime) -> Result<(), Fail> {
+    let alloc = rt.alloc();
+    let mut files = List::new(alloc);
+    files.push((Text::from_str(alloc, "org")?, tables_text(alloc, 65)?))?;
+    let wanted = Wanted {
+        words: RUN,
+        room: 10,
+        status: 3,
+        out: "",
+        note: "nq: schema refused: OverLimit at 1213\n",
+    };
+    let inputs = HeldInputs::new(alloc, files, List::new(alloc))?;
+    check_run(&rt, alloc, inputs, &wanted)
 }

@@ -1,5 +1,5 @@
--- What a server is asked for a query, and what is written of its answers.
-use Rattle.std.specs.Prelude.{◌≡◌, ℕ, List, [], map}
+-- What a server is asked for a command, and what is written of its answers.
+use Rattle.std.specs.Prelude.{◌≡◌, ℕ, List, [], ◌∷◌, map}
 use Rattle.nq_model.specs.Canonical.{canonical_text}
 use Rattle.nq_model.specs.Tables.{types_of}
 use Rattle.nq_model.specs.Types.{TypeTree, type_tree, bag}
@@ -14,32 +14,68 @@ use Rattle.sql_profile.specs.declared.server.Loaded.{Loaded}
 use Rattle.stitcher.specs.FlatNumbers.{flat_numbers}
 use Rattle.stitcher.specs.Schemes.{AnswerRows, stitched}
 use Rattle.nq_serve.specs.Loading.{CanLoad}
+use Rattle.canon.specs.RowTexts.{rows_text}
+use Rattle.nq_serve.specs.declared.plan.Finish.{Finish as Finishes}
+use Rattle.nq_serve.specs.declared.plan.Finish.TheVariants as code
 use Rattle.nq_serve.specs.declared.plan.Plan.{Plan as Asked}
 
+-- what is written of answers: the value of this type to which they stitch; or the rows of the one answer
+pub data Finish : Type 0 where
+  value : TypeTree → Finish
+  rows : Finish
+
 -- the tables that a server is loaded with, the texts that it is then asked, in order, each with the types of its
--- columns, and the type of the value to which the answers are stitched
+-- columns, and what is written of the answers
 pub record Plan : Type 0 where
   pub tables : List Loaded
   pub texts : List (List ℕ)
   pub columns : List (List ColumnType)
-  pub type : TypeTree
+  pub finish : Finish
+
+abbrev pub finish_view : Finishes → Finish
+finish_view (code.Value of) = value (type_tree of)
+finish_view code.Rows = rows
 
 -- the plan of the program
 abbrev pub plan_view : Asked → Plan
-plan_view asked = record { tables = asked.tables; texts = asked.texts; columns = asked.columns; type = type_tree asked.result }
+plan_view asked = record { tables = asked.tables; texts = asked.texts; columns = asked.columns; finish = finish_view asked.finish }
 
 -- the value of answers, one to each text: what they stitch to by tag and number, as its canonical text
-unfoldable pub finished : TypeTree → List AnswerRows → List ℕ
-finished type answers = canonical_text (stitched (flat_numbers (element_types type)) (element_type type) answers)
+unfoldable pub value_text : TypeTree → List AnswerRows → List ℕ
+value_text type answers = canonical_text (stitched (flat_numbers (element_types type)) (element_type type) answers)
+
+-- the rows of the first answer
+abbrev pub first_text : List AnswerRows → List ℕ
+first_text [] = rows_text []
+first_text (answer ∷ answers) = rows_text answer
+
+-- what is written of answers
+abbrev pub finished : Finish → List AnswerRows → List ℕ
+finished (value type) answers = value_text type answers
+finished rows answers = first_text answers
 
 -- over these tables the text may be asked, and its columns have these types
 pub record AsksFor (held : List Loaded) (types : List ColumnType) (text : List ℕ) : Type 0 where
   pub asked : IsAskable First held text
   pub typed : types_of asked.columns ≡ types
 
--- the tables may be loaded, each text may be asked over them, and they are the texts of the paths of a bag type
+-- the columns are those of the paths of a bag type
+pub record ArePathsOf (type : TypeTree) (columns : List (List ColumnType)) : Type 0 where
+  pub of_bag : type ≡ bag (element_type type)
+  pub at_paths : columns ≡ map answer_columns (element_types type)
+
+-- there is one text
+pub record IsOne (columns : List (List ColumnType)) : Type 0 where
+  pub types : List ColumnType
+  pub is : columns ≡ types ∷ []
+
+-- answers of these columns are such as the finish asks for: one for each path of a bag type; or one
+abbrev pub CanFinish : Finish → List (List ColumnType) → Type 0
+CanFinish (value type) columns = ArePathsOf type columns
+CanFinish rows columns = IsOne columns
+
+-- the tables may be loaded, each text may be asked over them, and their answers may be finished
 pub record IsServable (plan : Plan) : Type 0 where
   pub loadable : CanLoad [] plan.tables
-  pub of_bag : plan.type ≡ bag (element_type plan.type)
-  pub columns : plan.columns ≡ map answer_columns (element_types plan.type)
+  pub finishable : CanFinish plan.finish plan.columns
   pub askable : EachBoth (AsksFor plan.tables) plan.columns plan.texts

@@ -1,5 +1,5 @@
-//! Serving a query: a server is loaded with tables and asked texts, each answer is tried against its columns before the
-//! next text is asked, and the value that the answers stitch to is written.
+//! Serving a command: a server is loaded with tables and asked texts, each answer is tried against its columns before the
+//! next text is asked, and the value that the answers stitch to is written, or the rows of the one answer.
 #![tactic(auto)]
 
 mod ask;
@@ -10,6 +10,6 @@ mod plan;
 mod refusal;
 mod serving;
 
-pub use plan::Plan;
+pub use plan::{Finish, Plan};
 pub use refusal::ServerRefusal;
 pub use serving::serve;

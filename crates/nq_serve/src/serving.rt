@@ -1,4 +1,4 @@
-// Loads the tables of a plan into a server, asks it the texts, and writes the value of the answers.
+// Loads the tables of a plan into a server, asks it the texts, and writes what the answers come to.
 ghost use Rattle.std.specs.Prelude.{◌≡◌, [], is_some};
 ghost use Rattle.nq_serve.specs.Plans.{IsServable, plan_view};
 ghost use Rattle.nq_serve.specs.Serving.{ServerCounts, ServeTells};
@@ -13,7 +13,8 @@ use sql_profile::SqlServer;
 use std::alloc::Global;
 
 /// Loads the tables of a plan into a server that holds none, asks it each text in order, tries each answer against its
-/// columns before the next text is asked, and gives the canonical text of the value that the answers stitch to.
+/// columns before the next text is asked, and gives the text of the answers: the canonical text of the value to which they
+/// stitch, or the rows of the one answer.
 pub fn serve(
     alloc: Global,
     plan: Plan,
@@ -36,5 +37,5 @@ pub fn serve(
         plan.texts.as_slice(),
         plan.columns.as_slice(),
     )?;
-    Ok(finish(alloc, &plan.result, answers)?)
+    Ok(finish(alloc, &plan.finish, plan.columns.as_slice(), answers)?)
 }

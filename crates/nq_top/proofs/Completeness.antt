@@ -2,7 +2,6 @@
 -- clauses where the server is not seen again.
 use Rattle.std.proofs.Common.{◌≡◌, ◌⊎◌, ◌<◌, ℕ, Bool, true, List, [], ◌∷◌, ◌++◌, Option, Some, None, Result, Ok, Err, refl, sym, ap, ◌∙◌, subst, arith, inl, inr, IfSome, length, zip, get_or, slice_get}
 use Rattle.std.proofs.lemmas.List.{append_cancel_left}
-use Rattle.nq_model.specs.Terms.{PlacedTerm}
 use Rattle.nq_edge.specs.Edge.{Files, Rose}
 use Rattle.sql_profile.specs.Servers.{Asks, RoseBelow}
 use Rattle.sql_profile.specs.declared.answer.Answer.{Answer as Rows}
@@ -12,8 +11,9 @@ use Rattle.sql_profile.proofs.Misfits.{fits_without_misfit}
 use Rattle.nq_top.specs.Gathering.{Told}
 use Rattle.nq_top.specs.Reading.{Reading}
 use Rattle.nq_top.specs.Judging.{Judgement, Verdict, missing, refused, written, planned}
+use Rattle.nq_top.specs.Plans.{Question}
 use Rattle.nq_top.specs.Refusals.{status_of}
-use Rattle.nq_top.specs.Serving.{QueryTells}
+use Rattle.nq_top.specs.Serving.{QuestionTells}
 use Rattle.nq_top.specs.Running.{Answer, InputCount, OutputCount, ServerCount, Gives, Tells, Means, Comes, IsDone, IsDue, Completes, ToldFit, IsFair, Serves}
 use Rattle.nq_top.proofs.Runs.{blames_of}
 use Rattle.nq_top.specs.declared.refusal.Refused.{Refused}
@@ -53,8 +53,8 @@ not_due : (v : Verdict) (fair : Plan → Type 0) (r : Refused) → v ≡ refused
 not_due v fair r is due = let P : Verdict → Type 0 = λ w. IsDue fair w in subst P is due
 
 -- what is due of inputs that come to a plan
-due_of : (v : Verdict) (fair : Plan → Type 0) (plan : Plan) (query : PlacedTerm) → v ≡ planned plan query → IsDue fair v → fair plan
-due_of v fair plan query is due = let P : Verdict → Type 0 = λ w. IsDue fair w in subst P is due
+due_of : (v : Verdict) (fair : Plan → Type 0) (plan : Plan) (question : Question) → v ≡ planned plan question → IsDue fair v → fair plan
+due_of v fair plan question is due = let P : Verdict → Type 0 = λ w. IsDue fair w in subst P is due
 
 bad_not_fair : (plan : Plan) (old new : ServerState) (honest : Bool) (text row column : ℕ)
     → AnswersBadly plan old new honest text row column → IsFair honest old.asks new.asks plan → ⊥
@@ -64,22 +64,22 @@ bad_not_fair plan old new honest text row column bad (inr told) = bad_not_fit pl
 -- accepted inputs, no failed call and a fair server leave nothing but success and want of memory
 done_of : (j : Judgement) (old new : ServerState) (honest : Bool) (told_old told_new : Told) (out_old out_new : Option (List ℕ)) (ib inow ob onow bound sb snow : ℕ) (a : Answer)
     → InputCount ib inow a → OutputCount ob onow a → ServerCount bound sb snow a
-    → Tells (λ plan query. QueryTells plan query old new honest) j told_old told_new out_old out_new a
+    → Tells (λ plan question. QuestionTells plan question old new honest) j told_old told_new out_old out_new a
     → Completes j (Rose ib inow ⊎ Rose ob onow) (Serves (RoseBelow bound sb snow) honest old.asks new.asks) (status_of a)
 done_of j old new honest told_old told_new out_old out_new ib inow ob onow bound sb snow (Ok u) inputs output served tells = λ failed due. inl refl
 done_of j old new honest told_old told_new out_old out_new ib inow ob onow bound sb snow (Err (refusal.Input input.Memory)) inputs output served tells = λ failed due. inr refl
 done_of j old new honest told_old told_new out_old out_new ib inow ob onow bound sb snow (Err (refusal.Input (input.Refused r))) inputs output served tells = λ failed due. absurd (not_due j.verdict (Serves (RoseBelow bound sb snow) honest old.asks new.asks) r tells.comes_to due)
 done_of j old new honest told_old told_new out_old out_new ib inow ob onow bound sb snow (Err (refusal.Input (input.Failed name))) inputs output served tells = λ failed due. absurd (failed (inl inputs))
 done_of j old new honest told_old told_new out_old out_new ib inow ob onow bound sb snow (Err (refusal.Server server.Memory)) inputs output served tells = λ failed due. inr refl
-done_of j old new honest told_old told_new out_old out_new ib inow ob onow bound sb snow (Err (refusal.Server (server.TableFailed name))) inputs output served tells = λ failed due. absurd ((due_of j.verdict (Serves (RoseBelow bound sb snow) honest old.asks new.asks) tells.plan tells.query tells.judges.comes_to due).not_failed served)
-done_of j old new honest told_old told_new out_old out_new ib inow ob onow bound sb snow (Err (refusal.Server (server.TextFailed text))) inputs output served tells = λ failed due. absurd ((due_of j.verdict (Serves (RoseBelow bound sb snow) honest old.asks new.asks) tells.plan tells.query tells.judges.comes_to due).not_failed served)
+done_of j old new honest told_old told_new out_old out_new ib inow ob onow bound sb snow (Err (refusal.Server (server.TableFailed name))) inputs output served tells = λ failed due. absurd ((due_of j.verdict (Serves (RoseBelow bound sb snow) honest old.asks new.asks) tells.plan tells.question tells.judges.comes_to due).not_failed served)
+done_of j old new honest told_old told_new out_old out_new ib inow ob onow bound sb snow (Err (refusal.Server (server.TextFailed text))) inputs output served tells = λ failed due. absurd ((due_of j.verdict (Serves (RoseBelow bound sb snow) honest old.asks new.asks) tells.plan tells.question tells.judges.comes_to due).not_failed served)
 done_of j old new honest told_old told_new out_old out_new ib inow ob onow bound sb snow (Err (refusal.Server (server.BadAnswer text row column))) inputs output served tells = λ failed due.
-    absurd (bad_not_fair tells.plan old new honest text row column tells.serves (due_of j.verdict (Serves (RoseBelow bound sb snow) honest old.asks new.asks) tells.plan tells.query tells.judges.comes_to due).fair)
+    absurd (bad_not_fair tells.plan old new honest text row column tells.serves (due_of j.verdict (Serves (RoseBelow bound sb snow) honest old.asks new.asks) tells.plan tells.question tells.judges.comes_to due).fair)
 done_of j old new honest told_old told_new out_old out_new ib inow ob onow bound sb snow (Err refusal.OutputFailed) inputs output served tells = λ failed due. absurd (failed (inr output))
 
 pub lent_completes : (held : Option Files) (judges : Reading → Files → Judgement) (old new : ServerState) (honest : Bool) (told_old told_new : Told) (out_old out_new : Option (List ℕ)) (ib inow ob onow bound sb snow status : ℕ) (a : Answer)
     → status ≡ status_of a → InputCount ib inow a → OutputCount ob onow a → ServerCount bound sb snow a
-    → IfSome held (λ files. (reading : Reading) → Tells (λ plan query. QueryTells plan query old new honest) (judges reading files) told_old told_new out_old out_new a)
+    → IfSome held (λ files. (reading : Reading) → Tells (λ plan question. QuestionTells plan question old new honest) (judges reading files) told_old told_new out_old out_new a)
     → IfSome held (λ files. (reading : Reading) → Completes (judges reading files) (Rose ib inow ⊎ Rose ob onow) (Serves (RoseBelow bound sb snow) honest old.asks new.asks) status)
 lent_completes None judges old new honest told_old told_new out_old out_new ib inow ob onow bound sb snow status a is inputs output served tells = tt
 lent_completes (Some files) judges old new honest told_old told_new out_old out_new ib inow ob onow bound sb snow status a is inputs output served tells = λ reading failed due.
@@ -96,7 +96,7 @@ main_due : (v : Verdict) (honest : Bool) (old_asks new_asks : Option Asks) (boun
 main_due (missing name) honest old_asks new_asks bound sb snow due = due
 main_due (refused r) honest old_asks new_asks bound sb snow due = due
 main_due (written text) honest old_asks new_asks bound sb snow due = due
-main_due (planned plan query) honest old_asks new_asks bound sb snow due = record { not_failed = not_below bound sb snow due.0; fair = inl due.1 }
+main_due (planned plan question) honest old_asks new_asks bound sb snow due = record { not_failed = not_below bound sb snow due.0; fair = inl due.1 }
 
 pub main_completes : (held : Option Files) (judges : Reading → Files → Judgement) (honest : Bool) (old_asks new_asks : Option Asks) (ib inow ob onow bound sb snow status : ℕ)
     → IfSome held (λ files. (reading : Reading) → Completes (judges reading files) (Rose ib inow ⊎ Rose ob onow) (Serves (RoseBelow bound sb snow) honest old_asks new_asks) status)
@@ -106,34 +106,34 @@ main_completes (Some files) judges honest old_asks new_asks ib inow ob onow boun
     all reading failed (main_due (judges reading files).verdict honest old_asks new_asks bound sb snow due)
 
 -- what is known of a text without its server
-means_of : (plan : Plan) (query : PlacedTerm) (old new : ServerState) (honest : Bool) (r : Result (List ℕ) ServerRefusal) → QueryTells plan query old new honest r → Means honest plan query r
-means_of plan query old new honest (Ok text) serves = serves.meant
-means_of plan query old new honest (Err r) serves = blames_of plan old new honest r serves
+means_of : (plan : Plan) (question : Question) (old new : ServerState) (honest : Bool) (r : Result (List ℕ) ServerRefusal) → QuestionTells plan question old new honest r → Means honest plan question r
+means_of plan question old new honest (Ok text) serves = serves.settled
+means_of plan question old new honest (Err r) serves = blames_of plan old new honest r serves
 
-gives_means : (v : Verdict) (old new : ServerState) (honest : Bool) (text : List ℕ) → Gives (λ plan query. QueryTells plan query old new honest) v text → Gives (Means honest) v text
+gives_means : (v : Verdict) (old new : ServerState) (honest : Bool) (text : List ℕ) → Gives (λ plan question. QuestionTells plan question old new honest) v text → Gives (Means honest) v text
 gives_means (missing name) old new honest text gives = gives
 gives_means (refused r) old new honest text gives = gives
 gives_means (written said) old new honest text gives = gives
-gives_means (planned plan query) old new honest text gives = means_of plan query old new honest (Ok text) gives
+gives_means (planned plan question) old new honest text gives = means_of plan question old new honest (Ok text) gives
 
 tells_means : (j : Judgement) (old new : ServerState) (honest : Bool) (told_old told_new : Told) (out_old out_new : Option (List ℕ)) (a : Answer)
-    → Tells (λ plan query. QueryTells plan query old new honest) j told_old told_new out_old out_new a
+    → Tells (λ plan question. QuestionTells plan question old new honest) j told_old told_new out_old out_new a
     → Tells (Means honest) j told_old told_new out_old out_new a
 tells_means j old new honest told_old told_new out_old out_new (Ok u) tells =
     record { text = tells.text; gives = gives_means j.verdict old new honest tells.text tells.gives; fetched = tells.fetched; puts = tells.puts; shreds = tells.shreds }
 tells_means j old new honest told_old told_new out_old out_new (Err (refusal.Input r)) tells = tells
 tells_means j old new honest told_old told_new out_old out_new (Err (refusal.Server r)) tells =
-    record { plan = tells.plan; query = tells.query; judges = tells.judges; serves = means_of tells.plan tells.query old new honest (Err r) tells.serves }
+    record { plan = tells.plan; question = tells.question; judges = tells.judges; serves = means_of tells.plan tells.question old new honest (Err r) tells.serves }
 tells_means j old new honest told_old told_new out_old out_new (Err refusal.OutputFailed) tells =
     record { text = tells.text; gives = gives_means j.verdict old new honest tells.text tells.gives; fetched = tells.fetched; puts = tells.puts; shreds = tells.shreds }
 
 pub main_comes : (held : Option Files) (judges : Reading → Files → Judgement) (old new : ServerState) (honest : Bool) (told_old told_new : Told) (out_old out_new notes_old notes_new : Option (List ℕ)) (before now status : ℕ)
-    → Comes held (λ files answer. (reading : Reading) → Tells (λ plan query. QueryTells plan query old new honest) (judges reading files) told_old told_new out_old out_new answer) notes_old notes_new before now status
+    → Comes held (λ files answer. (reading : Reading) → Tells (λ plan question. QuestionTells plan question old new honest) (judges reading files) told_old told_new out_old out_new answer) notes_old notes_new before now status
     → Comes held (λ files answer. (reading : Reading) → Tells (Means honest) (judges reading files) told_old told_new out_old out_new answer) notes_old notes_new before now status
 main_comes held judges old new honest told_old told_new out_old out_new notes_old notes_new before now status comes =
     record { answer = comes.answer; is = comes.is; notes = comes.notes; told = go held comes.told }
   where
-    go : (h : Option Files) → IfSome h (λ files. (reading : Reading) → Tells (λ plan query. QueryTells plan query old new honest) (judges reading files) told_old told_new out_old out_new comes.answer)
+    go : (h : Option Files) → IfSome h (λ files. (reading : Reading) → Tells (λ plan question. QuestionTells plan question old new honest) (judges reading files) told_old told_new out_old out_new comes.answer)
         → IfSome h (λ files. (reading : Reading) → Tells (Means honest) (judges reading files) told_old told_new out_old out_new comes.answer)
     go None told = tt
     go (Some files) told = λ reading. tells_means (judges reading files) old new honest told_old told_new out_old out_new comes.answer (told reading)

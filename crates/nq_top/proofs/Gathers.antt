@@ -1,10 +1,10 @@
 -- How the judgement of the inputs follows from the fetches.
-use Rattle.std.proofs.Common.{◌≡◌, ◌<◌, ◌≤◌, ◌-◌, ℕ, Bool, true, false, List, [], ◌∷◌, ◌++◌, length, map, Some, None, Option, Result, Ok, Err, arith, refl, sym, ap, subst, ◌∙◌, nat_lt, cond, append_assoc, append-nil, All, length-append, IfSome}
+use Rattle.std.proofs.Common.{◌≡◌, ◌≤◌, ◌-◌, ℕ, Bool, true, false, List, [], ◌∷◌, ◌++◌, length, Some, None, Option, Result, Ok, Err, arith, refl, sym, ap, subst, ◌∙◌, nat_lt, cond, append_assoc, append-nil, IfSome}
 use Rattle.std.specs.Option.{option_map}
 use Rattle.nq_model.specs.SchemaTables.{IsTableOf}
 use Rattle.nq_model.specs.Terms.{PlacedTerm}
 use Rattle.nq_model.specs.Types.{TypeTree}
-use Rattle.nq_model.specs.Judging.{BrokenRule, program_judged}
+use Rattle.nq_model.specs.Judging.{BrokenRule}
 use Rattle.nq_model.specs.declared.table.Cell.{Cell}
 use Rattle.nq_model.specs.declared.table.Schema.{Schema}
 use Rattle.nq_model.specs.declared.table.TableShape.{TableShape}

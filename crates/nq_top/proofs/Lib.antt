@@ -1,5 +1,6 @@
 pub mod SchemaTexts
 pub mod QueryReadings
+pub mod SqlReadings
 pub mod Readings
 pub mod Gathers
 pub mod Showings

@@ -1,22 +1,21 @@
--- A compiled query over the tables that were read is the plan of the query, may be served, and is sound.
-use Rattle.std.proofs.Common.{◌≡◌, ℕ, suc, List, [], ◌∷◌, ◌++◌, map, length, Ok, All, codes, refl, sym, ap, ap₂, ◌∙◌, subst, arith}
-use Rattle.std.specs.List.{AllZip}
-use Rattle.std.proofs.lemmas.List.{length-map}
-use Rattle.std.proofs.lemmas.List.Elements.{All-nil, All-cons, All-head, All-tail, All-weaker}
+-- A compiled query over the tables that were read is the plan of the query, may be served, and is sound; and so is the
+-- plan of an SQL text.
+use Rattle.std.proofs.Common.{◌≡◌, ℕ, List, [], ◌∷◌, ◌++◌, map, length, Ok, All, codes, refl, sym, ap, ◌∙◌, subst, arith}
+use Rattle.std.proofs.lemmas.List.Elements.{All-nil, All-cons, All-head, All-tail}
 use Rattle.std.proofs.lemmas.Simd.{map-map}
-use Rattle.nq_model.specs.Canonical.{canonical, canonical_text, written}
+use Rattle.nq_model.specs.Canonical.{canonical_text, written}
 use Rattle.nq_model.specs.Cells.{RowFits}
 use Rattle.nq_model.specs.Databases.{FilledTable, database}
 use Rattle.nq_model.specs.Meaning.{meaning}
 use Rattle.nq_model.specs.Orders.{AreDistinct}
 use Rattle.nq_model.specs.Proper.{IsOrdered, IsProperTerm}
 use Rattle.nq_model.specs.QueryMeaning.{Means}
-use Rattle.nq_model.specs.SchemaTables.{AreTablesOf, IsTableOf}
-use Rattle.nq_model.specs.Tables.{Columns, IsProperSchema, IsProperShape, names_of, types_of}
+use Rattle.nq_model.specs.SchemaTables.{AreTablesOf}
+use Rattle.nq_model.specs.Tables.{IsProperSchema, IsProperShape, names_of, types_of}
 use Rattle.nq_model.specs.Terms.{PlacedTerm, bare}
 use Rattle.nq_model.specs.Types.{TypeTree, bag}
 use Rattle.nq_model.specs.Typing.{IsAccepted}
-use Rattle.nq_model.specs.Values.{Nested, Same}
+use Rattle.nq_model.specs.Values.{Nested}
 use Rattle.nq_model.specs.declared.table.Cell.{Cell}
 use Rattle.nq_model.specs.declared.table.ColumnType.{ColumnType}
 use Rattle.nq_model.specs.declared.table.Schema.{Schema}
@@ -30,12 +29,11 @@ use Rattle.nq_ir.specs.Meanings.{EachBoth}
 use Rattle.nq_ir.specs.NormalForms.{element_type, normal_form}
 use Rattle.nq_ir.specs.Parts.{element_types}
 use Rattle.nq_ir.specs.Paths.{paths, element_at}
-use Rattle.nq_ir.specs.declared.path.Step.{Step}
 use Rattle.nq_ir.proofs.Paths.{elements_are, proper}
 use Rattle.shred_types.specs.Columns.{columns_at, answer_columns}
 use Rattle.sql_profile.specs.Scope.{IsWellScoped, Shapes, shapes_of, shapes_of_schema}
 use Rattle.sql_profile.specs.Servers.{filled_of, held_of, table_names}
-use Rattle.sql_profile.specs.Texts.{IsAskable, TextAllows}
+use Rattle.sql_profile.specs.Texts.{TextAllows}
 use Rattle.sql_profile.specs.Tokens.{First}
 use Rattle.sql_profile.specs.Trees.{bare as bare_sql}
 use Rattle.sql_profile.specs.declared.answer.Answer.{Answer}
@@ -47,11 +45,11 @@ use Rattle.stitcher.specs.Stitching.{rows_of}
 use Rattle.unfold.specs.Hereditary.{unfolded}
 use Rattle.unfold.proofs.Whole.{is_unfolding}
 use Rattle.nq_serve.specs.Loading.{CanLoad}
-use Rattle.nq_serve.specs.Plans.{Plan, plan_view, finished, AsksFor, IsServable}
+use Rattle.nq_serve.specs.Plans.{Finish, Plan, plan_view, value_text, finished, AsksFor, IsServable}
 use Rattle.nq_serve.specs.Serving.{Allowed}
 use Rattle.nq_serve.specs.declared.plan.Plan.{Plan as Asked}
-use Rattle.nq_top.specs.Gathering.{IsTyped, HoldsPlan}
-use Rattle.nq_top.specs.Plans.{AreReadFor, query_plan, IsMeant, IsSound}
+use Rattle.nq_top.specs.Gathering.{HoldsPlan}
+use Rattle.nq_top.specs.Plans.{AreReadFor, query_plan, sql_plan, Question, IsMeant, IsAllowed, IsSound}
 use Rattle.nq_top.specs.Reading.{PlainReading, type_read}
 use Rattle.nq_top.specs.Shown.{shown_texts}
 use Rattle.nq_top.proofs.Showings.{ResultIs, TextsAre, TextsShred, read_accepted, bag_again}
@@ -125,6 +123,30 @@ meant schema term type tables accepted =
     let reached = is_unfolding schema term type accepted in
     record { plain_term = unfolded term; unfolds = reached.unfolds; plain = reached.plain; is = refl }
 
+read_shapes : (schema : Schema) (tables : List Loaded) → AreReadFor schema.tables tables → shapes_of tables ≡ shapes_of_schema schema.tables
+read_shapes schema tables read =
+    ap shapes_of read.is ∙ shapes_same schema.tables read.rows (as_many schema.tables read.rows read.stored)
+
+read_loadable : (schema : Schema) (tables : List Loaded) → IsProperSchema schema → AreReadFor schema.tables tables → CanLoad [] tables
+read_loadable schema tables proper_schema read =
+    subst (λ (ts : List Loaded). CanLoad [] ts) (sym read.is) (can_load schema proper_schema read.rows read.stored)
+
+-- the plan of an SQL text over the tables that were read
+module _ (schema : Schema) (text : List ℕ) (types : List ColumnType) (tables : List Loaded) (proper_schema : IsProperSchema schema) (read : AreReadFor schema.tables tables) where
+  pub sql_servable : IsScopedText schema types text → IsServable (sql_plan text types tables)
+  sql_servable scoped = record {
+    loadable = read_loadable schema tables proper_schema read;
+    finishable = record { types = types; is = refl };
+    askable = (asks_for schema tables (read_shapes schema tables read) types text scoped, refl);
+  }
+
+  pub sql_sound : IsSound (sql_plan text types tables) (Question.sql text)
+  sql_sound answers allowed = go answers allowed
+    where
+      go : (given : List Answer) → Allowed tables (text ∷ []) given → IsAllowed tables text (finished Finish.rows (rows_of given))
+      go [] none = absurd none
+      go (a ∷ given) some = record { answer = a.rows; allowed = some.0; is = refl }
+
 module _ (schema : Schema) (term : PlacedTerm) (type : TypeTree) (texts : List (List ℕ)) (columns : List (List ColumnType)) (tables : List Loaded)
     (proper_schema : IsProperSchema schema) (proper_term : IsProperTerm (bare term)) (read : AreReadFor schema.tables tables)
     (shred : TextsShred schema term type [] texts) (result_is : ResultIs schema term type [] texts) (columns_of : columns ≡ map (columns_at type) (paths type))
@@ -148,27 +170,28 @@ module _ (schema : Schema) (term : PlacedTerm) (type : TypeTree) (texts : List (
   ordered = ordered_type schema proper_schema [] (bare term) type tt proper_term accepted.typed
 
   shapes : shapes_of tables ≡ shapes_of_schema schema.tables
-  shapes =
-      ap shapes_of read.is ∙ shapes_same schema.tables read.rows (as_many schema.tables read.rows read.stored)
+  shapes = read_shapes schema tables read
 
   abbrev plan : Plan
-  plan = record { tables = tables; texts = texts; columns = columns; type = type }
+  plan = record { tables = tables; texts = texts; columns = columns; finish = Finish.value type }
 
   at_bag : columns ≡ map (columns_at (bag element)) (paths (bag element))
   at_bag = columns_of ∙ ap (λ (a : TypeTree). map (columns_at a) (paths a)) (sym of_bag)
 
   pub servable : IsServable plan
   servable = record {
-    loadable = subst (λ (ts : List Loaded). CanLoad [] ts) (sym read.is) (can_load schema proper_schema read.rows read.stored);
-    of_bag = sym of_bag;
-    columns = at_bag ∙ columns_are element (subst (λ (a : TypeTree). IsOrdered a) (sym of_bag) ordered) ∙ ap (λ (a : TypeTree). map answer_columns (element_types a)) of_bag;
+    loadable = read_loadable schema tables proper_schema read;
+    finishable = record {
+      of_bag = sym of_bag;
+      at_paths = at_bag ∙ columns_are element (subst (λ (a : TypeTree). IsOrdered a) (sym of_bag) ordered) ∙ ap (λ (a : TypeTree). map answer_columns (element_types a)) of_bag;
+    };
     askable = subst (λ (cs : List (List ColumnType)). EachBoth (AsksFor tables) cs texts) (sym at_bag)
         (both_mapped (λ path text. IsScopedText schema (columns_at (bag element) path) text) (AsksFor tables) (columns_at (bag element))
         (λ path text scoped. asks_for schema tables shapes (columns_at (bag element) path) text scoped) (paths (bag element)) texts shreds.scoped);
   }
 
-  pub sound : IsSound plan term
-  unfolding finished
+  pub sound : IsSound plan (Question.query term)
+  unfolding value_text
   sound answers allowed =
       let held = held_of schema.tables read.rows in
       let filled = database schema.tables read.rows in
@@ -186,7 +209,7 @@ module _ (schema : Schema) (term : PlacedTerm) (type : TypeTree) (texts : List (
         is = ap (λ (a : TypeTree). canonical_text (S a)) (sym of_bag) ∙ ap (λ (v : Nested). written v ++ codes "\n") (canonical_same (S (bag element)) value same);
       }
 
-  pub holds : (texts_are : TextsAre schema term type [] texts) (plain : PlainReading) (asked : Asked) → plan_view asked ≡ plan → HoldsPlan (query_plan plain schema term own tables) term asked
+  pub holds : (texts_are : TextsAre schema term type [] texts) (plain : PlainReading) (asked : Asked) → plan_view asked ≡ plan → HoldsPlan (query_plan plain schema term own tables) (Question.query term) asked
   unfolding query_plan shown_texts
   holds texts_are plain asked is =
       let here : IsAccepted schema (bare term) (bag element) = subst (λ (a : TypeTree). IsAccepted schema (bare term) a) (sym of_bag) accepted in
@@ -195,14 +218,14 @@ module _ (schema : Schema) (term : PlacedTerm) (type : TypeTree) (texts : List (
       let same : plan ≡ query_plan plain schema term own tables = same_plan columns (map (columns_at own) (paths own)) texts (texts_of schema (normal_form schema.tables (element_type own) (bare (plain.says term)))) (columns_of ∙ ap (λ (a : TypeTree). map (columns_at a) (paths a)) same_own) shown same_own in
       record {
         is = is ∙ same;
-        sound = subst (λ (p : Plan). IsSound p term) same sound;
+        sound = subst (λ (p : Plan). IsSound p (Question.query term)) same sound;
       }
     where
       same_plan : (cs ds : List (List ColumnType)) (ss ts : List (List ℕ)) → cs ≡ ds → ss ≡ ts → type ≡ own
-          → ◌≡◌ {A = Plan} (record { tables = tables; texts = ss; columns = cs; type = type }) (record { tables = tables; texts = ts; columns = ds; type = own })
+          → ◌≡◌ {A = Plan} (record { tables = tables; texts = ss; columns = cs; finish = Finish.value type }) (record { tables = tables; texts = ts; columns = ds; finish = Finish.value own })
       same_plan cs ds ss ts e f g = cc
 
 -- a query has one text over given tables
-pub one_text : (tables : List Loaded) (query : PlacedTerm) (text other : List ℕ) → IsMeant tables query text → IsMeant tables query other → text ≡ other
-one_text tables query text other a b =
-    a.is ∙ ap canonical_text (one_meaning (map filled_of tables) query a.value b.value a.means b.means) ∙ sym b.is
+pub one_text : (tables : List Loaded) (term : PlacedTerm) (text other : List ℕ) → IsMeant tables term text → IsMeant tables term other → text ≡ other
+one_text tables term text other a b =
+    a.is ∙ ap canonical_text (one_meaning (map filled_of tables) term a.value b.value a.means b.means) ∙ sym b.is

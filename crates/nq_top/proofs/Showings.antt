@@ -1,12 +1,15 @@
--- The texts that are shown for a query are those of its normal form, and shred it.
-use Rattle.std.proofs.Common.{◌≡◌, ℕ, List, Some, None, Option, Result, Ok, Err, refl, sym, ap, ap₂, ◌∙◌, subst, length, map, IfOk, IfSome}
+-- The normal form that is shown for a query is its own; the texts that are shown are those of it, and shred the query.
+use Rattle.std.proofs.Common.{◌≡◌, ℕ, List, [], ◌∷◌, ◌++◌, Some, None, Option, Result, Ok, Err, refl, sym, ap, ap₂, ◌∙◌, subst, length, map, IfOk, IfSome}
 use Rattle.std.proofs.lemmas.List.{length-map}
 use Rattle.nq_model.proofs.Judging.{judged_accepted}
+use Rattle.nq_model.proofs.Typing.{one_type}
+use Rattle.nq_model.proofs.Unfolding.{reached_once}
+use Rattle.unfold.specs.Unfolded.{IsUnfolding}
 use Rattle.nq_model.specs.Judging.{program_judged}
 use Rattle.nq_model.specs.QueryMeaning.{Means}
 use Rattle.nq_model.specs.Terms.{PlacedTerm, bare}
 use Rattle.nq_model.specs.Types.{TypeTree, bag}
-use Rattle.nq_model.specs.Typing.{IsAccepted, IsPlainBag}
+use Rattle.nq_model.specs.Typing.{HasType, IsAccepted, IsPlainBag}
 use Rattle.nq_model.specs.Unfolding.{Unfolds}
 use Rattle.nq_model.specs.declared.table.Schema.{Schema}
 use Rattle.nq_compile.specs.Shreds.{Shreds}
@@ -14,18 +17,19 @@ use Rattle.nq_compile.specs.Texts.{text_of, texts_of}
 use Rattle.nq_edge.specs.Edge.{Files}
 use Rattle.nq_ir.specs.NormalForms.{element_type, normal_form}
 use Rattle.nq_ir.specs.Paths.{paths}
+use Rattle.nq_ir.specs.Printed.{printed_text}
+use Rattle.nq_ir.specs.Trees.{FormTree}
 use Rattle.nq_ir.specs.Shredded.{shredded}
 use Rattle.nq_ir.specs.declared.path.Step.{Step}
 use Rattle.show_texts.specs.Frames.{frames}
 use Rattle.nq_top.specs.Gathering.{Told, IsTyped, GatherTells}
-use Rattle.nq_top.specs.Commands.{Aim, run, show_sql}
-use Rattle.nq_top.specs.Judging.{Judgement, written, at_once, aim_judged, run_judged, term_judged}
+use Rattle.nq_top.specs.Commands.{Aim, run}
+use Rattle.nq_top.specs.Judging.{Judgement, aim_judged, run_judged, term_judged}
 use Rattle.nq_top.specs.Reading.{PlainReading, Reading, type_read}
-use Rattle.nq_top.specs.Shown.{Shows, ShredsQuery, shown_texts, shown_frames}
+use Rattle.nq_top.specs.Shown.{Shows, ShredsQuery, shown_form, form_line, shown_texts, shown_frames}
 use Rattle.nq_top.specs.declared.gathered.Gathered.{Gathered}
-use Rattle.nq_top.specs.declared.gathered.Gathered.TheVariants as gathered
 use Rattle.nq_top.specs.declared.refusal.InputRefusal.{InputRefusal}
-use Rattle.nq_top.proofs.Gathers.{typed_program, tells_nothing, type_next}
+use Rattle.nq_top.proofs.Gathers.{typed_program, type_next}
 
 -- a query whose type is read is accepted
 pub read_accepted : (schema : Schema) (term : PlacedTerm) (type : TypeTree) → type_read schema term ≡ Ok type → IsAccepted schema (bare term) type
@@ -45,6 +49,22 @@ pub typed_accepted : (schema : Schema) (term : PlacedTerm) → IsTyped schema te
 typed_accepted schema term typed =
     let accepted = read_accepted schema term typed.type typed.typed in
     (element_type typed.type, subst (λ (a : TypeTree). IsAccepted schema (bare term) a) (sym (bag_again typed.type accepted.plain_bag)) accepted)
+
+-- the form of the plain term to which a query unfolds is the one that is shown
+pub form_shown : (schema : Schema) (term plain : PlacedTerm) (form : FormTree) → IsUnfolding schema term plain → HasType schema [] (bare plain) (bag form.element) → form ≡ normal_form schema.tables form.element (bare plain)
+    → (reader : PlainReading) (type : TypeTree) → type_read schema term ≡ Ok type → form ≡ shown_form reader schema term type
+form_shown schema term plain form reached typed is reader type read =
+    let accepted = read_accepted schema term type read in
+    let same : bag form.element ≡ type = one_type schema [] (bare plain) (bag form.element) type typed (reached.keeps type accepted.typed) in
+    let once : plain ≡ reader.says term = reached_once reached.unfolds (reader.right schema term type accepted) in
+    is ∙ ap₂ (λ (a : TypeTree) (t : PlacedTerm). normal_form schema.tables a (bare t)) (ap element_type same) once
+
+-- and its line is what is written
+pub line_shown : (schema : Schema) (term : PlacedTerm) (form : FormTree) (text line : List ℕ) → text ≡ printed_text form → line ≡ text ++ 10 ∷ []
+    → (reader : PlainReading) (type : TypeTree) → form ≡ shown_form reader schema term type → line ≡ form_line (shown_form reader schema term type)
+unfolding form_line
+line_shown schema term form text line printed pushed reader type is =
+    pushed ∙ ap (λ (l : List ℕ). l ++ 10 ∷ []) (printed ∙ ap printed_text is)
 
 -- What compiling a query says of its type, of the paths and of the texts.
 module _ (schema : Schema) (term : PlacedTerm) (result : TypeTree) (places : List (List Step)) (texts : List (List ℕ)) where
@@ -104,31 +124,6 @@ module _ (held : Option Files) (aim : Aim) (schema : Schema) (term : PlacedTerm)
           → IfSome h (λ files. (reading : Reading) → GatherTells (run_judged reading.plain files folder schema term type) old new result)
       go None all = tt
       go (Some files) all = λ reading. all reading.plain type read
-
-  -- a text that is written without a fetch
-  pub aim_says : (said text : List ℕ) (old : Told) → ((plain : PlainReading) (files : Files) → aim_judged plain files aim schema term type ≡ at_once (written said)) → text ≡ said
-      → AimTells old old (Ok (gathered.Text text))
-  aim_says said text old comes same = says held comes
-    where
-      says : (h : Option Files) → ((plain : PlainReading) (files : Files) → aim_judged plain files aim schema term type ≡ at_once (written said))
-          → IfSome h (λ files. (reading : Reading) → GatherTells (aim_judged reading.plain files aim schema term type) old old (Ok (gathered.Text text)))
-      says None all = tt
-      says (Some files) all = λ reading.
-          let P : Judgement → Type 0 = λ j. GatherTells j old old (Ok (gathered.Text text)) in
-          subst P (sym (all reading.plain files)) (record { comes_to = same; fetched = tells_nothing old old refl; shreds = tt })
-
-  -- SQL texts that are shown
-  pub aim_shows : (text : List ℕ) (old : Told) → aim ≡ show_sql → type_read schema term ≡ Ok type
-      → ((plain : PlainReading) (k : TypeTree) → type_read schema term ≡ Ok k → Shows text (shown_texts plain schema term k)) → AimTells old old (Ok (gathered.Text text))
-  unfolding aim_judged
-  aim_shows text old is read shows = go held
-    where
-      go : (h : Option Files) → IfSome h (λ files. (reading : Reading) → GatherTells (aim_judged reading.plain files aim schema term type) old old (Ok (gathered.Text text)))
-      go None = tt
-      go (Some files) = λ reading.
-          let P : Aim → Type 0 = λ a. GatherTells (aim_judged reading.plain files a schema term type) old old (Ok (gathered.Text text)) in
-          let all = shows reading.plain type read in
-          subst P (sym is) (record { comes_to = all.is; fetched = tells_nothing old old refl; shreds = all.shreds })
 
   -- a query whose type was read comes to what the aim comes to
   pub term_tells : (old new : Told) (result : Result Gathered InputRefusal) → type_read schema term ≡ Ok type → AimTells old new result

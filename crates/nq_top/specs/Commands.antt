@@ -5,19 +5,22 @@ use Rattle.nq_model.specs.Types.{TypeTree}
 use Rattle.nq_model.specs.TypeTexts.{written_type}
 
 -- What is done with a query that is accepted: its value is written, over the table texts of a folder; or
--- that it is accepted; or its type; or the paths of its type; or the SQL texts that shred it.
+-- that it is accepted; or its type; or its normal form; or the paths of its type; or the SQL texts that shred it.
 pub data Aim : Type 0 where
   run : List ℕ → Aim
   check : Aim
   show_types : Aim
+  show_normal : Aim
   show_paths : Aim
   show_sql : Aim
 
--- a text on the program is written, or a query is put to an aim: the names of a schema and of the query
+-- a text on the program is written; or a query is put to an aim: the names of a schema and of the query; or the rows of
+-- an SQL text are written: the names of a schema, of the text and of a folder
 pub data Command : Type 0 where
   help : Command
   version : Command
   of_query : Aim → List ℕ → List ℕ → Command
+  answer : List ℕ → List ℕ → List ℕ → Command
 
 -- `--help` or `--version`
 abbrev pub one_word : List ℕ → Option Command
@@ -31,13 +34,16 @@ three_words word schema query = cond (bytes_eq word (codes "check")) (Some (of_q
 abbrev pub shown : List ℕ → Option Aim
 shown what =
     cond (bytes_eq what (codes "types")) (Some show_types)
-    (cond (bytes_eq what (codes "paths")) (Some show_paths) (cond (bytes_eq what (codes "sql")) (Some show_sql) None))
+    (cond (bytes_eq what (codes "normal")) (Some show_normal)
+    (cond (bytes_eq what (codes "paths")) (Some show_paths) (cond (bytes_eq what (codes "sql")) (Some show_sql) None)))
 
--- `run SCHEMA QUERY DIR`, or `show` with `types`, `paths` or `sql` and SCHEMA QUERY
+-- `run SCHEMA QUERY DIR`, or `answer SCHEMA SQLFILE DIR`, or `show` with `types`, `normal`, `paths` or
+-- `sql` and SCHEMA QUERY
 abbrev pub four_words : List ℕ → List ℕ → List ℕ → List ℕ → Option Command
 four_words word second third fourth =
     cond (bytes_eq word (codes "run")) (Some (of_query (run fourth) second third))
-    (cond (bytes_eq word (codes "show")) (option_map (λ aim. of_query aim third fourth) (shown second)) None)
+    (cond (bytes_eq word (codes "answer")) (Some (answer second third fourth))
+    (cond (bytes_eq word (codes "show")) (option_map (λ aim. of_query aim third fourth) (shown second)) None))
 
 -- the command that words are, if they are a listed form
 unfoldable pub command_of : List (List ℕ) → Option Command
@@ -51,6 +57,7 @@ abbrev pub aim_asks : Aim → Bool
 aim_asks (run folder) = true
 aim_asks check = false
 aim_asks show_types = false
+aim_asks show_normal = false
 aim_asks show_paths = false
 aim_asks show_sql = false
 
@@ -59,6 +66,7 @@ asks_server None = false
 asks_server (Some help) = false
 asks_server (Some version) = false
 asks_server (Some (of_query aim schema query)) = aim_asks aim
+asks_server (Some (answer schema text folder)) = true
 
 -- the name of a table's text
 abbrev pub file_of : List ℕ → List ℕ → List ℕ

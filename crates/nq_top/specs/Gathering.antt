@@ -10,16 +10,18 @@ use Rattle.schema_reader.specs.declared.fault.SchemaFault.{SchemaFault}
 use Rattle.schema_reader.specs.declared.fault.SchemaFault.TheVariants as schema
 use Rattle.query_syntax.specs.declared.fault.SyntaxFault.{SyntaxFault}
 use Rattle.query_syntax.specs.declared.fault.SyntaxFault.TheVariants as query
+use Rattle.sql_reader.specs.declared.fault.SqlFault.{SqlFault}
+use Rattle.sql_reader.specs.declared.fault.SqlFault.TheVariants as sql
 use Rattle.nq_top.specs.Reading.{type_read}
 use Rattle.nq_serve.specs.Plans.{Plan, plan_view, IsServable}
 use Rattle.nq_serve.specs.declared.plan.Plan.{Plan as Asked}
 use Rattle.nq_top.specs.Judging.{Judgement, Verdict, missing, refused, written, planned}
-use Rattle.nq_top.specs.Plans.{AreReadFor, IsSound}
+use Rattle.nq_top.specs.Plans.{AreReadFor, Question, IsSound}
 use Rattle.nq_top.specs.Shown.{ShredsQuery}
 use Rattle.nq_top.specs.declared.gathered.Gathered.{Gathered}
 use Rattle.nq_top.specs.declared.gathered.Gathered.TheVariants as gathered
 use Rattle.nq_top.specs.declared.refusal.Refused.{Refused}
-use Rattle.nq_top.specs.declared.refusal.Refused.TheVariants.{Usage, TooLong, Schema as SchemaRefused, Query as QueryRefused, IllTyped, Table as TableRefused}
+use Rattle.nq_top.specs.declared.refusal.Refused.TheVariants.{Usage, TooLong, Schema as SchemaRefused, Query as QueryRefused, IllTyped, Table as TableRefused, Sql as SqlRefused, IllScoped}
 use Rattle.nq_top.specs.declared.refusal.InputRefusal.{InputRefusal}
 use Rattle.nq_top.specs.declared.refusal.InputRefusal.TheVariants as input
 
@@ -69,6 +71,8 @@ IsOfText (input.Refused (SchemaRefused fault)) = ⊤
 IsOfText (input.Refused (QueryRefused fault)) = ⊤
 IsOfText (input.Refused (IllTyped rule place)) = ⊤
 IsOfText (input.Refused (TableRefused failed fault)) = ⊤
+IsOfText (input.Refused (SqlRefused fault)) = ⊤
+IsOfText (input.Refused (IllScoped rule place)) = ⊤
 IsOfText (input.Failed failed) = ⊥
 
 -- the refusal for a fault of a schema text
@@ -93,6 +97,15 @@ query_refusal (query.Deep place) = input.Refused (QueryRefused (query.Deep place
 query_refusal (query.Unbound place) = input.Refused (QueryRefused (query.Unbound place))
 query_refusal (query.TwiceLabel place) = input.Refused (QueryRefused (query.TwiceLabel place))
 
+-- the refusal for a fault of an SQL text
+abbrev pub sql_refusal : SqlFault → InputRefusal
+sql_refusal sql.Memory = input.Memory
+sql_refusal (sql.NotUtf8 place) = input.Refused (SqlRefused (sql.NotUtf8 place))
+sql_refusal (sql.Token place) = input.Refused (SqlRefused (sql.Token place))
+sql_refusal (sql.Unexpected place) = input.Refused (SqlRefused (sql.Unexpected place))
+sql_refusal (sql.IntRange place) = input.Refused (SqlRefused (sql.IntRange place))
+sql_refusal (sql.Deep place) = input.Refused (SqlRefused (sql.Deep place))
+
 -- what an answer says of what a text is read as: it is this, or it is refused for this
 abbrev pub Refuses : {A : Type 0} → Result A Refused → InputRefusal → Type 0
 Refuses given input.Memory = ⊤
@@ -108,10 +121,10 @@ abbrev pub gathered_asks : Gathered → Bool
 gathered_asks (gathered.Plan asked) = true
 gathered_asks (gathered.Text text) = false
 
--- a plan that is the one of a query, and sound for it
-pub record HoldsPlan (plan : Plan) (query : PlacedTerm) (asked : Asked) : Type 0 where
+-- a plan that is the one of a question, and sound for it
+pub record HoldsPlan (plan : Plan) (question : Question) (asked : Asked) : Type 0 where
   pub is : plan_view asked ≡ plan
-  pub sound : IsSound plan query
+  pub sound : IsSound plan question
 
 -- the verdict is what gathered inputs come to
 abbrev pub ComesTo : Verdict → Gathered → Type 0
@@ -119,8 +132,8 @@ ComesTo (missing name) g = ⊥
 ComesTo (refused r) g = ⊥
 ComesTo (written said) (gathered.Text text) = text ≡ said
 ComesTo (written said) (gathered.Plan asked) = ⊥
-ComesTo (planned plan query) (gathered.Text text) = ⊥
-ComesTo (planned plan query) (gathered.Plan asked) = HoldsPlan plan query asked
+ComesTo (planned plan question) (gathered.Text text) = ⊥
+ComesTo (planned plan question) (gathered.Plan asked) = HoldsPlan plan question asked
 
 -- the inputs come to this, and all their names were fetched; SQL texts that are shown shred their query
 pub record Accepts (judgement : Judgement) (gathered : Gathered) (old new : Told) : Type 0 where

@@ -8,22 +8,22 @@ use Rattle.nq_model.specs.declared.table.TableShape.{TableShape}
 use Rattle.nq_edge.specs.Edge.{Files, bytes_at}
 use Rattle.show_texts.specs.Paths.{paths_text}
 use Rattle.sql_profile.specs.declared.server.Loaded.{Loaded}
-use Rattle.nq_top.specs.Commands.{Aim, run, check, show_types, show_paths, show_sql, Command, help, version, of_query, command_of, file_of, accepted_line, type_line}
+use Rattle.nq_top.specs.Commands.{Aim, run, check, show_types, show_normal, show_paths, show_sql, Command, help, version, of_query, answer, command_of, file_of, accepted_line, type_line}
 use Rattle.nq_top.specs.Help.{help_text, version_text}
 use Rattle.nq_serve.specs.Plans.{Plan}
-use Rattle.nq_top.specs.Plans.{query_plan}
-use Rattle.nq_top.specs.Reading.{PlainReading, Reading, schema_read, term_read, type_read, rows_read}
-use Rattle.nq_top.specs.Shown.{Shown, shown_texts, shown_frames}
+use Rattle.nq_top.specs.Plans.{Question, query_plan, sql_plan}
+use Rattle.nq_top.specs.Reading.{PlainReading, Reading, SqlColumns, schema_read, term_read, type_read, rows_read, sql_read}
+use Rattle.nq_top.specs.Shown.{Shown, shown_form, form_line, shown_texts, shown_frames}
 use Rattle.nq_top.specs.declared.refusal.Refused.{Refused}
 use Rattle.nq_top.specs.declared.refusal.Refused.TheVariants.{Usage, TooLong}
 
--- The first refusal; or a name that is not held, whose fetch fails; or the text that is written; or the plan of a query,
+-- The first refusal; or a name that is not held, whose fetch fails; or the text that is written; or the plan of a question,
 -- over the tables of the schema in its order.
 pub data Verdict : Type 0 where
   missing : List ℕ → Verdict
   refused : Refused → Verdict
   written : List ℕ → Verdict
-  planned : Plan → PlacedTerm → Verdict
+  planned : Plan → Question → Verdict
 
 -- the names that are fetched, in order, and what comes of them; and the SQL texts, where they are shown
 pub record Judgement : Type 0 where
@@ -69,13 +69,14 @@ tables_judged files folder (shape ∷ shapes) left done next =
 -- a query that is run
 abbrev pub run_judged : PlainReading → Files → List ℕ → Schema → PlacedTerm → TypeTree → Judgement
 run_judged plain files folder schema term type =
-    tables_judged files folder schema.tables 67108864 [] (λ tables. planned (query_plan plain schema term type tables) term)
+    tables_judged files folder schema.tables 67108864 [] (λ tables. planned (query_plan plain schema term type tables) (Question.query term))
 
 -- a query that is accepted with its type
 unfoldable pub aim_judged : PlainReading → Files → Aim → Schema → PlacedTerm → TypeTree → Judgement
 aim_judged plain files (run folder) schema term type = run_judged plain files folder schema term type
 aim_judged plain files check schema term type = at_once (written accepted_line)
 aim_judged plain files show_types schema term type = at_once (written (type_line type))
+aim_judged plain files show_normal schema term type = at_once (written (form_line (shown_form plain schema term type)))
 aim_judged plain files show_paths schema term type = at_once (written (paths_text type))
 aim_judged plain files show_sql schema term type = showing (shown_texts plain schema term type)
 
@@ -85,20 +86,36 @@ term_judged plain files aim schema term = read_then (type_read schema term) (λ 
 
 -- the query, after the schema
 abbrev pub query_judged : Reading → Files → Aim → Schema → List ℕ → Judgement
-query_judged reading files aim schema query =
-    fetched_then files query 1048576 (λ text. read_then (term_read reading.queries text) (λ term. term_judged reading.plain files aim schema term))
+query_judged reading files aim schema name =
+    fetched_then files name 1048576 (λ text. read_then (term_read reading.queries text) (λ term. term_judged reading.plain files aim schema term))
+
+-- an SQL text that was read and scoped: its rows are asked for, over the tables of the folder
+abbrev pub rows_judged : Files → List ℕ → Schema → SqlColumns → Judgement
+rows_judged files folder schema asked =
+    tables_judged files folder schema.tables 67108864 [] (λ tables. planned (sql_plan asked.0 asked.1 tables) (Question.sql asked.0))
+
+-- the SQL text, after the schema
+abbrev pub sql_judged : Reading → Files → Schema → List ℕ → List ℕ → Judgement
+sql_judged reading files schema name folder =
+    fetched_then files name 1048576 (λ text. read_then (sql_read reading.sqls schema text) (λ asked. rows_judged files folder schema asked))
+
+-- the schema, and then the SQL text
+abbrev pub answer_judged : Reading → Files → List ℕ → List ℕ → List ℕ → Judgement
+answer_judged reading files schema name folder =
+    fetched_then files schema 1048576 (λ text. read_then (schema_read reading.schemas text) (λ found. sql_judged reading files found name folder))
 
 -- the schema, and then the query
 abbrev pub schema_judged : Reading → Files → Aim → List ℕ → List ℕ → Judgement
-schema_judged reading files aim schema query =
-    fetched_then files schema 1048576 (λ text. read_then (schema_read reading.schemas text) (λ found. query_judged reading files aim found query))
+schema_judged reading files aim schema name =
+    fetched_then files schema 1048576 (λ text. read_then (schema_read reading.schemas text) (λ found. query_judged reading files aim found name))
 
 abbrev pub command_judged : Reading → Option Command → Files → Judgement
 command_judged reading None files = at_once (refused Usage)
 command_judged reading (Some help) files = at_once (written help_text)
 command_judged reading (Some version) files = at_once (written version_text)
-command_judged reading (Some (of_query aim schema query)) files = schema_judged reading files aim schema query
+command_judged reading (Some (of_query aim schema name)) files = schema_judged reading files aim schema name
+command_judged reading (Some (answer schema name folder)) files = answer_judged reading files schema name folder
 
--- the words, then the schema, then the query, then each table text in the order of the schema
+-- the words, then the schema, then the query or the SQL text, then each table text in the order of the schema
 unfoldable pub judgement : Reading → List (List ℕ) → Files → Judgement
 judgement reading words files = command_judged reading (command_of words) files

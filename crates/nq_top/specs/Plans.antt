@@ -1,5 +1,5 @@
--- The plan of a query, and what it comes to.
-use Rattle.std.specs.Prelude.{◌≡◌, ℕ, List, map}
+-- The plan of a query and of an SQL text, and what they come to.
+use Rattle.std.specs.Prelude.{◌≡◌, ℕ, List, [], ◌∷◌, map}
 use Rattle.nq_model.specs.Canonical.{canonical_text}
 use Rattle.nq_model.specs.QueryMeaning.{Means}
 use Rattle.nq_model.specs.SchemaTables.{AreTablesOf}
@@ -7,15 +7,19 @@ use Rattle.nq_model.specs.Terms.{PlacedTerm}
 use Rattle.nq_model.specs.Types.{TypeTree}
 use Rattle.nq_model.specs.Values.{Nested}
 use Rattle.nq_model.specs.declared.table.Cell.{Cell}
+use Rattle.nq_model.specs.declared.table.ColumnType.{ColumnType}
 use Rattle.nq_model.specs.declared.table.Schema.{Schema}
 use Rattle.nq_model.specs.declared.table.TableShape.{TableShape}
 use Rattle.nq_ir.specs.Paths.{paths}
 use Rattle.shred_types.specs.Columns.{columns_at}
 use Rattle.sql_profile.specs.Servers.{filled_of, held_of}
+use Rattle.sql_profile.specs.Texts.{TextAllows}
+use Rattle.sql_profile.specs.Tokens.{First}
 use Rattle.sql_profile.specs.declared.answer.Answer.{Answer}
 use Rattle.sql_profile.specs.declared.server.Loaded.{Loaded}
 use Rattle.stitcher.specs.Stitching.{rows_of}
-use Rattle.nq_serve.specs.Plans.{Plan, finished}
+use Rattle.nq_serve.specs.Plans.{Finish, Plan, finished}
+use Rattle.canon.specs.RowTexts.{rows_text}
 use Rattle.nq_serve.specs.Serving.{Allowed}
 use Rattle.nq_top.specs.Reading.{PlainReading}
 use Rattle.nq_top.specs.Shown.{shown_texts}
@@ -28,12 +32,21 @@ pub record AreReadFor (shapes : List TableShape) (tables : List Loaded) : Type 0
 
 -- the plan of a query of this type over tables: the texts that are shown for it
 unfoldable pub query_plan : PlainReading → Schema → PlacedTerm → TypeTree → List Loaded → Plan
-query_plan plain schema query type tables = record {
+query_plan plain schema term type tables = record {
   tables = tables;
-  texts = (shown_texts plain schema query type).texts;
+  texts = (shown_texts plain schema term type).texts;
   columns = map (columns_at type) (paths type);
-  type = type;
+  finish = Finish.value type;
 }
+
+-- the plan of an SQL text with columns of these types
+abbrev pub sql_plan : List ℕ → List ColumnType → List Loaded → Plan
+sql_plan text types tables = record { tables = tables; texts = text ∷ []; columns = types ∷ []; finish = Finish.rows }
+
+-- what a server is asked for: the value of a query, or the rows of an SQL text
+pub data Question : Type 0 where
+  query : PlacedTerm → Question
+  sql : List ℕ → Question
 
 -- the text is the canonical text of the nested multiset that the query means over the tables
 pub record IsMeant (tables : List Loaded) (query : PlacedTerm) (text : List ℕ) : Type 0 where
@@ -41,6 +54,17 @@ pub record IsMeant (tables : List Loaded) (query : PlacedTerm) (text : List ℕ)
   pub means : Means (map filled_of tables) query value
   pub is : text ≡ canonical_text value
 
--- whatever answers SQL allows to the texts of a plan, each by itself, their value is what the query means
-abbrev pub IsSound : Plan → PlacedTerm → Type 0
-IsSound plan query = (answers : List Answer) → Allowed plan.tables plan.texts answers → IsMeant plan.tables query (finished plan.type (rows_of answers))
+-- the text is that of rows that SQL allows to the SQL text over the tables
+pub record IsAllowed (tables : List Loaded) (asked : List ℕ) (text : List ℕ) : Type 0 where
+  pub answer : List (List Cell)
+  pub allowed : TextAllows First tables asked answer
+  pub is : text ≡ rows_text answer
+
+-- the text is an answer to the question over the tables
+abbrev pub Settles : List Loaded → Question → List ℕ → Type 0
+Settles tables (Question.query term) text = IsMeant tables term text
+Settles tables (Question.sql asked) text = IsAllowed tables asked text
+
+-- whatever answers SQL allows to the texts of a plan, each by itself, what is written of them is an answer to the question
+abbrev pub IsSound : Plan → Question → Type 0
+IsSound plan question = (answers : List Answer) → Allowed plan.tables plan.texts answers → Settles plan.tables question (finished plan.finish (rows_of answers))

@@ -4,6 +4,8 @@ use Rattle.schema_reader.specs.declared.fault.SchemaFault.{SchemaFault}
 use Rattle.schema_reader.specs.declared.fault.SchemaFault.TheVariants as schema
 use Rattle.query_syntax.specs.declared.fault.SyntaxFault.{SyntaxFault}
 use Rattle.query_syntax.specs.declared.fault.SyntaxFault.TheVariants as query
+use Rattle.sql_reader.specs.declared.fault.SqlFault.{SqlFault}
+use Rattle.sql_reader.specs.declared.fault.SqlFault.TheVariants as sql
 use Rattle.table_reader.specs.declared.TableFault.{TableFault}
 use Rattle.table_reader.specs.declared.TableFault.TheVariants as table
 use Rattle.nq_top.specs.declared.refusal.Refused.{Refused}
@@ -22,6 +24,8 @@ refused_status (refused.Schema fault) = 3
 refused_status (refused.Query fault) = 4
 refused_status (refused.IllTyped rule place) = 5
 refused_status (refused.Table name fault) = 6
+refused_status (refused.Sql fault) = 12
+refused_status (refused.IllScoped rule place) = 12
 
 abbrev pub input_status : InputRefusal → ℕ
 input_status input.Memory = 1
@@ -79,6 +83,22 @@ query_note (query.TwiceLabel place) = query_fault_note (codes "TwiceLabel") plac
 abbrev pub type_note : ℕ → ℕ → List ℕ
 type_note rule place = codes "nq: ill typed: rule " ++ (decimal rule ++ (codes " at " ++ (decimal place ++ codes "\n")))
 
+-- the line of a fault of an SQL text; want of memory is none
+abbrev pub sql_fault_note : List ℕ → ℕ → List ℕ
+sql_fault_note fault place = codes "nq: sql refused: " ++ (fault ++ (codes " at " ++ (decimal place ++ codes "\n")))
+
+abbrev pub sql_note : SqlFault → List ℕ
+sql_note sql.Memory = memory_note
+sql_note (sql.NotUtf8 place) = sql_fault_note (codes "NotUtf8") place
+sql_note (sql.Token place) = sql_fault_note (codes "Token") place
+sql_note (sql.Unexpected place) = sql_fault_note (codes "Unexpected") place
+sql_note (sql.IntRange place) = sql_fault_note (codes "IntRange") place
+sql_note (sql.Deep place) = sql_fault_note (codes "Deep") place
+
+-- the line of a broken rule of scope
+abbrev pub scope_note : ℕ → ℕ → List ℕ
+scope_note rule place = codes "nq: sql refused: rule " ++ (decimal rule ++ (codes " at " ++ (decimal place ++ codes "\n")))
+
 -- the line of a fault of a table text with two numbers, each after its words
 abbrev pub table_fault_note : List ℕ → List ℕ → ℕ → List ℕ → ℕ → List ℕ
 table_fault_note name words first more second =
@@ -101,6 +121,8 @@ refused_note (refused.Schema fault) = schema_note fault
 refused_note (refused.Query fault) = query_note fault
 refused_note (refused.IllTyped rule place) = type_note rule place
 refused_note (refused.Table name fault) = table_note name fault
+refused_note (refused.Sql fault) = sql_note fault
+refused_note (refused.IllScoped rule place) = scope_note rule place
 
 abbrev pub input_note : InputRefusal → List ℕ
 input_note input.Memory = memory_note

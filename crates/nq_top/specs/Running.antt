@@ -2,7 +2,6 @@
 use Rattle.std.specs.Prelude.{◌≡◌, ◌⊎◌, ◌==◌, ◌||◌, ℕ, Bool, true, ⊤, List, [], ◌∷◌, ◌++◌, All, get_or, MatchBool, Option, Some, slice_get, IfSome, Result, Ok, Err}
 use Rattle.std.specs.List.{list_any}
 use Rattle.nq_model.specs.Cells.{RowFits}
-use Rattle.nq_model.specs.Terms.{PlacedTerm}
 use Rattle.nq_edge.specs.Edge.{Files, Rose, TellsMore, AppendsPrefix}
 use Rattle.sql_profile.specs.Servers.{Asks, RoseBelow}
 use Rattle.sql_profile.specs.declared.answer.Answer.{Answer as Answered}
@@ -11,7 +10,7 @@ use Rattle.nq_serve.specs.Serving.{ServerState, RefusalCounts}
 use Rattle.nq_serve.specs.declared.refusal.ServerRefusal.{ServerRefusal}
 use Rattle.nq_top.specs.Gathering.{Told, InputCounts, Judges, RefusalTells}
 use Rattle.nq_top.specs.Judging.{Judgement, Verdict, missing, refused, written, planned}
-use Rattle.nq_top.specs.Plans.{IsMeant}
+use Rattle.nq_top.specs.Plans.{Question, Settles}
 use Rattle.nq_top.specs.Noting.{Notes}
 use Rattle.nq_top.specs.Refusals.{status_of}
 use Rattle.nq_top.specs.Shown.{ShredsQuery}
@@ -23,9 +22,9 @@ use Rattle.nq_top.specs.declared.refusal.Refusal.TheVariants as refusal
 abbrev pub Answer : Type 0
 Answer = Result (Unit {0}) Refusal
 
--- what a server says of the text that it serves for the plan of a query, or of its refusal
+-- what a server says of the text that it serves for the plan of a question, or of its refusal
 abbrev pub Served : Type 1
-Served = Plan → PlacedTerm → Result (List ℕ) ServerRefusal → Type 0
+Served = Plan → Question → Result (List ℕ) ServerRefusal → Type 0
 
 -- 1. what each count did, by the answer
 
@@ -83,7 +82,7 @@ abbrev pub Gives : Served → Verdict → List ℕ → Type 0
 Gives served (missing name) text = ⊥
 Gives served (refused r) text = ⊥
 Gives served (written said) text = text ≡ said
-Gives served (planned plan query) text = served plan query (Ok text)
+Gives served (planned plan question) text = served plan question (Ok text)
 
 -- the inputs are accepted, all their names were fetched, and the text that they give was put; SQL texts that are
 -- shown shred their query
@@ -94,12 +93,12 @@ pub record Writes (served : Served) (judgement : Judgement) (old new : Told) (pu
   pub puts : put text
   pub shreds : IfSome judgement.shown ShredsQuery
 
--- the inputs come to the plan of a query, for which the server gives no text
+-- the inputs come to the plan of a question, for which the server gives no text
 pub record ServesNone (served : Served) (judgement : Judgement) (old new : Told) (r : ServerRefusal) : Type 0 where
   pub plan : Plan
-  pub query : PlacedTerm
-  pub judges : Judges judgement (planned plan query) old new
-  pub serves : served plan query (Err r)
+  pub question : Question
+  pub judges : Judges judgement (planned plan question) old new
+  pub serves : served plan question (Err r)
 
 abbrev pub Tells : Served → Judgement → Told → Told → Option (List ℕ) → Option (List ℕ) → Answer → Type 0
 Tells served judgement old new out_old out_new (Ok _) = Writes served judgement old new (TellsMore out_old out_new)
@@ -107,11 +106,11 @@ Tells served judgement old new out_old out_new (Err (refusal.Input r)) = Refusal
 Tells served judgement old new out_old out_new (Err (refusal.Server r)) = ServesNone served judgement old new r
 Tells served judgement old new out_old out_new (Err refusal.OutputFailed) = Writes served judgement old new (AppendsPrefix out_old out_new)
 
--- what is known of a server that is not seen again: the text of an honest one is that of what the query
--- means, and its answers fit
+-- what is known of a server that is not seen again: the text of an honest one is an answer to the question, and its
+-- answers fit
 abbrev pub Means : Bool → Served
-Means honest plan query (Ok text) = honest ≡ true → IsMeant plan.tables query text
-Means honest plan query (Err r) = RefusalBlames honest r
+Means honest plan question (Ok text) = honest ≡ true → Settles plan.tables question text
+Means honest plan question (Err r) = RefusalBlames honest r
 
 -- 4. what a status says
 
@@ -156,7 +155,7 @@ abbrev pub IsDue : (Plan → Type 0) → Verdict → Type 0
 IsDue fair (missing name) = ⊥
 IsDue fair (refused r) = ⊥
 IsDue fair (written text) = ⊤
-IsDue fair (planned plan query) = fair plan
+IsDue fair (planned plan question) = fair plan
 
 -- Where the inputs are accepted, no call on them or on the output failed, and a server that is asked does
 -- not fail and is fair, the run succeeds but for want of memory.

@@ -1,5 +1,5 @@
 -- The words of a command as the program has them.
-use Rattle.nq_top.specs.Commands.{Aim, run, check, show_types, show_paths, show_sql, Command, help, version, of_query}
+use Rattle.nq_top.specs.Commands.{Aim, run, check, show_types, show_normal, show_paths, show_sql, Command, help, version, of_query, answer}
 use Rattle.nq_top.specs.declared.words.Aim.{Aim as Aims}
 use Rattle.nq_top.specs.declared.words.Aim.TheVariants as aim
 use Rattle.nq_top.specs.declared.words.Command.{Command as Words}
@@ -9,6 +9,7 @@ abbrev pub aim_view : Aims → Aim
 aim_view (aim.Run folder) = run folder.now
 aim_view aim.Check = check
 aim_view aim.ShowTypes = show_types
+aim_view aim.ShowNormal = show_normal
 aim_view aim.ShowPaths = show_paths
 aim_view aim.ShowSql = show_sql
 
@@ -16,3 +17,4 @@ abbrev pub command_view : Words → Command
 command_view words.Help = help
 command_view words.Version = version
 command_view (words.OfQuery aim schema query) = of_query (aim_view aim) schema.now query.now
+command_view (words.Answer schema text folder) = answer schema.now text.now folder.now

@@ -8,6 +8,9 @@ use nq_edge::{FetchFault, Inputs};
 use nq_model::{List, Text};
 use std::alloc::Global;
 
+/// The most bytes of a schema, of a query and of an SQL text.
+pub const TEXT_LIMIT: u64 = 1_048_576;
+
 /// The bytes of an input. Its name is handed over, since a call that failed leaves no room for want of
 /// memory.
 pub fn fetch_input<I: Inputs>(

@@ -4,45 +4,40 @@ ghost use Rattle.nq_model.specs.Proper.{IsProperTerm};
 ghost use Rattle.nq_model.specs.Tables.{IsProperSchema};
 ghost use Rattle.nq_model.specs.Terms.{placed, bare};
 ghost use Rattle.nq_model.specs.Types.{TypeTree, type_tree};
-ghost use Rattle.nq_serve.specs.Plans.{plan_view};
+ghost use Rattle.nq_serve.specs.Plans.{plan_view, value};
 ghost use Rattle.nq_top.specs.Commands.{command_of, aim_asks, asks_server, type_line};
 ghost use Rattle.nq_top.specs.Words.{aim_view};
 ghost use Rattle.nq_top.specs.Reading.{Reading, PlainReading, type_read};
 ghost use Rattle.nq_top.specs.Judging.{judgement, schema_judged, query_judged, term_judged, aim_judged, run_judged};
 ghost use Rattle.nq_top.specs.Gathering.{InputCounts, GatherTells, IsTyped, CanServe, gathered_asks};
 
-use crate::fetch::fetch_input;
+use crate::answer::gather_answer;
+use crate::fetch::{TEXT_LIMIT, fetch_input};
 use crate::gathered::Gathered;
 use crate::help::{help_text, version_text};
 use crate::read::{schema_of, term_of, type_of};
 use crate::refusal::{InputRefusal, Refused};
-use crate::shown::shown_text;
-use crate::tables::gather_tables;
+use crate::shown::{normal_text, shown_text};
+use crate::tables::{TABLES_LIMIT, gather_tables};
 use crate::words::{Aim, Command, command_of};
 use nq_compile::{Compiled, compile};
 use nq_edge::Inputs;
 use nq_model::{List, Memory, Schema, Term, Text, Ty};
-use nq_serve::Plan;
+use nq_serve::{Finish, Plan};
 use nq_types::write_type;
 use show_texts::paths_text;
 use sql_profile::Loaded;
 use std::alloc::Global;
 
-/// The most bytes of a schema and of a query.
-const TEXT_LIMIT: u64 = 1_048_576;
-
-/// The most bytes of all table texts together.
-const TABLES_LIMIT: u64 = 67_108_864;
-
 // What a server is asked for a compiled query over tables.
 fn plan_of(compiled: Compiled, tables: List<Loaded>) -> Plan
-    ensures { plan_view result ≡ record { tables = tables; texts = compiled.texts; columns = compiled.columns; type = type_tree compiled.result } }
+    ensures { plan_view result ≡ record { tables = tables; texts = compiled.texts; columns = compiled.columns; finish = value (type_tree compiled.result) } }
 {
     Plan {
         tables,
         texts: compiled.texts,
         columns: compiled.columns,
-        result: compiled.result,
+        finish: Finish::Value(compiled.result),
     }
 }
 
@@ -111,6 +106,7 @@ fn gather_aim<I: Inputs>(
         Aim::Run(folder) => gather_run(alloc, inputs, folder, schema, term),
         Aim::Check => Ok(Gathered::Text(List::from_slice(alloc, b"ok\n")?)),
         Aim::ShowTypes => Ok(Gathered::Text(type_line(alloc, ty)?)),
+        Aim::ShowNormal => Ok(Gathered::Text(normal_text(alloc, schema, term)?)),
         Aim::ShowPaths => Ok(Gathered::Text(paths_text(alloc, ty)?)),
         Aim::ShowSql => Ok(Gathered::Text(shown_text(alloc, schema, term)?)),
     }
@@ -193,7 +189,7 @@ fn gather_schema<I: Inputs>(
     }
 }
 
-/// Reads the inputs of the command that words are: the schema, the query and, where a server is to be
+/// Reads the inputs of the command that words are: the schema, the query or SQL text and, where a server is to be
 /// asked, the text of each table in the order of the schema, each judged before the next is fetched.
 pub fn gather<I: Inputs>(
     alloc: Global,
@@ -213,6 +209,9 @@ pub fn gather<I: Inputs>(
     match command_of(words) {
         Some(Command::OfQuery(aim, schema, query)) => {
             gather_schema(alloc, inputs, aim, schema, query)
+        }
+        Some(Command::Answer(schema, file, folder)) => {
+            gather_answer(alloc, inputs, schema, file, folder)
         }
         Some(Command::Help) => Ok(Gathered::Text(help_text(alloc)?)),
         Some(Command::Version) => Ok(Gathered::Text(version_text(alloc)?)),

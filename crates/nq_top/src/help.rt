@@ -14,15 +14,17 @@ pub fn help_text(alloc: Global) -> Result<List<u8>, Memory>
         alloc,
         b"nq answers typed queries over flat tables.
 
-nq run SCHEMA QUERY DIR     writes the value of the query over the tables of DIR
-nq check SCHEMA QUERY       writes ok where the query is accepted
-nq show types SCHEMA QUERY  writes the type of the query
-nq show paths SCHEMA QUERY  writes a line for each bag constructor of the type
-nq show sql SCHEMA QUERY    writes an SQL text for each bag constructor of the type
-nq --help                   writes this text
-nq --version                writes the name and the version of the program
+nq run SCHEMA QUERY DIR       writes the value of the query over the tables of DIR
+nq answer SCHEMA SQLFILE DIR  writes the rows of the SQL text over the tables of DIR
+nq check SCHEMA QUERY         writes ok where the query is accepted
+nq show types SCHEMA QUERY    writes the type of the query
+nq show normal SCHEMA QUERY   writes the normal form of the query, which is a query itself
+nq show paths SCHEMA QUERY    writes a line for each bag constructor of the type
+nq show sql SCHEMA QUERY      writes an SQL text for each bag constructor of the type
+nq --help                     writes this text
+nq --version                  writes the name and the version of the program
 
-SCHEMA and QUERY are files, and the table t is the file DIR/t.csv.
+SCHEMA, QUERY and SQLFILE are files, and the table t is the file DIR/t.csv.
 README.md explains the statuses, under Commands.
 ",
     )

@@ -1,6 +1,7 @@
 //! The top calls: a whole run, with its note line and its status.
 #![tactic(auto)]
 
+mod answer;
 mod fetch;
 mod gather;
 mod gathered;

@@ -1,6 +1,6 @@
 // The note line of an answer, put in pieces, which takes no memory.
 ghost use Rattle.nq_edge.specs.Lines.{PutsLine};
-ghost use Rattle.nq_top.specs.Refusals.{schema_fault_note, schema_note, query_fault_note, query_note, type_note, table_fault_note, table_note, refused_note, input_note, server_note, note_of};
+ghost use Rattle.nq_top.specs.Refusals.{schema_fault_note, schema_note, query_fault_note, query_note, type_note, sql_fault_note, sql_note, scope_note, table_fault_note, table_note, refused_note, input_note, server_note, note_of};
 ghost use Rattle.nq_top.specs.Noting.{Notes};
 
 use crate::refusal::{InputRefusal, Refusal, Refused};
@@ -9,6 +9,7 @@ use nq_edge::{Sink, put_five, put_one, put_seven, put_three};
 use nq_parser::SyntaxFault;
 use nq_serve::ServerRefusal;
 use schema_reader::SchemaFault;
+use sql_reader::SqlFault;
 use table_reader::TableFault;
 
 // Puts that an input is too long.
@@ -92,6 +93,50 @@ fn put_ill_typed<N: Sink>(notes: &mut N, rule: u8, place: u64)
     let rule = rule_digits.format(rule).as_bytes();
     let place = place_digits.format(place).as_bytes();
     put_five(notes, b"nq: ill typed: rule ", rule, b" at ", place, b"\n");
+}
+
+// Puts that an SQL text has a fault at a place.
+fn put_sql_fault<N: Sink>(notes: &mut N, fault: &[u8], place: u64)
+    ensures { PutsLine (N.written notes.old) (N.written notes.new) (N.faults notes.old) (N.faults notes.new)
+        (sql_fault_note fault.now place) }
+{
+    let mut digits = Buffer::new();
+    let place = digits.format(place).as_bytes();
+    put_five(notes, b"nq: sql refused: ", fault, b" at ", place, b"\n");
+}
+
+// Puts the fault of an SQL text.
+fn put_sql<N: Sink>(notes: &mut N, fault: &SqlFault)
+    ensures { PutsLine (N.written notes.old) (N.written notes.new) (N.faults notes.old) (N.faults notes.new)
+        (sql_note fault.now) }
+{
+    match *fault {
+        SqlFault::Memory => put_one(notes, b"nq: want of memory\n"),
+        SqlFault::NotUtf8 { place } => put_sql_fault(notes, b"NotUtf8", place),
+        SqlFault::Token { place } => put_sql_fault(notes, b"Token", place),
+        SqlFault::Unexpected { place } => put_sql_fault(notes, b"Unexpected", place),
+        SqlFault::IntRange { place } => put_sql_fault(notes, b"IntRange", place),
+        SqlFault::Deep { place } => put_sql_fault(notes, b"Deep", place),
+    }
+}
+
+// Puts that an SQL text breaks a rule of scope at a place.
+fn put_ill_scoped<N: Sink>(notes: &mut N, rule: u8, place: u64)
+    ensures { PutsLine (N.written notes.old) (N.written notes.new) (N.faults notes.old) (N.faults notes.new)
+        (scope_note rule place) }
+{
+    let mut rule_digits = Buffer::new();
+    let mut place_digits = Buffer::new();
+    let rule = rule_digits.format(rule).as_bytes();
+    let place = place_digits.format(place).as_bytes();
+    put_five(
+        notes,
+        b"nq: sql refused: rule ",
+        rule,
+        b" at ",
+        place,
+        b"\n",
+    );
 }
 
 // Puts that a row of a table text has another number of cells.
@@ -205,6 +250,8 @@ fn put_refused<N: Sink>(notes: &mut N, refused: &Refused)
         Refused::Query(fault) => put_query(notes, fault),
         Refused::IllTyped { rule, place } => put_ill_typed(notes, *rule, *place),
         Refused::Table(name, fault) => put_table(notes, name.as_str().as_bytes(), fault),
+        Refused::Sql(fault) => put_sql(notes, fault),
+        Refused::IllScoped { rule, place } => put_ill_scoped(notes, *rule, *place),
     }
 }
 

@@ -1,20 +1,26 @@
-// Reads the text of a schema and of a query, and types a query.
-ghost use Rattle.std.specs.Prelude.{◌≡◌, IfOk, IfErr, Ok};
+// Reads the text of a schema, of a query and of SQL, types a query, and scopes an SQL text.
+ghost use Rattle.std.specs.Prelude.{◌≡◌, ℕ, List, IfOk, IfErr, Ok};
 ghost use Rattle.nq_model.specs.Proper.{IsProperTerm};
-ghost use Rattle.nq_model.specs.Tables.{IsProperSchema};
+ghost use Rattle.nq_compile.specs.Shreds.{IsScopedText};
+ghost use Rattle.nq_model.specs.Tables.{Columns, IsProperSchema, types_of};
 ghost use Rattle.nq_model.specs.Terms.{placed, bare};
 ghost use Rattle.nq_model.specs.Types.{type_tree};
-ghost use Rattle.nq_top.specs.Reading.{SchemaReading, QueryReading, schema_read, term_read, type_read};
-ghost use Rattle.nq_top.specs.Gathering.{ReadSays, IsOfText, schema_refusal, query_refusal};
+ghost use Rattle.sql_profile.specs.Scope.{IsWellScoped, judge, shapes_of_schema};
+ghost use Rattle.sql_profile.specs.Trees.{placed as placed_sql, sql_tree};
+ghost use Rattle.nq_top.specs.Reading.{SchemaReading, QueryReading, SqlReading, schema_read, term_read, type_read, scoped_as, sql_read};
+ghost use Rattle.nq_top.specs.Gathering.{ReadSays, IsOfText, schema_refusal, query_refusal, sql_refusal};
 
 use crate::refusal::{InputRefusal, Refused};
-use nq_model::{Schema, Term, Ty};
+use nq_model::{ColumnType, List, Schema, Term, Ty};
 use nq_parser::{SyntaxFault, parse};
 use nq_types::{CheckFault, check};
 use schema_reader::{SchemaFault, read_schema};
+use sql_profile::SqlText;
+use sql_reader::{SqlFault, read_sql};
+use sql_scope::{ScopeFault, scope};
 use std::alloc::Global;
 
-/// The greatest depth of a query, and of a type in it.
+/// The greatest depth of a query, of a type in it, and of an SQL text.
 const DEPTH: u64 = 200;
 
 // The refusal for a fault of a schema text.
@@ -46,6 +52,20 @@ fn query_refusal(fault: SyntaxFault) -> InputRefusal
         SyntaxFault::Deep { .. } => InputRefusal::Refused(Refused::Query(fault)),
         SyntaxFault::Unbound { .. } => InputRefusal::Refused(Refused::Query(fault)),
         SyntaxFault::TwiceLabel { .. } => InputRefusal::Refused(Refused::Query(fault)),
+    }
+}
+
+// The refusal for a fault of an SQL text.
+fn sql_refusal(fault: SqlFault) -> InputRefusal
+    ensures { result ≡ sql_refusal fault }
+{
+    match fault {
+        SqlFault::Memory => InputRefusal::Memory,
+        SqlFault::NotUtf8 { .. } => InputRefusal::Refused(Refused::Sql(fault)),
+        SqlFault::Token { .. } => InputRefusal::Refused(Refused::Sql(fault)),
+        SqlFault::Unexpected { .. } => InputRefusal::Refused(Refused::Sql(fault)),
+        SqlFault::IntRange { .. } => InputRefusal::Refused(Refused::Sql(fault)),
+        SqlFault::Deep { .. } => InputRefusal::Refused(Refused::Sql(fault)),
     }
 }
 
@@ -87,5 +107,46 @@ pub fn type_of(alloc: Global, schema: &Schema, term: &Term) -> Result<Ty, InputR
         Err(CheckFault::Ill { rule, place }) => {
             Err(InputRefusal::Refused(Refused::IllTyped { rule, place }))
         }
+    }
+}
+
+// The types of the columns of an SQL tree over a schema, or the first rule of scope that it breaks.
+#[tactic(auto, using(crate::proofs::SqlReadings::scope_rules))]
+fn scoped_columns(
+    alloc: Global,
+    schema: &Schema,
+    tree: &SqlText,
+) -> Result<List<ColumnType>, InputRefusal>
+    ensures says { (text : List ℕ) → ReadSays (λ types. (text, types)) (scoped_as text (judge (shapes_of_schema schema.now.tables) (placed_sql tree.now))) result }
+    ensures scoped { IfOk result (λ types. (columns : Columns) × IsWellScoped (shapes_of_schema schema.now.tables) (sql_tree tree.now) columns × (types ≡ types_of columns)) }
+    ensures refused { IfErr result IsOfText }
+{
+    match scope(alloc, schema, tree) {
+        Ok(types) => Ok(types),
+        Err(ScopeFault::Memory) => Err(InputRefusal::Memory),
+        Err(ScopeFault::Broken { rule, place }) => {
+            Err(InputRefusal::Refused(Refused::IllScoped { rule, place }))
+        }
+    }
+}
+
+/// The types of the columns of an SQL text over a schema; or its fault, or the first rule of scope that it breaks.
+#[tactic(auto, using(crate::proofs::SqlReadings::sql_rules))]
+pub fn columns_of(
+    alloc: Global,
+    schema: &Schema,
+    text: &[u8],
+) -> Result<List<ColumnType>, InputRefusal>
+    ensures says { (reading : SqlReading) → ReadSays (λ types. (text.now, types)) (sql_read reading schema.now text.now) result }
+    ensures scoped { IfOk result (λ types. IsScopedText schema.now types text.now) }
+    ensures refused { IfErr result IsOfText }
+{
+    match read_sql(alloc, text, DEPTH) {
+        Ok(tree) => {
+            let columns = scoped_columns(alloc, schema, &tree);
+            drop(tree);
+            columns
+        }
+        Err(fault) => Err(sql_refusal(fault)),
     }
 }

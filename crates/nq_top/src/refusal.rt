@@ -3,6 +3,7 @@ use nq_model::{Label, Memory, Text};
 use nq_parser::SyntaxFault;
 use nq_serve::ServerRefusal;
 use schema_reader::SchemaFault;
+use sql_reader::SqlFault;
 use table_reader::TableFault;
 
 /// What the words and the inputs are refused for.
@@ -20,6 +21,10 @@ pub enum Refused {
     IllTyped { rule: u8, place: u64 },
     /// The text of the table of this name is refused.
     Table(Label, TableFault),
+    /// The bytes of the SQL text spell none.
+    Sql(SqlFault),
+    /// The SQL text breaks this rule of scope at this place, first in the order of judging.
+    IllScoped { rule: u8, place: u64 },
 }
 
 /// Why no inputs were gathered.

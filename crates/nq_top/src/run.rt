@@ -5,7 +5,7 @@ ghost use Rattle.nq_top.specs.Reading.{Reading};
 ghost use Rattle.nq_top.specs.Judging.{judgement};
 ghost use Rattle.nq_serve.specs.Serving.{ServerCounts};
 ghost use Rattle.nq_top.specs.Gathering.{CanServe, gathered_asks};
-ghost use Rattle.nq_top.specs.Serving.{StaysHonest, TextTells, LeavesServer, QueryTells};
+ghost use Rattle.nq_top.specs.Serving.{StaysHonest, TextTells, LeavesServer, QuestionTells};
 ghost use Rattle.nq_top.specs.Running.{InputCount, OutputCount, ServerCount, PutsOnly, Keeps, AskedOnly, Blames, Tells};
 
 use crate::gather::gather;
@@ -71,7 +71,7 @@ pub fn run<I: Inputs, O: Sink>(
     ensures asked { AskedOnly (asks_server (command_of (map (λ word. string_bytes word) words.now))) result }
     ensures blames { Blames (honest server.old) result }
     ensures tells { IfSome (I.held inputs.old) (λ files. (reading : Reading) → Tells
-        (λ plan query. QueryTells plan query
+        (λ plan question. QuestionTells plan question
         (record { loaded = loaded server.old; asks = asks server.old }) (record { loaded = loaded server.new; asks = asks server.new })
         (honest server.old))
         (judgement reading (map (λ word. string_bytes word) words.now) files)

@@ -16,6 +16,9 @@ use sql_profile::Loaded;
 use std::alloc::Global;
 use table_reader::{TableFault, read_table};
 
+/// The most bytes of all table texts together.
+pub const TABLES_LIMIT: u64 = 67_108_864;
+
 // The name of a table's text.
 fn file_of(alloc: Global, folder: &str, table: &str) -> Result<Text, Memory>
     ensures { IfOk result (λ name. name ≡ file_of folder.now table.now) }

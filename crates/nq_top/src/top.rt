@@ -6,7 +6,7 @@ ghost use Rattle.nq_top.specs.Commands.{command_of, asks_server};
 ghost use Rattle.nq_top.specs.Reading.{Reading};
 ghost use Rattle.nq_top.specs.Judging.{judgement};
 ghost use Rattle.nq_top.specs.Refusals.{status_of};
-ghost use Rattle.nq_top.specs.Serving.{StaysHonest, LeavesServer, QueryTells};
+ghost use Rattle.nq_top.specs.Serving.{StaysHonest, LeavesServer, QuestionTells};
 ghost use Rattle.nq_top.specs.Running.{RoseAt, ServerRoseAt, PutsAt, KeepsAt, AskedAt, Tells, Means, Comes, Completes, Serves};
 
 use crate::note::put_note;
@@ -28,6 +28,7 @@ fn refused_status(refused: &Refused) -> u8
         Refused::Query(_) => 4,
         Refused::IllTyped { .. } => 5,
         Refused::Table(..) => 6,
+        Refused::Sql(_) | Refused::IllScoped { .. } => 12,
     }
 }
 
@@ -86,7 +87,7 @@ pub fn nq_lent<I: Inputs, O: Sink, N: Sink>(
     ensures blames { result ≡ 11 → honest server.old ≡ true → ⊥ }
     ensures comes { Comes (I.held inputs.old)
         (λ files answer. (reading : Reading) → Tells
-        (λ plan query. QueryTells plan query
+        (λ plan question. QuestionTells plan question
         (record { loaded = loaded server.old; asks = asks server.old }) (record { loaded = loaded server.new; asks = asks server.new })
         (honest server.old))
         (judgement reading (map (λ word. string_bytes word) words.now) files)
@@ -108,7 +109,7 @@ pub fn nq_lent<I: Inputs, O: Sink, N: Sink>(
 ///
 /// Its clauses are those of `nq_lent` that do not name the server after the call: 9 comes only where the
 /// server's count of faults was below its bound, and where the server is honest the text of a query that is run
-/// is the canonical text of what the query means over the tables.
+/// is the canonical text of what the query means over the tables, and that of an SQL text is of rows that SQL allows to it.
 pub fn nq_main<I: Inputs, O: Sink, N: Sink>(
     alloc: Global,
     words: &[String],

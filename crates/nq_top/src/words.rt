@@ -12,6 +12,8 @@ pub enum Aim<'a> {
     Check,
     /// Its type is written.
     ShowTypes,
+    /// Its normal form is written.
+    ShowNormal,
     /// The paths of its type are written.
     ShowPaths,
     /// The SQL texts that shred it are written.
@@ -25,6 +27,8 @@ pub enum Command<'a> {
     Version,
     /// An aim, with the names of the schema and of the query.
     OfQuery(Aim<'a>, &'a str, &'a str),
+    /// The names of the schema, of the SQL text and of the folder of the table texts.
+    Answer(&'a str, &'a str, &'a str),
 }
 
 // The command of one word.
@@ -57,6 +61,8 @@ fn shown<'a>(what: &str) -> Option<Aim<'a>>
 {
     if what == "types" {
         Some(Aim::ShowTypes)
+    } else if what == "normal" {
+        Some(Aim::ShowNormal)
     } else if what == "paths" {
         Some(Aim::ShowPaths)
     } else if what == "sql" {
@@ -77,6 +83,8 @@ fn four_words<'a>(
 {
     if word == "run" {
         Some(Command::OfQuery(Aim::Run(fourth), second, third))
+    } else if word == "answer" {
+        Some(Command::Answer(second, third, fourth))
     } else if word == "show" {
         match shown(second) {
             Some(aim) => Some(Command::OfQuery(aim, third, fourth)),

@@ -1,5 +1,5 @@
 use Rattle.std.proofs.Common.{rules, Some, refl}
-use Rattle.nq_top.specs.Commands.{of_query, help, version}
+use Rattle.nq_top.specs.Commands.{of_query, answer, help, version}
 use Rattle.nq_top.specs.Help.{help_text, version_text}
 use Rattle.nq_top.specs.Words.{aim_view}
 use Rattle.nq_top.proofs.Gathers.{command_goes, writes_at_once, refused_at_once}
@@ -9,6 +9,11 @@ pub returns-in-Some-OfQuery-clause-tells : goal.returns-in-Some-OfQuery-clause-t
 returns-in-Some-OfQuery-clause-tells g c =
     command_goes _ _ (Some (of_query (aim_view c.in-Some-OfQuery.aim) c.in-Some-OfQuery.schema.now c.in-Some-OfQuery.query.now)) _ _ c.gather_schema.result
     (search rules) c.gather_schema.ensures.tells
+
+pub returns-in-Some-Answer-clause-tells : goal.returns-in-Some-Answer-clause-tells
+returns-in-Some-Answer-clause-tells g c =
+    command_goes _ _ (Some (answer c.in-Some-Answer.schema.now c.in-Some-Answer.file.now c.in-Some-Answer.folder.now)) _ _ c.gather_answer.result
+    (search rules) c.gather_answer.ensures.tells
 
 pub returns-in_ok-help_text-in-Some-Help-clause-tells : goal.returns-in_ok-help_text-in-Some-Help-clause-tells
 returns-in_ok-help_text-in-Some-Help-clause-tells g c =

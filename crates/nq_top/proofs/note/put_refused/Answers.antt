@@ -5,3 +5,6 @@ returns-in-TooLong g c = rw c.in-TooLong.is (rw c.as_str.ensures.value at (rw c.
 
 pub returns-in-IllTyped : goal.returns-in-IllTyped
 returns-in-IllTyped g c = rw c.in-IllTyped.is c.put_ill_typed.ensures
+
+pub returns-in-IllScoped : goal.returns-in-IllScoped
+returns-in-IllScoped g c = rw c.in-IllScoped.is c.put_ill_scoped.ensures

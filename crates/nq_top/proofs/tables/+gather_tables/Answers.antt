@@ -1,7 +1,6 @@
 use Rattle.std.proofs.Common.{◌≡◌, ◌∙◌, ◌-◌, ◌∷◌, ℕ, List, Result, Err, IfSome, ap, sym, subst, rules}
 use Rattle.nq_model.specs.declared.table.TableShape.{TableShape}
 use Rattle.sql_profile.specs.declared.server.Loaded.{Loaded}
-use Rattle.nq_edge.specs.Edge.{Files}
 use Rattle.nq_top.specs.Commands.{file_of}
 use Rattle.nq_top.specs.Judging.{Verdict, tables_judged}
 use Rattle.nq_top.specs.Gathering.{TablesTell}

@@ -1,0 +1,161 @@
+// Whole runs that write the rows of SQL texts.
+use crate::runs::{Wanted, check_run_over, padded};
+use nq_edge::HeldInputs;
+use nq_model::{List, Text};
+use plain_engine::{CrookedServer, PlainServer};
+use sql_profile::SqlServer;
+use std::alloc::Global;
+use std::test::Fail;
+
+const ORG: &str = "table departments (name: text);
+table employees (dept: text, name: text, salary: int);
+table tasks (employee: text, task: text);
+table contacts (dept: text, name: text, client: bool);
+";
+
+// A schema and an SQL text; and the status, the output and the note that are wanted.
+#[derive(Clone, Copy)]
+struct Row {
+    schema: &'static str,
+    sql: &'static str,
+    status: u8,
+    out: &'static str,
+    note: &'static str,
+}
+
+const EARLY: Row = Row {
+    schema: ORG,
+    sql: "SELECT \"x\".\"name\" AS \"n\" FROM \"departments\" AS \"x\" WHERE (\"x\".\"name\" < 'R')",
+    status: 0,
+    out: "rows 2\n'Product'\n'Quality'\n",
+    note: "",
+};
+
+const REFUSED: Row = Row {
+    status: 12,
+    out: "",
+    ..EARLY
+};
+
+const ROWS: [Row; 10] = [
+    EARLY,
+    Row {
+        sql: "SELECT \"d\".\"name\" AS \"n\" FROM \"departments\" AS \"d\" WHERE (NOT EXISTS (SELECT 1 AS \"one\" FROM \"employees\" AS \"e\" WHERE (\"e\".\"dept\" = \"d\".\"name\")))",
+        out: "rows 2\n'Quality'\n'Research'\n",
+        ..EARLY
+    },
+    // A WITH query has one list of rows, whatever numbers it deals.
+    Row {
+        schema: "table t (a: int);",
+        sql: "WITH \"w\" AS (SELECT \"x\".\"a\" AS \"a\", ROW_NUMBER() OVER () AS \"n\" FROM \"t\" AS \"x\") SELECT \"u\".\"a\" AS \"a\", \"v\".\"a\" AS \"b\" FROM \"w\" AS \"u\", \"w\" AS \"v\" WHERE (\"u\".\"n\" = \"v\".\"n\")",
+        out: "rows 2\n5|5\n6|6\n",
+        ..EARLY
+    },
+    // FALSE stands before TRUE, and then the numbers decide.
+    Row {
+        sql: "SELECT (\"e\".\"dept\" = 'Product') AS \"p\", (1000 - \"e\".\"salary\") AS \"s\", \"e\".\"name\" AS \"n\" FROM \"employees\" AS \"e\"",
+        out: "rows 3\nfalse|-1999000|'Erik'\ntrue|-19000|'Alex'\ntrue|100|'Bert'\n",
+        ..EARLY
+    },
+    Row {
+        sql: "SELECT 'it''s' AS \"n\" UNION ALL SELECT 'it' AS \"n\" UNION ALL SELECT 'it' AS \"n\"",
+        out: "rows 3\n'it'\n'it'\n'it''s'\n",
+        ..EARLY
+    },
+    Row {
+        sql: "SELECT 1 AS \"n\" WHERE FALSE",
+        out: "rows 0\n",
+        ..EARLY
+    },
+    Row {
+        sql: "SELECT 1",
+        note: "nq: sql refused: Unexpected at 8\n",
+        ..REFUSED
+    },
+    Row {
+        sql: "SELECT \"y\".\"name\" AS \"n\"",
+        note: "nq: sql refused: rule 3 at 7\n",
+        ..REFUSED
+    },
+    // The SQL text is judged before the texts of the tables.
+    Row {
+        schema: "table tasks (a: int);",
+        sql: "SELECT \"x\".\"a\" AS \"n\" FROM \"t\" AS \"x\"",
+        note: "nq: sql refused: rule 1 at 27\n",
+        ..REFUSED
+    },
+    Row {
+        schema: "table tasks (a: int);",
+        sql: "SELECT \"x\".\"a\" AS \"n\" FROM \"tasks\" AS \"x\"",
+        status: 6,
+        note: "nq: table tasks refused: Header\n",
+        ..REFUSED
+    },
+];
+
+// The names of the held texts, but for the schema and the SQL text, and their bytes.
+const HELD: [(&str, &str); 5] = [
+    (
+        "data/departments.csv",
+        "name\nProduct\nQuality\nResearch\nSales\n",
+    ),
+    (
+        "data/employees.csv",
+        "dept,name,salary\nProduct,Alex,20000\nProduct,Bert,900\nSales,Erik,2000000\n",
+    ),
+    (
+        "data/tasks.csv",
+        "employee,task\nAlex,build\nBert,build\nErik,call\nErik,enthuse\n",
+    ),
+    (
+        "data/contacts.csv",
+        "dept,name,client\nProduct,Pam,false\nQuality,Quinn,true\nSales,Sue,true\n",
+    ),
+    ("data/t.csv", "a\n5\n6\n"),
+];
+
+// The inputs of a row, with so many spaces before its SQL text.
+fn inputs_of(alloc: Global, row: &Row, blanks: usize) -> Result<HeldInputs, Fail> {
+    let mut files = List::new(alloc);
+    files.push((Text::from_str(alloc, "org")?, padded(alloc, 0, row.schema)?))?;
+    files.push((Text::from_str(alloc, "s")?, padded(alloc, blanks, row.sql)?))?;
+    for (name, text) in &HELD {
+        files.push((Text::from_str(alloc, name)?, padded(alloc, 0, text)?))?;
+    }
+    Ok(HeldInputs::new(alloc, files, List::new(alloc))?)
+}
+
+// What is wanted of a run of a row.
+fn wanted(row: &Row) -> Wanted {
+    Wanted {
+        words: &["answer", "org", "s", "data"],
+        room: 200,
+        status: row.status,
+        out: row.out,
+        note: row.note,
+    }
+}
+
+#[test]
+fn writes_the_rows_of_each_text(rt: HostRuntime) -> Result<(), Fail> {
+    let alloc = rt.alloc();
+    for row in &ROWS {
+        let plain: Box<dyn SqlServer> = Box::new(alloc, PlainServer::new(alloc))?;
+        check_run_over(&rt, alloc, plain, inputs_of(alloc, row, 0)?, &wanted(row))?;
+        let crooked: Box<dyn SqlServer> = Box::new(alloc, CrookedServer::new(alloc))?;
+        check_run_over(&rt, alloc, crooked, inputs_of(alloc, row, 0)?, &wanted(row))?;
+    }
+    let long = Row {
+        status: 10,
+        note: "nq: input too long: s over 1048576\n",
+        ..REFUSED
+    };
+    let plain: Box<dyn SqlServer> = Box::new(alloc, PlainServer::new(alloc))?;
+    check_run_over(
+        &rt,
+        alloc,
+        plain,
+        inputs_of(alloc, &long, 1_048_576)?,
+        &wanted(&long),
+    )
+}

@@ -1,0 +1,122 @@
+// Reads the inputs of `answer`: the schema, the SQL text and the table texts, each judged before the next.
+ghost use Rattle.std.specs.Prelude.{◌≡◌, ◌≢◌, ◌∷◌, [], true, IfOk, IfSome, Err};
+ghost use Rattle.nq_compile.specs.Shreds.{IsScopedText};
+ghost use Rattle.nq_model.specs.Tables.{IsProperSchema};
+ghost use Rattle.nq_serve.specs.Plans.{plan_view, rows};
+ghost use Rattle.nq_top.specs.Reading.{Reading};
+ghost use Rattle.nq_top.specs.Judging.{rows_judged, sql_judged, answer_judged};
+ghost use Rattle.nq_top.specs.Gathering.{InputCounts, GatherTells, CanServe, gathered_asks};
+
+use crate::fetch::{TEXT_LIMIT, fetch_input};
+use crate::gathered::Gathered;
+use crate::read::{columns_of, schema_of};
+use crate::refusal::{InputRefusal, Refused};
+use crate::tables::{TABLES_LIMIT, gather_tables};
+use nq_edge::Inputs;
+use nq_model::{ColumnType, List, Memory, Schema, Text};
+use nq_serve::{Finish, Plan};
+use sql_profile::Loaded;
+use std::alloc::Global;
+
+// A list of one item.
+fn only<T: Drop>(alloc: Global, item: T) -> Result<List<T>, Memory>
+    ensures { IfOk result (λ list. list ≡ item ∷ []) }
+{
+    let mut list = List::with_capacity(alloc, 1)?;
+    list.push(item)?;
+    Ok(list)
+}
+
+// What a server is asked for the rows of SQL texts over tables.
+fn plan_of(texts: List<List<u8>>, columns: List<List<ColumnType>>, tables: List<Loaded>) -> Plan
+    ensures { plan_view result ≡ record { tables = tables; texts = texts; columns = columns; finish = rows } }
+{
+    Plan {
+        tables,
+        texts,
+        columns,
+        finish: Finish::Rows,
+    }
+}
+
+// Reads the tables of an SQL text that was read and scoped.
+#[tactic(auto, using(crate::proofs::Gathers::gather_rules))]
+fn gather_rows<I: Inputs>(
+    alloc: Global,
+    inputs: &mut I,
+    folder: &str,
+    schema: &Schema,
+    text: List<u8>,
+    types: List<ColumnType>,
+) -> Result<Gathered, InputRefusal>
+    requires proper { IsProperSchema schema.now }
+    requires scoped { IsScopedText schema.now types text }
+    ensures counts { InputCounts (I.faults inputs.old) (I.faults inputs.new) result }
+    ensures listed { result ≢ Err (InputRefusal.Refused Refused.Usage) }
+    ensures servable { IfOk result CanServe }
+    ensures asks { IfOk result (λ gathered. gathered_asks gathered ≡ true) }
+    ensures tells { IfSome (I.held inputs.old) (λ files. (reading : Reading) →
+        GatherTells (rows_judged files folder.now schema.now (text, types)) (I.fetched inputs.old) (I.fetched inputs.new) result) }
+{
+    let texts = only(alloc, text)?;
+    let columns = only(alloc, types)?;
+    let shapes = schema.tables.as_slice();
+    let tables = gather_tables(
+        alloc,
+        inputs,
+        folder,
+        shapes,
+        TABLES_LIMIT,
+        List::new(alloc),
+    )?;
+    Ok(Gathered::Plan(plan_of(texts, columns, tables)))
+}
+
+// Reads and scopes the SQL text, and then reads the tables.
+#[tactic(auto, using(crate::proofs::Gathers::gather_rules))]
+fn gather_sql<I: Inputs>(
+    alloc: Global,
+    inputs: &mut I,
+    schema: &Schema,
+    file: &str,
+    folder: &str,
+) -> Result<Gathered, InputRefusal>
+    requires { IsProperSchema schema.now }
+    ensures counts { InputCounts (I.faults inputs.old) (I.faults inputs.new) result }
+    ensures listed { result ≢ Err (InputRefusal.Refused Refused.Usage) }
+    ensures servable { IfOk result CanServe }
+    ensures asks { IfOk result (λ gathered. gathered_asks gathered ≡ true) }
+    ensures tells { IfSome (I.held inputs.old) (λ files. (reading : Reading) →
+        GatherTells (sql_judged reading files schema.now file.now folder.now) (I.fetched inputs.old) (I.fetched inputs.new) result) }
+{
+    let name = Text::from_str(alloc, file)?;
+    let text = fetch_input(alloc, inputs, name, TEXT_LIMIT)?;
+    match columns_of(alloc, schema, text.as_slice()) {
+        Ok(types) => gather_rows(alloc, inputs, folder, schema, text, types),
+        Err(refusal) => Err(refusal),
+    }
+}
+
+/// Reads the schema, the SQL text and the table texts.
+#[tactic(auto, using(crate::proofs::Gathers::gather_rules))]
+pub fn gather_answer<I: Inputs>(
+    alloc: Global,
+    inputs: &mut I,
+    schema: &str,
+    file: &str,
+    folder: &str,
+) -> Result<Gathered, InputRefusal>
+    ensures counts { InputCounts (I.faults inputs.old) (I.faults inputs.new) result }
+    ensures listed { result ≢ Err (InputRefusal.Refused Refused.Usage) }
+    ensures servable { IfOk result CanServe }
+    ensures asks { IfOk result (λ gathered. gathered_asks gathered ≡ true) }
+    ensures tells { IfSome (I.held inputs.old) (λ files. (reading : Reading) →
+        GatherTells (answer_judged reading files schema.now file.now folder.now) (I.fetched inputs.old) (I.fetched inputs.new) result) }
+{
+    let name = Text::from_str(alloc, schema)?;
+    let text = fetch_input(alloc, inputs, name, TEXT_LIMIT)?;
+    match schema_of(alloc, text.as_slice()) {
+        Ok(found) => gather_sql(alloc, inputs, &found, file, folder),
+        Err(refusal) => Err(refusal),
+    }
+}
