@@ -1,21 +1,23 @@
-// What the plain server and the crooked one answer: as SQL says, and in the order that each is said to have.
+// What the plain server, the fast one and the crooked one answer: as SQL says, and in the order that each is said
+// to have.
 ghost use Rattle.std.specs.Prelude.{◌≡◌, ◌<◌, []};
 
 use crate::asked::{ask, shown};
 use crate::tables::{load_both, schema};
+use fast_engine::FastServer;
 use plain_engine::{CrookedServer, PlainServer};
 use sql_profile::SqlServer;
 use std::alloc::Global;
 use std::process::Abort;
 use std::test::Fail;
 
-// A text, and its answers by the plain server and by the crooked one.
+// A text, and its answers by the plain server and the fast one, and by the crooked one.
 struct Case {
     text: &'static str,
     answers: [&'static str; 2],
 }
 
-const CASES: [Case; 9] = [
+const CASES: [Case; 18] = [
     // Ties.
     Case {
         text: r#"SELECT "x"."b" AS "b", ROW_NUMBER() OVER (ORDER BY "x"."a") AS "n" FROM "t" AS "x""#,
@@ -59,6 +61,54 @@ const CASES: [Case; 9] = [
         text: r#"SELECT (9223372036854775807 + "x"."b") AS "s" FROM "t" AS "x" WHERE ("x"."b" = 1)"#,
         answers: ["-9223372036854775808 ;", "-9223372036854775808 ;"],
     },
+    // A condition on the first source and the last.
+    Case {
+        text: r#"SELECT "x"."b" AS "b", "y"."b" AS "c", "z"."b" AS "d" FROM "t" AS "x", "t" AS "y", "t" AS "z" WHERE (("x"."a" = "z"."a") AND ("z"."b" > "x"."b"))"#,
+        answers: ["1 1 3 ;1 2 3 ;1 3 3 ;", "1 3 3 ;1 2 3 ;1 1 3 ;"],
+    },
+    // No equality.
+    Case {
+        text: r#"SELECT "x"."b" AS "b", "y"."b" AS "c" FROM "t" AS "x", "t" AS "y" WHERE ("x"."b" < "y"."b")"#,
+        answers: ["1 2 ;1 3 ;2 3 ;", "2 3 ;1 3 ;1 2 ;"],
+    },
+    // An equality with a constant.
+    Case {
+        text: r#"SELECT "x"."b" AS "b", "y"."a" AS "c" FROM "t" AS "x", "t" AS "y" WHERE (2 = "y"."b")"#,
+        answers: ["1 6 ;2 6 ;3 6 ;", "3 6 ;2 6 ;1 6 ;"],
+    },
+    // Truth values as keys.
+    Case {
+        text: r#"WITH "w" AS (SELECT ("x"."a" = 5) AS "k", "x"."b" AS "b" FROM "t" AS "x") SELECT "u"."b" AS "b", "v"."b" AS "c" FROM "w" AS "u", "w" AS "v" WHERE ("u"."k" = "v"."k")"#,
+        answers: [
+            "1 1 ;1 3 ;2 2 ;3 1 ;3 3 ;",
+            "1 1 ;1 3 ;2 2 ;3 1 ;3 3 ;",
+        ],
+    },
+    // Texts as keys that share a long beginning.
+    Case {
+        text: r#"WITH "w" AS (SELECT 'the same long beginning, one' AS "k", "x"."b" AS "b" FROM "t" AS "x" WHERE ("x"."b" < 3) UNION ALL SELECT 'the same long beginning, two' AS "k", "x"."b" AS "b" FROM "t" AS "x" WHERE ("x"."b" > 1)) SELECT "u"."b" AS "b", "v"."b" AS "c" FROM "w" AS "u", "w" AS "v" WHERE (("u"."k" = "v"."k") AND ("u"."b" < "v"."b"))"#,
+        answers: ["1 2 ;2 3 ;", "2 3 ;1 2 ;"],
+    },
+    // Two equalities of one pair of sources.
+    Case {
+        text: r#"SELECT "x"."b" AS "b" FROM "t" AS "x", "t" AS "y" WHERE (("x"."a" = "y"."a") AND ("x"."b" = "y"."b"))"#,
+        answers: ["1 ;2 ;3 ;", "3 ;2 ;1 ;"],
+    },
+    // A key from outside, which some rows match.
+    Case {
+        text: r#"SELECT "x"."b" AS "b" FROM "t" AS "x" WHERE (NOT EXISTS (SELECT 1 AS "o" FROM "t" AS "y" WHERE (("y"."a" = "x"."a") AND ("y"."b" > "x"."b"))))"#,
+        answers: ["2 ;3 ;", "3 ;2 ;"],
+    },
+    // A key from outside, which no row matches.
+    Case {
+        text: r#"SELECT "x"."b" AS "b" FROM "t" AS "x" WHERE (NOT EXISTS (SELECT 1 AS "o" FROM "t" AS "y" WHERE ("x"."a" = "y"."b")))"#,
+        answers: ["1 ;2 ;3 ;", "3 ;2 ;1 ;"],
+    },
+    // A union of joins.
+    Case {
+        text: r#"SELECT "x"."b" AS "b" FROM "t" AS "x", "t" AS "y" WHERE (("x"."b" = "y"."b") AND ("x"."a" = 6)) UNION ALL SELECT "x"."b" AS "b" FROM "t" AS "x", "t" AS "y" WHERE (("x"."a" = "y"."a") AND ("y"."b" = 3))"#,
+        answers: ["2 ;1 ;3 ;", "2 ;3 ;1 ;"],
+    },
 ];
 
 fn check(
@@ -88,6 +138,13 @@ fn check(
 fn plain(rt: HostRuntime) -> Result<(), Fail> {
     let alloc = rt.alloc();
     let mut server: Box<dyn SqlServer> = Box::new(alloc, PlainServer::new(alloc))?;
+    check(&rt, alloc, &mut server, 0)
+}
+
+#[test]
+fn fast(rt: HostRuntime) -> Result<(), Fail> {
+    let alloc = rt.alloc();
+    let mut server: Box<dyn SqlServer> = Box::new(alloc, FastServer::new(alloc))?;
     check(&rt, alloc, &mut server, 0)
 }
 

@@ -7,7 +7,7 @@ ghost use Rattle.sql_profile.specs.Trees.{placed};
 
 use nq_model::Memory;
 use rows::Rows;
-use sql_eval::{Arrangement, evaluate};
+use sql_eval::{Arrangement, Joining, evaluate};
 use sql_profile::{Loaded, SqlText};
 use sql_reader::{SqlFault, read_sql};
 use std::alloc::Global;
@@ -25,17 +25,18 @@ fn tree_of(alloc: Global, text: &[u8]) -> Result<SqlText, Memory>
     }
 }
 
-/// The answer to a text that may be asked over the held tables.
-pub(crate) fn answer_text(
+/// The answer to a text that may be asked over the held tables. The only error is that memory wants.
+pub fn answer_text(
     alloc: Global,
     held: &[Loaded],
     text: &[u8],
+    joining: Joining,
     arrangement: Arrangement,
 ) -> Result<Rows, Memory>
     requires { IsAskable First held.now text.now }
     ensures { IfOk result (TextAllows First held.now text.now) }
 {
     let tree = tree_of(alloc, text)?;
-    let rows = evaluate(alloc, held, &tree, arrangement)?;
+    let rows = evaluate(alloc, held, &tree, joining, arrangement)?;
     Ok(rows)
 }

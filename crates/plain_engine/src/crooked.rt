@@ -4,7 +4,7 @@ ghost use Rattle.std.proofs.Common.{lit≤};
 
 use crate::answering::answer_text;
 use nq_model::List;
-use sql_eval::Arrangement;
+use sql_eval::{Arrangement, Joining};
 use sql_profile::{Answer, Loaded, ServerFault, SqlServer};
 use std::alloc::Global;
 
@@ -50,7 +50,13 @@ impl SqlServer for CrookedServer {
     }
 
     fn ask(&mut self, alloc: Global, text: &[u8]) -> Result<Answer, ServerFault> {
-        let rows = answer_text(alloc, self.tables.as_slice(), text, Arrangement::Reversed)?;
+        let rows = answer_text(
+            alloc,
+            self.tables.as_slice(),
+            text,
+            Joining::NestedLoops,
+            Arrangement::Reversed,
+        )?;
         Ok(Answer { rows })
     }
 }

@@ -11,7 +11,7 @@ ghost use Rattle.sql_profile.specs.Tokens.{First};
 use crate::answering::answer_text;
 use listed_calls::is_next_listed;
 use nq_model::List;
-use sql_eval::Arrangement;
+use sql_eval::{Arrangement, Joining};
 use sql_profile::{Answer, Loaded, ServerFault, SqlServer};
 use std::alloc::Global;
 
@@ -138,6 +138,7 @@ impl SqlServer for FailingServer {
             alloc,
             self.tables.as_slice(),
             text,
+            Joining::NestedLoops,
             Arrangement::AsTheyArise,
         )?;
         self.count_call();

@@ -7,6 +7,7 @@ mod failing;
 mod plain;
 mod scripted;
 
+pub use answering::answer_text;
 pub use crooked::CrookedServer;
 pub use failing::FailingServer;
 pub use plain::PlainServer;

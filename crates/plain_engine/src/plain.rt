@@ -4,7 +4,7 @@ ghost use Rattle.std.proofs.Common.{lit≤};
 
 use crate::answering::answer_text;
 use nq_model::List;
-use sql_eval::Arrangement;
+use sql_eval::{Arrangement, Joining};
 use sql_profile::{Answer, Loaded, ServerFault, SqlServer};
 use std::alloc::Global;
 
@@ -53,6 +53,7 @@ impl SqlServer for PlainServer {
             alloc,
             self.tables.as_slice(),
             text,
+            Joining::NestedLoops,
             Arrangement::AsTheyArise,
         )?;
         Ok(Answer { rows })

@@ -16,3 +16,8 @@ pub mod Resolving
 pub mod KeyMeanings
 pub mod Pieces
 pub mod Keeping
+pub mod Levels
+pub mod Agreeing
+pub mod Skipping
+pub mod Chaining
+pub mod Comparing

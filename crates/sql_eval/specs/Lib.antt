@@ -1,6 +1,10 @@
 pub mod Scopes
 pub mod Lists
 pub mod Combinations
+pub mod Comparisons
+pub mod Chains
+pub mod Keys
+pub mod Joins
 pub mod Walks
 pub mod Meanings
 pub mod Standing

@@ -2,10 +2,16 @@
 //! filtered. Its contract is the relation of allowed answers.
 #![tactic(auto)]
 
+mod access;
+mod accesses;
 mod answers;
 mod arrangement;
+mod chains;
+mod comparison;
+mod conjuncts;
 mod deal;
 mod items;
+mod joining;
 mod kept;
 mod kept_places;
 mod lists;
@@ -19,3 +25,4 @@ mod walk;
 
 pub use answers::evaluate;
 pub use arrangement::Arrangement;
+pub use joining::Joining;

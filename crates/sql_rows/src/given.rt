@@ -3,7 +3,7 @@ use crate::built::{Chosen, Keep, Named, Value, text_of};
 use crate::held::organisation;
 use nq_model::{Cell, List, Memory};
 use rows::Rows;
-use sql_eval::{Arrangement, evaluate};
+use sql_eval::{Arrangement, Joining, evaluate};
 use sql_plain::{Ties, evaluate_text};
 use std::alloc::Global;
 use std::process::Abort;
@@ -291,9 +291,11 @@ fn is_evaluated(rt: HostRuntime) -> Result<(), Memory> {
             .iter()
             .zip([row.rows[0], row.rows[2]].iter())
         {
-            let rows = evaluate(alloc, held.as_slice(), &text, *arrangement)?;
-            let list = listed(alloc, &rows)?;
-            assert_eq!(&rt; shown(alloc, list.as_slice())?.as_str(), *want);
+            for joining in &[Joining::NestedLoops, Joining::HashTables] {
+                let rows = evaluate(alloc, held.as_slice(), &text, *joining, *arrangement)?;
+                let list = listed(alloc, &rows)?;
+                assert_eq!(&rt; shown(alloc, list.as_slice())?.as_str(), *want);
+            }
         }
     }
     Ok(())

@@ -1,0 +1,61 @@
+// The fast server.
+ghost use Rattle.std.specs.Prelude.{◌≡◌, [], true, None};
+ghost use Rattle.std.proofs.Common.{lit≤};
+
+use nq_model::List;
+use plain_engine::answer_text;
+use sql_eval::{Arrangement, Joining};
+use sql_profile::{Answer, Loaded, ServerFault, SqlServer};
+use std::alloc::Global;
+
+/// A server that joins tables by hash tables on the equalities of WHERE, inside NOT EXISTS too. It is honest, never
+/// fails, and does not tell its asks. Rows come, and ties are numbered, in the order of nested loops.
+#[derive(Drop)]
+pub struct FastServer {
+    tables: List<Loaded>,
+}
+
+impl FastServer {
+    /// A server that holds no table.
+    pub fn new(alloc: Global) -> FastServer
+        ensures holds_none { ⟦<FastServer as SqlServer>⟧.loaded result ≡ [] }
+        ensures is_honest { ⟦<FastServer as SqlServer>⟧.honest result ≡ true }
+        ensures no_failures { ⟦<FastServer as SqlServer>⟧.failures result ≡ 0 }
+        ensures never_fails { ⟦<FastServer as SqlServer>⟧.bound result ≡ 0 }
+        ensures tells_none { ⟦<FastServer as SqlServer>⟧.asks result ≡ None }
+    {
+        FastServer {
+            tables: List::new(alloc),
+        }
+    }
+}
+
+impl SqlServer for FastServer {
+    ghost loaded = { λ server. server.tables };
+
+    ghost honest = { λ _. true };
+
+    ghost failures = { λ _. 0 };
+
+    ghost bound = { λ _. 0 };
+
+    ghost asks = { λ _. None };
+
+    ghost bounded = { λ _. lit≤ tt };
+
+    fn load(&mut self, alloc: Global, table: Loaded) -> Result<(), ServerFault> {
+        self.tables.push(table)?;
+        Ok(())
+    }
+
+    fn ask(&mut self, alloc: Global, text: &[u8]) -> Result<Answer, ServerFault> {
+        let rows = answer_text(
+            alloc,
+            self.tables.as_slice(),
+            text,
+            Joining::HashTables,
+            Arrangement::AsTheyArise,
+        )?;
+        Ok(Answer { rows })
+    }
+}
