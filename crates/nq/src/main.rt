@@ -1,9 +1,9 @@
 //! Runs the command that the words of the command line are, over files and the standard streams.
 #![tactic(auto)]
 
+use fast_engine::FastServer;
 use nq_edge::{FileInputs, StdSink};
 use nq_top::nq_main;
-use plain_engine::PlainServer;
 use sql_profile::SqlServer;
 use std::alloc::{AllocError, Global};
 use std::env;
@@ -32,7 +32,7 @@ fn words_of(rt: &HostRuntime) -> Result<Vec<String>, AllocError> {
 fn run(rt: &HostRuntime) -> Result<u8, AllocError> {
     let alloc = rt.alloc();
     let words = words_of(rt)?;
-    let server: Box<dyn SqlServer> = Box::new(alloc, PlainServer::new(alloc))?;
+    let server: Box<dyn SqlServer> = Box::new(alloc, FastServer::new(alloc))?;
     let mut inputs = FileInputs::new(rt);
     let mut out = StdSink::new(rt.stdout());
     let mut notes = StdSink::new(rt.stderr());
