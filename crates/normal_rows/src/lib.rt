@@ -8,4 +8,6 @@ mod deep;
 #[cfg(test)]
 mod forms;
 #[cfg(test)]
+mod printed;
+#[cfg(test)]
 mod told;

@@ -1,5 +1,6 @@
 // Whole runs of nested queries, over each server.
 use crate::runs::{Wanted, check_run, check_run_over, padded};
+use fast_engine::FastServer;
 use nq_edge::HeldInputs;
 use nq_model::{List, Text};
 use plain_engine::CrookedServer;
@@ -59,7 +60,7 @@ const TWICE_DEEP: Nested = Nested {
     ..TWICE
 };
 
-const NESTED: [Nested; 13] = [
+const NESTED: [Nested; 16] = [
     WHOLE,
     Nested {
         query: "table departments",
@@ -130,6 +131,21 @@ where (e.dept == c.dept && (if c.client then hi else lo)(e.salary)) [e.name]
         out: "{-9223372036854775808}\n",
         ..WHOLE
     },
+    Nested {
+        query: "for (a <- table departments) for (b <- table contacts) where (b.dept == a.name) [(n = b.name, one = [a.name])]",
+        out: "{(n = 'Pam', one = {'Product'}), (n = 'Quinn', one = {'Quality'}), (n = 'Sue', one = {'Sales'})}\n",
+        ..WHOLE
+    },
+    Nested {
+        query: "(for (d <- table departments) [(n = d.name, s = for (e <- table employees) where (e.dept == d.name) [e.name])]) ++ (for (c <- table contacts) where (c.client) [(n = c.name, s = [c.dept])])",
+        out: "{(n = 'Product', s = {'Alex', 'Bert'}), (n = 'Quality', s = {}), (n = 'Quinn', s = {'Quality'}), (n = 'Research', s = {}), (n = 'Sales', s = {'Erik'}), (n = 'Sue', s = {'Sales'})}\n",
+        ..WHOLE
+    },
+    Nested {
+        query: "for (d <- table departments) [(n = d.name, alone = for (e <- table employees) where (e.dept == d.name && empty(for (c <- table contacts) where (c.dept == d.name && c.name > e.name && !c.client) [c])) [e.name])]",
+        out: "{(alone = {}, n = 'Product'), (alone = {}, n = 'Quality'), (alone = {}, n = 'Research'), (alone = {'Erik'}, n = 'Sales')}\n",
+        ..WHOLE
+    },
 ];
 
 /// The inputs of a query.
@@ -180,6 +196,22 @@ fn writes_the_same_where_ties_and_rows_come_in_reverse(rt: HostRuntime) -> Resul
     let alloc = rt.alloc();
     for nested in &NESTED {
         let server: Box<dyn SqlServer> = Box::new(alloc, CrookedServer::new(alloc))?;
+        check_run_over(
+            &rt,
+            alloc,
+            server,
+            inputs_of(alloc, nested)?,
+            &wanted(nested),
+        )?;
+    }
+    Ok(())
+}
+
+#[test]
+fn writes_the_same_where_sources_are_joined_by_hash_tables(rt: HostRuntime) -> Result<(), Fail> {
+    let alloc = rt.alloc();
+    for nested in &NESTED {
+        let server: Box<dyn SqlServer> = Box::new(alloc, FastServer::new(alloc))?;
         check_run_over(
             &rt,
             alloc,

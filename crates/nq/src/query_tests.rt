@@ -119,7 +119,7 @@ const USAGE: Row = Row {
     ..CHECK
 };
 
-const ROWS: [Row; 50] = [
+const ROWS: [Row; 53] = [
     CHECK,
     Row {
         query: "[9223372036854775808]",
@@ -410,6 +410,42 @@ SELECT 0 AS "ot", 1 AS "on", "x1"."name" AS "c1", (NOT EXISTS (SELECT 1 AS "one"
     Row {
         words: &["Check", "org", "q"],
         ..USAGE
+    },
+    // A comprehension without generators, under one that has two.
+    Row {
+        query: "for (a <- table departments) for (b <- table contacts) where (b.dept == a.name) [(n = b.name, one = [a.name])]",
+        out: r#"-- / 231
+SELECT 0 AS "ot", 1 AS "on", "x2"."name" AS "c1", 1 AS "c2", ROW_NUMBER() OVER (ORDER BY "x1"."name", "x2"."dept", "x2"."name", "x2"."client") AS "c3" FROM "departments" AS "x1", "contacts" AS "x2" WHERE ("x2"."dept" = "x1"."name")
+;
+-- /[].one 375
+WITH "q.1" AS (SELECT "x1"."name" AS "x1.name", "x2"."dept" AS "x2.dept", "x2"."name" AS "x2.name", "x2"."client" AS "x2.client", ROW_NUMBER() OVER (ORDER BY "x1"."name", "x2"."dept", "x2"."name", "x2"."client") AS "n" FROM "departments" AS "x1", "contacts" AS "x2" WHERE ("x2"."dept" = "x1"."name")) SELECT 1 AS "ot", "z"."n" AS "on", "z"."x1.name" AS "c1" FROM "q.1" AS "z"
+;
+"#,
+        ..SQL
+    },
+    // Two parents at one path.
+    Row {
+        query: "(for (d <- table departments) [(n = d.name, s = for (e <- table employees) where (e.dept == d.name) [e.name])]) ++ (for (c <- table contacts) where (c.client) [(n = c.name, s = [c.dept])])",
+        out: r#"-- / 328
+SELECT 0 AS "ot", 1 AS "on", "x1"."name" AS "c1", 1 AS "c2", ROW_NUMBER() OVER (ORDER BY "x1"."name") AS "c3" FROM "departments" AS "x1" UNION ALL SELECT 0 AS "ot", 1 AS "on", "x3"."name" AS "c1", 3 AS "c2", ROW_NUMBER() OVER (ORDER BY "x3"."dept", "x3"."name", "x3"."client") AS "c3" FROM "contacts" AS "x3" WHERE "x3"."client"
+;
+-- /[].s 559
+WITH "q.1" AS (SELECT "x1"."name" AS "x1.name", ROW_NUMBER() OVER (ORDER BY "x1"."name") AS "n" FROM "departments" AS "x1"), "q.2" AS (SELECT "x3"."dept" AS "x3.dept", "x3"."name" AS "x3.name", "x3"."client" AS "x3.client", ROW_NUMBER() OVER (ORDER BY "x3"."dept", "x3"."name", "x3"."client") AS "n" FROM "contacts" AS "x3" WHERE "x3"."client") SELECT 1 AS "ot", "z"."n" AS "on", "x2"."name" AS "c1" FROM "q.1" AS "z", "employees" AS "x2" WHERE ("x2"."dept" = "z"."x1.name") UNION ALL SELECT 3 AS "ot", "z"."n" AS "on", "z"."x3.dept" AS "c1" FROM "q.2" AS "z"
+;
+"#,
+        ..SQL
+    },
+    // An emptiness test with columns from outside, of its SELECT and of its own.
+    Row {
+        query: "for (d <- table departments) [(n = d.name, alone = for (e <- table employees) where (e.dept == d.name && empty(for (c <- table contacts) where (c.dept == d.name && c.name > e.name && !c.client) [c])) [e.name])]",
+        out: r#"-- / 136
+SELECT 0 AS "ot", 1 AS "on", 1 AS "c1", ROW_NUMBER() OVER (ORDER BY "x1"."name") AS "c2", "x1"."name" AS "c3" FROM "departments" AS "x1"
+;
+-- /[].alone 412
+WITH "q.1" AS (SELECT "x1"."name" AS "x1.name", ROW_NUMBER() OVER (ORDER BY "x1"."name") AS "n" FROM "departments" AS "x1") SELECT 1 AS "ot", "z"."n" AS "on", "x2"."name" AS "c1" FROM "q.1" AS "z", "employees" AS "x2" WHERE (("x2"."dept" = "z"."x1.name") AND (NOT EXISTS (SELECT 1 AS "one" FROM "contacts" AS "x3" WHERE ((("x3"."dept" = "z"."x1.name") AND ("x3"."name" > "x2"."name")) AND (NOT "x3"."client")))))
+;
+"#,
+        ..SQL
     },
 ];
 

@@ -1,0 +1,125 @@
+// Queries with the texts of their normal forms, worked out by hand; each is read back, and prints as the same text.
+ghost use Rattle.nq_model.specs.Tables.{IsProperSchema};
+
+use crate::asked::{org, plain};
+use normal_printer::print_normal;
+use normalise::normalise;
+use nq_model::{List, Memory, Schema};
+use std::alloc::Global;
+use std::process::Abort;
+
+// A query, and the text of its normal form.
+const PRINTED: [(&str, &str); 22] = [
+    (
+        "let tasksOf = fun (e: text) ->
+           for (t <- table tasks) where (t.employee == e) [t.task];
+         for (d <- table departments)
+         [(department = d.name,
+           employees = for (e <- table employees) where (e.dept == d.name)
+             [(name = e.name, tasks = tasksOf(e.name))])]",
+        "for (x1 <- table departments) [(department = x1.name, employees = for (x2 <- table employees) where (x2.dept == x1.name) [(name = x2.name, tasks = for (x3 <- table tasks) where (x3.employee == x2.name) [x3.task])])]",
+    ),
+    (
+        "let lo = fun (n: int) -> n < 1000;
+         let hi = fun (n: int) -> n > 50000;
+         for (c <- table contacts) for (e <- table employees)
+         where (e.dept == c.dept && (if c.client then hi else lo)(e.salary)) [e.name]",
+        "for (x1 <- table contacts) for (x2 <- table employees) where (x2.dept == x1.dept && (if x1.client then x2.salary > 50000 else x2.salary < 1000)) [x2.name]",
+    ),
+    (
+        "[empty(table tasks)]",
+        "[empty(for (x1 <- table tasks) [()])]",
+    ),
+    (
+        "if true then [1] else [2]",
+        "(where (true) [1]) ++ (where (!true) [2])",
+    ),
+    ("[: (a: int, b: [text])]", "[: (a: int, b: [text])]"),
+    // A `for` is weaker than a union, and a bag is not.
+    (
+        "(for (d <- table departments) where (d.name == 'Sales')
+           [(n = 'a', b = for (e <- table employees) where (e.dept == d.name) [e.name])])
+           ++ [(n = 'b', b = [: text])]",
+        "(for (x1 <- table departments) where (x1.name == 'Sales') [(b = for (x2 <- table employees) where (x2.dept == x1.name) [x2.name], n = 'a')]) ++ [(b = [: text], n = 'b')]",
+    ),
+    (
+        "for (d <- table departments) [(d = d.name, none = empty(
+           (for (e <- table employees) where (e.dept == d.name) [e.name])
+           ++ (for (c <- table contacts) where (c.dept == d.name
+             && empty(for (t <- table tasks) where (t.employee == c.name) [t])) [c.name])))]",
+        "for (x1 <- table departments) [(d = x1.name, none = empty((for (x2 <- table employees) where (x2.dept == x1.name) [()]) ++ (for (x3 <- table contacts) where (x3.dept == x1.name && empty(for (x4 <- table tasks) where (x4.employee == x3.name) [()])) [()])))]",
+    ),
+    // `-` is joined from the left, and stands directly before what it negates.
+    ("[- - 1]", "[--1]"),
+    ("[1 - (2 - 3) - - 4]", "[1 - (2 - 3) - -4]"),
+    (
+        "[-(1 - 2) * 3 * (4 * 5)]",
+        "[-(1 - 2) * 3 * (4 * 5)]",
+    ),
+    // An `if` under each operator, and where nothing is asked for.
+    (
+        "[(if true then 1 else 2) + (if true then 3 else 4) - (if true then 5 else 6) * (if true then 7 else 8)]",
+        "[(if true then 1 else 2) + (if true then 3 else 4) - (if true then 5 else 6) * (if true then 7 else 8)]",
+    ),
+    (
+        "[!(if true then false else true) && -(if true then 1 else 2) < (if false then 3 else 4)
+          || (if true then 5 else 6) >= (if true then 7 else 8)]",
+        "[!(if true then false else true) && -(if true then 1 else 2) < (if false then 3 else 4) || (if true then 5 else 6) >= (if true then 7 else 8)]",
+    ),
+    (
+        "[((if true then 1 else 2) == (if true then 3 else 4)) != ((if true then 5 else 6) <= (if true then 7 else 8))]",
+        "[((if true then 1 else 2) == (if true then 3 else 4)) != ((if true then 5 else 6) <= (if true then 7 else 8))]",
+    ),
+    (
+        "[(if (if true then false else true) then (if false then 'a' else 'b') else (if true then 'c' else 'd')) > 'e']",
+        "[(if if true then false else true then if false then 'a' else 'b' else if true then 'c' else 'd') > 'e']",
+    ),
+    // What is under `where` is a union of what is under it.
+    (
+        "where (true) [1] ++ [2]",
+        "(where (true) [1]) ++ (where (true) [2])",
+    ),
+    (
+        "where (true || false) where (1 < 2) where (true && false) [1]",
+        "where ((true || false) && 1 < 2 && (true && false)) [1]",
+    ),
+    ("[1] ++ ([2] ++ [3])", "[1] ++ [2] ++ [3]"),
+    ("[[1] ++ [1]]", "[[1] ++ [1]]"),
+    (
+        "[empty([: int]) && empty([1])]",
+        "[empty([: ()]) && empty([()])]",
+    ),
+    // Words that are reserved as variables may be labels, and a quote is doubled.
+    (
+        "[(table = 'it''s', for = 9223372036854775807)]",
+        "[(for = 9223372036854775807, table = 'it''s')]",
+    ),
+    (
+        "[()] ++ [: ()]",
+        "[()]",
+    ),
+    (
+        "[: (a: (), b: [(c: bool)])]",
+        "[: (a: (), b: [(c: bool)])]",
+    ),
+];
+
+// The text of the normal form of a query.
+fn printed(alloc: Global, schema: &Schema, query: &str) -> Result<List<u8>, Memory>
+    requires { IsProperSchema schema.now }
+{
+    let term = plain(alloc, schema, query)?;
+    let form = normalise(alloc, schema, &term)?;
+    print_normal(alloc, &form)
+}
+
+#[test]
+fn prints_and_reads_back(rt: HostRuntime) -> Result<(), Memory> {
+    let alloc = rt.alloc();
+    let schema = org(alloc)?;
+    for (query, text) in &PRINTED {
+        assert_eq!(&rt; printed(alloc, &schema, query)?.as_slice(), text.as_bytes());
+        assert_eq!(&rt; printed(alloc, &schema, text)?.as_slice(), text.as_bytes());
+    }
+    Ok(())
+}
