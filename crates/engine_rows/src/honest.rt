@@ -79,10 +79,7 @@ const CASES: [Case; 18] = [
     // Truth values as keys.
     Case {
         text: r#"WITH "w" AS (SELECT ("x"."a" = 5) AS "k", "x"."b" AS "b" FROM "t" AS "x") SELECT "u"."b" AS "b", "v"."b" AS "c" FROM "w" AS "u", "w" AS "v" WHERE ("u"."k" = "v"."k")"#,
-        answers: [
-            "1 1 ;1 3 ;2 2 ;3 1 ;3 3 ;",
-            "1 1 ;1 3 ;2 2 ;3 1 ;3 3 ;",
-        ],
+        answers: ["1 1 ;1 3 ;2 2 ;3 1 ;3 3 ;", "1 1 ;1 3 ;2 2 ;3 1 ;3 3 ;"],
     },
     // Texts as keys that share a long beginning.
     Case {

@@ -52,10 +52,7 @@ const PRINTED: [(&str, &str); 22] = [
     // `-` is joined from the left, and stands directly before what it negates.
     ("[- - 1]", "[--1]"),
     ("[1 - (2 - 3) - - 4]", "[1 - (2 - 3) - -4]"),
-    (
-        "[-(1 - 2) * 3 * (4 * 5)]",
-        "[-(1 - 2) * 3 * (4 * 5)]",
-    ),
+    ("[-(1 - 2) * 3 * (4 * 5)]", "[-(1 - 2) * 3 * (4 * 5)]"),
     // An `if` under each operator, and where nothing is asked for.
     (
         "[(if true then 1 else 2) + (if true then 3 else 4) - (if true then 5 else 6) * (if true then 7 else 8)]",
@@ -94,14 +91,8 @@ const PRINTED: [(&str, &str); 22] = [
         "[(table = 'it''s', for = 9223372036854775807)]",
         "[(for = 9223372036854775807, table = 'it''s')]",
     ),
-    (
-        "[()] ++ [: ()]",
-        "[()]",
-    ),
-    (
-        "[: (a: (), b: [(c: bool)])]",
-        "[: (a: (), b: [(c: bool)])]",
-    ),
+    ("[()] ++ [: ()]", "[()]"),
+    ("[: (a: (), b: [(c: bool)])]", "[: (a: (), b: [(c: bool)])]"),
 ];
 
 // The text of the normal form of a query.

@@ -288,7 +288,7 @@ module _ (tables : List WrittenTable) (words : AreWords (flat_map names_in table
       let w = each_at (λ u. AreWords (names_in u)) tables before t (tables_words tables words) s in (
         query_word t.name.text w.0 (λ l. faultless Fault.over_limit t.name.place (inl (before, t, s, inr l, refl))),
         subst (Each IsQueryWord) (sym (names_same t))
-        (each_map IsQueryWord (λ d. d.name.text) t.columns (columns_query_words t (stands_contains tables before t s) (each_front (λ n. IsWord n.text) (map (λ d. d.name) t.columns) t.key w.1))),
+            (each_map IsQueryWord (λ d. d.name.text) t.columns (columns_query_words t (stands_contains tables before t s) (each_front (λ n. IsWord n.text) (map (λ d. d.name) t.columns) t.key w.1))),
       )
 
   pub schema_query_words : Each HasQueryWords (schema_of tables).tables
