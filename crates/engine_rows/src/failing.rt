@@ -3,7 +3,7 @@ ghost use Rattle.std.specs.Prelude.{◌≡◌};
 ghost use Rattle.sql_profile.specs.Scope.{shapes_of, shapes_of_schema};
 
 use crate::asked::ask;
-use crate::tables::{load_both, schema};
+use crate::tables::{PAIRS, load_both, schema};
 use nq_model::{List, Schema};
 use plain_engine::FailingServer;
 use sql_profile::{ServerFault, SqlServer};
@@ -39,7 +39,7 @@ fn calls_taken(alloc: Global, failing: &[u64]) -> Result<[u64; 4], ServerFault> 
         FailingServer::new(alloc, failing),
     ).map_err(|_| ServerFault::Memory)?;
     let schema = schema(alloc)?;
-    let loads = load_both(alloc, &mut server)?;
+    let loads = load_both(alloc, &mut server, PAIRS, &[])?;
     let first = ask_at_last(alloc, &mut server, &schema)?;
     let second = ask_at_last(alloc, &mut server, &schema)?;
     Ok([loads[0], loads[1], first, second])

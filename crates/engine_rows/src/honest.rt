@@ -3,7 +3,7 @@
 ghost use Rattle.std.specs.Prelude.{◌≡◌, ◌<◌, []};
 
 use crate::asked::{ask, shown};
-use crate::tables::{load_both, schema};
+use crate::tables::{PAIRS, load_both, schema};
 use fast_engine::FastServer;
 use plain_engine::{CrookedServer, PlainServer};
 use sql_profile::SqlServer;
@@ -118,7 +118,7 @@ fn check(
     requires which { which < 2 }
 {
     let schema = schema(alloc)?;
-    load_both(alloc, server)?;
+    load_both(alloc, server, PAIRS, &[])?;
     for case in &CASES {
         let answer = ask(alloc, server, &schema, case.text)?;
         assert_eq!(rt;

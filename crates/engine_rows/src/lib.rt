@@ -9,6 +9,8 @@ mod failing;
 #[cfg(test)]
 mod honest;
 #[cfg(test)]
+mod large;
+#[cfg(test)]
 mod scripted;
 #[cfg(test)]
 mod tables;

@@ -1,4 +1,4 @@
-// The tables of the tests, which servers are loaded with: one with rows, and one without.
+// The tables of the tests, which servers are loaded with: two of pairs of integers.
 ghost use Rattle.std.specs.Prelude.{◌≡◌, ◌++◌, ◌∷◌, [], All, Contains, IfOk, OnErr, OnOk, codes};
 ghost use Rattle.engine_rows.specs.Shapes.{both_shapes, pair_columns};
 ghost use Rattle.nq_model.specs.Cells.{RowFits};
@@ -11,7 +11,8 @@ use rows::Rows;
 use sql_profile::{Loaded, ServerFault, SqlServer, load_table};
 use std::alloc::Global;
 
-const PAIRS: &[(i64, i64)] = &[(5, 1), (6, 2), (5, 3)];
+/// The rows of the first table in most tests. The second one then has none.
+pub const PAIRS: &[(i64, i64)] = &[(5, 1), (6, 2), (5, 3)];
 
 fn columns(alloc: Global) -> Result<List<(Label, ColumnType)>, Memory>
     ensures { IfOk result (λ made. made ≡ pair_columns) }
@@ -88,11 +89,16 @@ fn load_at_last(
 }
 
 /// Loads both tables, each again where the first call fails; and how many calls each took.
-pub fn load_both(alloc: Global, server: &mut Box<dyn SqlServer>) -> Result<[u64; 2], ServerFault>
+pub fn load_both(
+    alloc: Global,
+    server: &mut Box<dyn SqlServer>,
+    first: &[(i64, i64)],
+    second: &[(i64, i64)],
+) -> Result<[u64; 2], ServerFault>
     requires { loaded server.old ≡ [] }
     ensures { OnOk result (shapes_of (loaded server.new) ≡ both_shapes) }
 {
-    let first = load_at_last(alloc, server, "t", PAIRS)?;
-    let second = load_at_last(alloc, server, "e", &[])?;
+    let first = load_at_last(alloc, server, "t", first)?;
+    let second = load_at_last(alloc, server, "e", second)?;
     Ok([first, second])
 }

@@ -1,0 +1,85 @@
+// Texts that the fast server answers in a moment, and that do not end where every combination is tried or a WITH
+// query is computed at each use.
+use crate::asked::{ask, shown};
+use crate::tables::{load_both, schema};
+use fast_engine::FastServer;
+use nq_model::{CellRef, List, Memory, Schema};
+use rows::Rows;
+use sql_profile::SqlServer;
+use std::alloc::Global;
+use std::test::Fail;
+
+const COUNT: usize = 200_000;
+
+// Each row meets itself.
+const JOINED: &str =
+    r#"SELECT "x"."a" AS "a" FROM "t" AS "x", "t" AS "y" WHERE ("x"."a" = "y"."a")"#;
+
+// The rows that meet none of the other table.
+const ALONE: &str =
+    r#"SELECT "x"."a" AS "a" FROM "t" AS "x" WHERE (NOT EXISTS (SELECT 1 AS "o" FROM "e" AS "y" WHERE ("y"."a" = "x"."a")))"#;
+
+// As many pairs, whose first numbers rise from 0 by a step.
+fn pairs(alloc: Global, step: i64) -> Result<Vec<(i64, i64)>, Memory> {
+    let mut pairs = Vec::with_capacity(alloc, COUNT)?;
+    let mut number: i64 = 0;
+    for _ in 0..COUNT {
+        pairs.push((number, 0))?;
+        number = number.wrapping_add(step);
+    }
+    Ok(pairs)
+}
+
+// Whether the rows are so many numbers, which rise from a first by a step.
+fn rise(rows: &Rows, count: usize, first: i64, step: i64) -> bool {
+    let mut number = first;
+    for row in 0..rows.len() {
+        if rows.width(row) != 1 || rows.cell(row, 0) != CellRef::Int(number) {
+            return false;
+        }
+        number = number.wrapping_add(step);
+    }
+    rows.len() == count
+}
+
+#[test]
+fn joins_and_not_exists(rt: HostRuntime) -> Result<(), Fail> {
+    let alloc = rt.alloc();
+    let schema = schema(alloc)?;
+    let (every, even) = (pairs(alloc, 1)?, pairs(alloc, 2)?);
+    let mut server: Box<dyn SqlServer> = Box::new(alloc, FastServer::new(alloc))?;
+    load_both(alloc, &mut server, every.as_slice(), even.as_slice())?;
+    let joined = ask(alloc, &mut server, &schema, JOINED)?;
+    assert!(&rt; rise(&joined.rows, COUNT, 0, 1));
+    let alone = ask(alloc, &mut server, &schema, ALONE)?;
+    assert!(&rt; rise(&alone.rows, COUNT / 2, 1, 2));
+    Ok(())
+}
+
+// A text of so many WITH queries behind one of a single row, each of which uses the one before it twice.
+fn doubling(alloc: Global, count: u64) -> Result<String, Memory> {
+    let mut text = String::new(alloc);
+    text.push_str(r#"WITH "w0" AS (SELECT 7 AS "a")"#)?;
+    for at in 0..count {
+        let next = at + 1;
+        write!(
+            text,
+            r#", "w{next}" AS (SELECT "u"."a" AS "a" FROM "w{at}" AS "u", "w{at}" AS "v")"#
+        )?;
+    }
+    write!(text, r#" SELECT "u"."a" AS "a" FROM "w{count}" AS "u""#)?;
+    Ok(text)
+}
+
+#[test]
+fn with_queries_used_twice(rt: HostRuntime) -> Result<(), Fail> {
+    let alloc = rt.alloc();
+    let schema = Schema {
+        tables: List::new(alloc),
+    };
+    let text = doubling(alloc, 40)?;
+    let mut server: Box<dyn SqlServer> = Box::new(alloc, FastServer::new(alloc))?;
+    let answer = ask(alloc, &mut server, &schema, text.as_str())?;
+    assert_eq!(&rt; shown(alloc, &answer.rows)?.as_str(), "7 ;");
+    Ok(())
+}
