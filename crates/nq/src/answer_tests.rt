@@ -1,4 +1,5 @@
 // Whole runs that write the rows of SQL texts.
+use crate::nested_tests::{CONTACTS, ORG, WHOLE};
 use crate::runs::{Wanted, check_run_over, padded};
 use nq_edge::HeldInputs;
 use nq_model::{List, Text};
@@ -6,12 +7,6 @@ use plain_engine::{CrookedServer, PlainServer};
 use sql_profile::SqlServer;
 use std::alloc::Global;
 use std::test::Fail;
-
-const ORG: &str = "table departments (name: text);
-table employees (dept: text, name: text, salary: int);
-table tasks (employee: text, task: text);
-table contacts (dept: text, name: text, client: bool);
-";
 
 // A schema and an SQL text; and the status, the output and the note that are wanted.
 #[derive(Clone, Copy)]
@@ -93,35 +88,23 @@ const ROWS: [Row; 10] = [
     },
 ];
 
-// The names of the held texts, but for the schema and the SQL text, and their bytes.
-const HELD: [(&str, &str); 5] = [
-    (
-        "data/departments.csv",
-        "name\nProduct\nQuality\nResearch\nSales\n",
-    ),
-    (
-        "data/employees.csv",
-        "dept,name,salary\nProduct,Alex,20000\nProduct,Bert,900\nSales,Erik,2000000\n",
-    ),
-    (
-        "data/tasks.csv",
-        "employee,task\nAlex,build\nBert,build\nErik,call\nErik,enthuse\n",
-    ),
-    (
-        "data/contacts.csv",
-        "dept,name,client\nProduct,Pam,false\nQuality,Quinn,true\nSales,Sue,true\n",
-    ),
-    ("data/t.csv", "a\n5\n6\n"),
-];
-
 // The inputs of a row, with so many spaces before its SQL text.
 fn inputs_of(alloc: Global, row: &Row, blanks: usize) -> Result<HeldInputs, Fail> {
     let mut files = List::new(alloc);
-    files.push((Text::from_str(alloc, "org")?, padded(alloc, 0, row.schema)?))?;
-    files.push((Text::from_str(alloc, "s")?, padded(alloc, blanks, row.sql)?))?;
-    for (name, text) in &HELD {
-        files.push((Text::from_str(alloc, name)?, padded(alloc, 0, text)?))?;
-    }
+    let schema = padded(alloc, 0, row.schema)?;
+    files.push((Text::from_str(alloc, "org")?, schema))?;
+    let sql = padded(alloc, blanks, row.sql)?;
+    files.push((Text::from_str(alloc, "s")?, sql))?;
+    let text = padded(alloc, 0, WHOLE.departments)?;
+    files.push((Text::from_str(alloc, "data/departments.csv")?, text))?;
+    let text = padded(alloc, 0, WHOLE.employees)?;
+    files.push((Text::from_str(alloc, "data/employees.csv")?, text))?;
+    let text = padded(alloc, 0, WHOLE.tasks)?;
+    files.push((Text::from_str(alloc, "data/tasks.csv")?, text))?;
+    let text = padded(alloc, 0, CONTACTS)?;
+    files.push((Text::from_str(alloc, "data/contacts.csv")?, text))?;
+    let text = padded(alloc, 0, "a\n5\n6\n")?;
+    files.push((Text::from_str(alloc, "data/t.csv")?, text))?;
     Ok(HeldInputs::new(alloc, files, List::new(alloc))?)
 }
 

@@ -9,13 +9,16 @@ use std::alloc::Global;
 use std::process::Abort;
 use std::test::Fail;
 
-const ORG: &str = "table departments (name: text);
+/// The schema of the tables of a company.
+pub const ORG: &str = "table departments (name: text);
 table employees (dept: text, name: text, salary: int);
 table tasks (employee: text, task: text);
 table contacts (dept: text, name: text, client: bool);
 ";
 
-const CONTACTS: &str = "dept,name,client\nProduct,Pam,false\nQuality,Quinn,true\nSales,Sue,true\n";
+/// The text of the table of contacts.
+pub const CONTACTS: &str =
+    "dept,name,client\nProduct,Pam,false\nQuality,Quinn,true\nSales,Sue,true\n";
 
 // Each department with its employees, and each of those with their tasks.
 const STAFF: &str = "let tasksOf = fun (e: text) ->

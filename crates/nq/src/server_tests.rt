@@ -8,6 +8,7 @@ use plain_engine::{FailingServer, ScriptedServer};
 use rows::Rows;
 use sql_profile::{Answer, SqlServer};
 use std::alloc::Global;
+use std::process::Abort;
 use std::test::Fail;
 
 const FAILED: Wanted = Wanted {
@@ -218,6 +219,31 @@ fn scripted(alloc: Global, script: &Script) -> Result<ScriptedServer, Fail>
     Ok(ScriptedServer::new(alloc, answers))
 }
 
+// Runs a script over a server that is handed over.
+fn check_handed(
+    rt: &impl Abort,
+    alloc: Global,
+    script: &Script,
+    wanted: &Wanted,
+) -> Result<(), Fail> {
+    let server = scripted(alloc, script)?;
+    let server: Box<dyn SqlServer> = Box::new(alloc, server)?;
+    check_run_over(rt, alloc, server, inputs_of(alloc, &script.query)?, wanted)
+}
+
+// Runs a script over a server that is lent.
+fn check_lent(
+    rt: &impl Abort,
+    alloc: Global,
+    script: &Script,
+    wanted: &Wanted,
+) -> Result<(), Fail> {
+    let server = scripted(alloc, script)?;
+    let mut server: Box<dyn SqlServer> = Box::new(alloc, server)?;
+    let inputs = inputs_of(alloc, &script.query)?;
+    check_run_lent(rt, alloc, &mut server, inputs, wanted)
+}
+
 #[test]
 fn writes_what_a_script_answers(rt: HostRuntime) -> Result<(), Fail> {
     let alloc = rt.alloc();
@@ -228,12 +254,8 @@ fn writes_what_a_script_answers(rt: HostRuntime) -> Result<(), Fail> {
             note: script.note,
             ..FAILED
         };
-        let server: Box<dyn SqlServer> = Box::new(alloc, scripted(alloc, script)?)?;
-        let inputs = inputs_of(alloc, &script.query)?;
-        check_run_over(&rt, alloc, server, inputs, &wanted)?;
-        let mut lent: Box<dyn SqlServer> = Box::new(alloc, scripted(alloc, script)?)?;
-        let inputs = inputs_of(alloc, &script.query)?;
-        check_run_lent(&rt, alloc, &mut lent, inputs, &wanted)?;
+        check_handed(&rt, alloc, script, &wanted)?;
+        check_lent(&rt, alloc, script, &wanted)?;
     }
     Ok(())
 }
