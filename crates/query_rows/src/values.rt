@@ -1,8 +1,12 @@
-// What queries mean over the tables of an organisation, by the plain evaluator on what single steps reach.
-use crate::asked::{org, read};
+// What queries mean over the tables of an organisation, by the plain evaluators: of the term that single steps reach,
+// and of the normal form.
+ghost use Rattle.nq_model.specs.Tables.{IsProperSchema};
+
+use crate::asked::{org, plain, read};
 use canon::{sort_deep, write};
-use nq_model::{List, Memory, Schema};
-use nq_plain::{Scope, evaluate, unfold_by_steps};
+use normalise::normalise;
+use nq_model::{List, Memory, Schema, Value};
+use nq_plain::{Scope, unfold_by_steps};
 use rows::Table;
 use std::alloc::Global;
 use std::process::Abort;
@@ -82,18 +86,29 @@ fn tables_of(alloc: Global, schema: &Schema, texts: &[&str]) -> Result<List<Tabl
     Ok(tables)
 }
 
-// The canonical text of what a query means, with its newline.
-fn meant(alloc: Global, schema: &Schema, tables: &[Table], text: &str) -> Result<List<u8>, Memory> {
-    let term = read(alloc, text)?;
-    let plain = unfold_by_steps(alloc, term)?;
-    let value = evaluate(alloc, schema, tables, &Scope::Top, &plain)?;
-    write(alloc, &sort_deep(alloc, value)?)
-}
-
-fn said(alloc: Global, schema: &Schema, tables: &[Table], text: &str) -> Result<String, Memory> {
-    let written = meant(alloc, schema, tables, text)?;
+// The canonical text of a value, without its newline.
+fn line(alloc: Global, value: Value) -> Result<String, Memory> {
+    let written = write(alloc, &sort_deep(alloc, value)?)?;
     let line = str::from_utf8(written.as_slice()).unwrap_or("no text");
     Ok(String::from_str(alloc, line.trim_end())?)
+}
+
+// What a query means, by its term.
+fn by_term(alloc: Global, schema: &Schema, tables: &[Table], text: &str) -> Result<String, Memory> {
+    let term = unfold_by_steps(alloc, read(alloc, text)?)?;
+    line(
+        alloc,
+        nq_plain::evaluate(alloc, schema, tables, &Scope::Top, &term)?,
+    )
+}
+
+// What a query means, by its normal form.
+fn by_form(alloc: Global, schema: &Schema, tables: &[Table], text: &str) -> Result<String, Memory>
+    requires { IsProperSchema schema.now }
+{
+    let term = plain(alloc, schema, text)?;
+    let form = normalise(alloc, schema, &term)?;
+    line(alloc, form_plain::evaluate(alloc, schema, tables, &form)?)
 }
 
 #[test]
@@ -103,14 +118,22 @@ fn means(rt: HostRuntime) -> Result<(), Memory> {
     let tables = tables_of(alloc, &schema, &TABLES)?;
     for (text, want) in &QUERIES {
         assert_eq!(&rt;
-            said(alloc, &schema, tables.as_slice(), text)?.as_str(),
+            by_term(alloc, &schema, tables.as_slice(), text)?.as_str(),
+            *want
+        );
+        assert_eq!(&rt;
+            by_form(alloc, &schema, tables.as_slice(), text)?.as_str(),
             *want
         );
     }
     let twice = tables_of(alloc, &schema, &TWICE)?;
     let (text, want) = EACH_STAFF;
     assert_eq!(&rt;
-        said(alloc, &schema, twice.as_slice(), text)?.as_str(),
+        by_term(alloc, &schema, twice.as_slice(), text)?.as_str(),
+        want
+    );
+    assert_eq!(&rt;
+        by_form(alloc, &schema, twice.as_slice(), text)?.as_str(),
         want
     );
     Ok(())
