@@ -66,4 +66,6 @@ mod runs;
 #[cfg(test)]
 mod server_tests;
 #[cfg(test)]
+mod sql_tests;
+#[cfg(test)]
 mod tests;

@@ -24,7 +24,8 @@ const CONTACTS: &str = "dept,name,client\nProduct,Pam,false\nQuality,Quinn,true\
 const NAMES: &str =
     "{(name = 'Product'), (name = 'Quality'), (name = 'Research'), (name = 'Sales')}\n";
 
-const NESTED: &str = "let tasksOf = fun (e: text) ->
+/// Each department with its employees, and each of those with their tasks.
+pub const NESTED: &str = "let tasksOf = fun (e: text) ->
   for (t <- table tasks) where (t.employee == e) [t.task];
 for (d <- table departments)
 [(department = d.name,
@@ -48,20 +49,21 @@ SCHEMA, QUERY and SQLFILE are files, and the table t is the file DIR/t.csv.
 README.md explains the statuses, under Commands.
 ";
 
-// The words, the query, the numbers of the fetches that fail and the room of the output; and the status,
-// the output and the note that are wanted.
+/// The words, the query, the numbers of the fetches that fail and the room of the output; and the status,
+/// the output and the note that are wanted.
 #[derive(Clone, Copy)]
-struct Row {
-    words: &'static [&'static str],
-    query: &'static str,
-    failing: &'static [u64],
-    room: u64,
-    status: u8,
-    out: &'static str,
-    note: &'static str,
+pub struct Row {
+    pub words: &'static [&'static str],
+    pub query: &'static str,
+    pub failing: &'static [u64],
+    pub room: u64,
+    pub status: u8,
+    pub out: &'static str,
+    pub note: &'static str,
 }
 
-const CHECK: Row = Row {
+/// A query that is accepted.
+pub const CHECK: Row = Row {
     words: &["check", "org", "q"],
     query: "[1]",
     failing: &[],
@@ -84,11 +86,6 @@ const NORMAL: Row = Row {
 
 const PATHS: Row = Row {
     words: &["show", "paths", "org", "q"],
-    ..CHECK
-};
-
-const SQL: Row = Row {
-    words: &["show", "sql", "org", "q"],
     ..CHECK
 };
 
@@ -119,7 +116,7 @@ const USAGE: Row = Row {
     ..CHECK
 };
 
-const ROWS: [Row; 53] = [
+const ROWS: [Row; 43] = [
     CHECK,
     Row {
         query: "[9223372036854775808]",
@@ -252,83 +249,6 @@ const ROWS: [Row; 53] = [
         out: "/: int int |\n",
         ..PATHS
     },
-    Row {
-        query: NESTED,
-        out: r#"-- / 136
-SELECT 0 AS "ot", 1 AS "on", "x1"."name" AS "c1", 1 AS "c2", ROW_NUMBER() OVER (ORDER BY "x1"."name") AS "c3" FROM "departments" AS "x1"
-;
--- /[].employees 357
-WITH "q.1" AS (SELECT "x1"."name" AS "x1.name", ROW_NUMBER() OVER (ORDER BY "x1"."name") AS "n" FROM "departments" AS "x1") SELECT 1 AS "ot", "z"."n" AS "on", "x2"."name" AS "c1", 2 AS "c2", ROW_NUMBER() OVER (ORDER BY "z"."x1.name", "x2"."dept", "x2"."name", "x2"."salary") AS "c3" FROM "q.1" AS "z", "employees" AS "x2" WHERE ("x2"."dept" = "z"."x1.name")
-;
--- /[].employees[].tasks 431
-WITH "q.1" AS (SELECT "x1"."name" AS "x1.name", "x2"."dept" AS "x2.dept", "x2"."name" AS "x2.name", "x2"."salary" AS "x2.salary", ROW_NUMBER() OVER (ORDER BY "x1"."name", "x2"."dept", "x2"."name", "x2"."salary") AS "n" FROM "departments" AS "x1", "employees" AS "x2" WHERE ("x2"."dept" = "x1"."name")) SELECT 2 AS "ot", "z"."n" AS "on", "x3"."task" AS "c1" FROM "q.1" AS "z", "tasks" AS "x3" WHERE ("x3"."employee" = "z"."x2.name")
-;
-"#,
-        ..SQL
-    },
-    Row {
-        query: "table departments",
-        out: r#"-- / 75
-SELECT 0 AS "ot", 1 AS "on", "x1"."name" AS "c1" FROM "departments" AS "x1"
-;
-"#,
-        ..SQL
-    },
-    Row {
-        query: "[: (a: int, b: [text])]",
-        out: r#"-- / 72
-SELECT 0 AS "ot", 0 AS "on", 0 AS "c1", 0 AS "c2", 0 AS "c3" WHERE FALSE
-;
--- /[].b 51
-SELECT 0 AS "ot", 0 AS "on", '' AS "c1" WHERE FALSE
-;
-"#,
-        ..SQL
-    },
-    Row {
-        query: "[[1] ++ [1]]",
-        out: r#"-- / 68
-SELECT 0 AS "ot", 1 AS "on", 1 AS "c1", ROW_NUMBER() OVER () AS "c2"
-;
--- /[] 186
-WITH "q.1" AS (SELECT ROW_NUMBER() OVER () AS "n") SELECT 1 AS "ot", "z"."n" AS "on", 1 AS "c1" FROM "q.1" AS "z" UNION ALL SELECT 1 AS "ot", "z"."n" AS "on", 1 AS "c1" FROM "q.1" AS "z"
-;
-"#,
-        ..SQL
-    },
-    Row {
-        query: "(for (d <- table departments) where (d.name == 'Sales') [(n = 'a', b = for (e <- table employees) where (e.dept == d.name) [e.name])]) ++ [(n = 'b', b = [: text])]",
-        out: r#"-- / 250
-SELECT 0 AS "ot", 1 AS "on", 1 AS "c1", ROW_NUMBER() OVER (ORDER BY "x1"."name") AS "c2", 'a' AS "c3" FROM "departments" AS "x1" WHERE ("x1"."name" = 'Sales') UNION ALL SELECT 0 AS "ot", 1 AS "on", 3 AS "c1", ROW_NUMBER() OVER () AS "c2", 'b' AS "c3"
-;
--- /[].b 283
-WITH "q.1" AS (SELECT "x1"."name" AS "x1.name", ROW_NUMBER() OVER (ORDER BY "x1"."name") AS "n" FROM "departments" AS "x1" WHERE ("x1"."name" = 'Sales')) SELECT 1 AS "ot", "z"."n" AS "on", "x2"."name" AS "c1" FROM "q.1" AS "z", "employees" AS "x2" WHERE ("x2"."dept" = "z"."x1.name")
-;
-"#,
-        ..SQL
-    },
-    Row {
-        query: "for (d <- table departments) [(d = d.name, es = for (e <- table employees) where (e.dept == d.name) [e.name])]",
-        out: r#"-- / 136
-SELECT 0 AS "ot", 1 AS "on", "x1"."name" AS "c1", 1 AS "c2", ROW_NUMBER() OVER (ORDER BY "x1"."name") AS "c3" FROM "departments" AS "x1"
-;
--- /[].es 253
-WITH "q.1" AS (SELECT "x1"."name" AS "x1.name", ROW_NUMBER() OVER (ORDER BY "x1"."name") AS "n" FROM "departments" AS "x1") SELECT 1 AS "ot", "z"."n" AS "on", "x2"."name" AS "c1" FROM "q.1" AS "z", "employees" AS "x2" WHERE ("x2"."dept" = "z"."x1.name")
-;
-"#,
-        ..SQL
-    },
-    Row {
-        query: "for (d <- table departments) [(d = d.name, none = empty(
-  (for (e <- table employees) where (e.dept == d.name) [e.name])
-  ++ (for (c <- table contacts) where (c.dept == d.name
-      && empty(for (t <- table tasks) where (t.employee == c.name) [t])) [c.name])))]",
-        out: r#"-- / 360
-SELECT 0 AS "ot", 1 AS "on", "x1"."name" AS "c1", (NOT EXISTS (SELECT 1 AS "one" FROM "employees" AS "x2" WHERE ("x2"."dept" = "x1"."name") UNION ALL SELECT 1 AS "one" FROM "contacts" AS "x3" WHERE (("x3"."dept" = "x1"."name") AND (NOT EXISTS (SELECT 1 AS "one" FROM "tasks" AS "x4" WHERE ("x4"."employee" = "x3"."name")))))) AS "c2" FROM "departments" AS "x1"
-;
-"#,
-        ..SQL
-    },
     // The schema and the query are fetched, and nothing else.
     Row {
         failing: &[3],
@@ -411,42 +331,6 @@ SELECT 0 AS "ot", 1 AS "on", "x1"."name" AS "c1", (NOT EXISTS (SELECT 1 AS "one"
         words: &["Check", "org", "q"],
         ..USAGE
     },
-    // A comprehension without generators, under one that has two.
-    Row {
-        query: "for (a <- table departments) for (b <- table contacts) where (b.dept == a.name) [(n = b.name, one = [a.name])]",
-        out: r#"-- / 231
-SELECT 0 AS "ot", 1 AS "on", "x2"."name" AS "c1", 1 AS "c2", ROW_NUMBER() OVER (ORDER BY "x1"."name", "x2"."dept", "x2"."name", "x2"."client") AS "c3" FROM "departments" AS "x1", "contacts" AS "x2" WHERE ("x2"."dept" = "x1"."name")
-;
--- /[].one 375
-WITH "q.1" AS (SELECT "x1"."name" AS "x1.name", "x2"."dept" AS "x2.dept", "x2"."name" AS "x2.name", "x2"."client" AS "x2.client", ROW_NUMBER() OVER (ORDER BY "x1"."name", "x2"."dept", "x2"."name", "x2"."client") AS "n" FROM "departments" AS "x1", "contacts" AS "x2" WHERE ("x2"."dept" = "x1"."name")) SELECT 1 AS "ot", "z"."n" AS "on", "z"."x1.name" AS "c1" FROM "q.1" AS "z"
-;
-"#,
-        ..SQL
-    },
-    // Two parents at one path.
-    Row {
-        query: "(for (d <- table departments) [(n = d.name, s = for (e <- table employees) where (e.dept == d.name) [e.name])]) ++ (for (c <- table contacts) where (c.client) [(n = c.name, s = [c.dept])])",
-        out: r#"-- / 328
-SELECT 0 AS "ot", 1 AS "on", "x1"."name" AS "c1", 1 AS "c2", ROW_NUMBER() OVER (ORDER BY "x1"."name") AS "c3" FROM "departments" AS "x1" UNION ALL SELECT 0 AS "ot", 1 AS "on", "x3"."name" AS "c1", 3 AS "c2", ROW_NUMBER() OVER (ORDER BY "x3"."dept", "x3"."name", "x3"."client") AS "c3" FROM "contacts" AS "x3" WHERE "x3"."client"
-;
--- /[].s 559
-WITH "q.1" AS (SELECT "x1"."name" AS "x1.name", ROW_NUMBER() OVER (ORDER BY "x1"."name") AS "n" FROM "departments" AS "x1"), "q.2" AS (SELECT "x3"."dept" AS "x3.dept", "x3"."name" AS "x3.name", "x3"."client" AS "x3.client", ROW_NUMBER() OVER (ORDER BY "x3"."dept", "x3"."name", "x3"."client") AS "n" FROM "contacts" AS "x3" WHERE "x3"."client") SELECT 1 AS "ot", "z"."n" AS "on", "x2"."name" AS "c1" FROM "q.1" AS "z", "employees" AS "x2" WHERE ("x2"."dept" = "z"."x1.name") UNION ALL SELECT 3 AS "ot", "z"."n" AS "on", "z"."x3.dept" AS "c1" FROM "q.2" AS "z"
-;
-"#,
-        ..SQL
-    },
-    // An emptiness test with columns from outside, of its SELECT and of its own.
-    Row {
-        query: "for (d <- table departments) [(n = d.name, alone = for (e <- table employees) where (e.dept == d.name && empty(for (c <- table contacts) where (c.dept == d.name && c.name > e.name && !c.client) [c])) [e.name])]",
-        out: r#"-- / 136
-SELECT 0 AS "ot", 1 AS "on", 1 AS "c1", ROW_NUMBER() OVER (ORDER BY "x1"."name") AS "c2", "x1"."name" AS "c3" FROM "departments" AS "x1"
-;
--- /[].alone 412
-WITH "q.1" AS (SELECT "x1"."name" AS "x1.name", ROW_NUMBER() OVER (ORDER BY "x1"."name") AS "n" FROM "departments" AS "x1") SELECT 1 AS "ot", "z"."n" AS "on", "x2"."name" AS "c1" FROM "q.1" AS "z", "employees" AS "x2" WHERE (("x2"."dept" = "z"."x1.name") AND (NOT EXISTS (SELECT 1 AS "one" FROM "contacts" AS "x3" WHERE ((("x3"."dept" = "z"."x1.name") AND ("x3"."name" > "x2"."name")) AND (NOT "x3"."client")))))
-;
-"#,
-        ..SQL
-    },
 ];
 
 // The inputs of a row, whose query is this text.
@@ -466,8 +350,8 @@ fn inputs_of(alloc: Global, row: &Row, query: List<u8>) -> Result<HeldInputs, Fa
     Ok(HeldInputs::new(alloc, files, failing)?)
 }
 
-// Runs a row, whose query is this text.
-fn run_row(rt: &impl Abort, alloc: Global, row: &Row, query: List<u8>) -> Result<(), Fail> {
+/// Runs a row, whose query is this text.
+pub fn run_row(rt: &impl Abort, alloc: Global, row: &Row, query: List<u8>) -> Result<(), Fail> {
     let wanted = Wanted {
         words: row.words,
         room: row.room,
