@@ -58,6 +58,8 @@ mod answer_tests;
 #[cfg(test)]
 mod example_tests;
 #[cfg(test)]
+mod generated_tests;
+#[cfg(test)]
 mod nested_tests;
 #[cfg(test)]
 mod query_tests;

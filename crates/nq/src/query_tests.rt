@@ -37,6 +37,7 @@ const HELP: &str = "nq answers typed queries over flat tables.
 
 nq run SCHEMA QUERY DIR       writes the value of the query over the tables of DIR
 nq answer SCHEMA SQLFILE DIR  writes the rows of the SQL text over the tables of DIR
+nq gen N                      writes a summary of nested data over generated tables of size N
 nq check SCHEMA QUERY         writes ok where the query is accepted
 nq show types SCHEMA QUERY    writes the type of the query
 nq show normal SCHEMA QUERY   writes the normal form of the query, which is a query itself

@@ -8,4 +8,5 @@ pub mod Runs
 pub mod Statuses
 pub mod Completeness
 pub mod Plans
+pub mod Generated
 pub mod QueryRuns

@@ -15,7 +15,7 @@ use Rattle.nq_model.specs.Tables.{IsProperSchema, IsProperShape, names_of, types
 use Rattle.nq_model.specs.Terms.{PlacedTerm, bare}
 use Rattle.nq_model.specs.Types.{TypeTree, bag}
 use Rattle.nq_model.specs.Typing.{IsAccepted}
-use Rattle.nq_model.specs.Values.{Nested}
+use Rattle.nq_model.specs.Values.{Nested, Same}
 use Rattle.nq_model.specs.declared.table.Cell.{Cell}
 use Rattle.nq_model.specs.declared.table.ColumnType.{ColumnType}
 use Rattle.nq_model.specs.declared.table.Schema.{Schema}
@@ -45,11 +45,12 @@ use Rattle.stitcher.specs.Stitching.{rows_of}
 use Rattle.unfold.specs.Hereditary.{unfolded}
 use Rattle.unfold.proofs.Whole.{is_unfolding}
 use Rattle.nq_serve.specs.Loading.{CanLoad}
-use Rattle.nq_serve.specs.Plans.{Finish, Plan, plan_view, value_text, finished, AsksFor, IsServable}
+use Rattle.nq_serve.specs.Plans.{Finish, Plan, plan_view, answered_value, value_text, summary_text, finished, AsksFor, ArePathsOf, CanFinish, IsServable}
 use Rattle.nq_serve.specs.Serving.{Allowed}
+use Rattle.nq_serve.specs.Summaries.{summary_of}
 use Rattle.nq_serve.specs.declared.plan.Plan.{Plan as Asked}
 use Rattle.nq_top.specs.Gathering.{HoldsPlan}
-use Rattle.nq_top.specs.Plans.{AreReadFor, query_plan, sql_plan, Question, IsMeant, IsAllowed, IsSound}
+use Rattle.nq_top.specs.Plans.{AreReadFor, plan_to, query_plan, sql_plan, Question, IsMeant, IsSummed, IsAllowed, IsSound}
 use Rattle.nq_top.specs.Reading.{PlainReading, type_read}
 use Rattle.nq_top.specs.Shown.{shown_texts}
 use Rattle.nq_top.proofs.Showings.{ResultIs, TextsAre, TextsShred, read_accepted, bag_again}
@@ -172,60 +173,108 @@ module _ (schema : Schema) (term : PlacedTerm) (type : TypeTree) (texts : List (
   shapes : shapes_of tables ≡ shapes_of_schema schema.tables
   shapes = read_shapes schema tables read
 
-  abbrev plan : Plan
-  plan = record { tables = tables; texts = texts; columns = columns; finish = Finish.value type }
+  abbrev plan : Finish → Plan
+  plan finish = record { tables = tables; texts = texts; columns = columns; finish = finish }
 
   at_bag : columns ≡ map (columns_at (bag element)) (paths (bag element))
   at_bag = columns_of ∙ ap (λ (a : TypeTree). map (columns_at a) (paths a)) (sym of_bag)
 
-  pub servable : IsServable plan
-  servable = record {
+  at_paths : ArePathsOf type columns
+  at_paths = record {
+    of_bag = sym of_bag;
+    at_paths = at_bag ∙ columns_are element (subst (λ (a : TypeTree). IsOrdered a) (sym of_bag) ordered) ∙ ap (λ (a : TypeTree). map answer_columns (element_types a)) of_bag;
+  }
+
+  servable_to : (finish : Finish) → CanFinish finish columns → IsServable (plan finish)
+  servable_to finish finishable = record {
     loadable = read_loadable schema tables proper_schema read;
-    finishable = record {
-      of_bag = sym of_bag;
-      at_paths = at_bag ∙ columns_are element (subst (λ (a : TypeTree). IsOrdered a) (sym of_bag) ordered) ∙ ap (λ (a : TypeTree). map answer_columns (element_types a)) of_bag;
-    };
+    finishable = finishable;
     askable = subst (λ (cs : List (List ColumnType)). EachBoth (AsksFor tables) cs texts) (sym at_bag)
         (both_mapped (λ path text. IsScopedText schema (columns_at (bag element) path) text) (AsksFor tables) (columns_at (bag element))
         (λ path text scoped. asks_for schema tables shapes (columns_at (bag element) path) text scoped) (paths (bag element)) texts shreds.scoped);
   }
 
-  pub sound : IsSound plan (Question.query term)
-  unfolding value_text
-  sound answers allowed =
+  pub servable : IsServable (plan (Finish.value type))
+  servable = servable_to (Finish.value type) at_paths
+
+  pub summary_servable : IsServable (plan (Finish.summary type))
+  summary_servable = servable_to (Finish.summary type) at_paths
+
+  -- what the query means over the tables
+  value : Nested
+  value = meaning (database schema.tables read.rows) [] (bare (unfolded term))
+
+  means : Means (map filled_of tables) term value
+  unfolding value
+  means =
+      let filled = database schema.tables read.rows in
+      let here : map filled_of tables ≡ filled = ap (map filled_of) read.is ∙ held_filled schema.tables read.rows in
+      let M : List FilledTable → Type 0 = λ ts. Means ts term (meaning filled [] (bare (unfolded term))) in
+      subst M (sym here) (meant schema term type filled accepted)
+
+  -- and whatever answers SQL allows stitch to it
+  stitches : (answers : List Answer) → Allowed tables texts answers → Same (answered_value type (rows_of answers)) value
+  unfolding value
+  stitches answers allowed =
       let held = held_of schema.tables read.rows in
       let filled = database schema.tables read.rows in
-      let value = meaning filled [] (bare (unfolded term)) in
+      let meant_here = meaning filled [] (bare (unfolded term)) in
       let given = rows_of answers in
       let Q : List Loaded → Type 0 = λ ts. EachBoth (TextAllows First ts) texts given in
       let over : EachBoth (TextAllows First held) texts given = subst Q read.is (both_rows (TextAllows First tables) texts answers allowed) in
-      let same = shreds.stitched read.rows read.stored given over value (meant schema term type filled accepted) in
-      let here : map filled_of tables ≡ filled = ap (map filled_of) read.is ∙ held_filled schema.tables read.rows in
-      let M : List FilledTable → Type 0 = λ ts. Means ts term value in
-      let S : TypeTree → Nested = λ a. stitched (flat_numbers (element_types a)) element given in
-      record {
-        value = value;
-        means = subst M (sym here) (meant schema term type filled accepted);
-        is = ap (λ (a : TypeTree). canonical_text (S a)) (sym of_bag) ∙ ap (λ (v : Nested). written v ++ codes "\n") (canonical_same (S (bag element)) value same);
-      }
+      let same = shreds.stitched read.rows read.stored given over meant_here (meant schema term type filled accepted) in
+      let S : TypeTree → Type 0 = λ a. Same (stitched (flat_numbers (element_types a)) element given) meant_here in
+      subst S of_bag same
 
-  pub holds : (texts_are : TextsAre schema term type [] texts) (plain : PlainReading) (asked : Asked) → plan_view asked ≡ plan → HoldsPlan (query_plan plain schema term own tables) (Question.query term) asked
-  unfolding query_plan shown_texts
-  holds texts_are plain asked is =
+  pub sound : IsSound (plan (Finish.value type)) (Question.query term)
+  unfolding value_text
+  sound answers allowed = record {
+    value = value;
+    means = means;
+    is = ap (λ (v : Nested). written v ++ codes "\n") (canonical_same (answered_value type (rows_of answers)) value (stitches answers allowed));
+  }
+
+  pub summary_sound : IsSound (plan (Finish.summary type)) (Question.summary term type)
+  unfolding summary_text
+  summary_sound answers allowed = record {
+    value = value;
+    means = means;
+    is = same_summary type (answered_value type (rows_of answers)) value (stitches answers allowed);
+  }
+
+  -- the plan is the one that the query comes to
+  plan_is : (finish : TypeTree → Finish) → TextsAre schema term type [] texts → (plain : PlainReading) → plan (finish type) ≡ plan_to finish plain schema term own tables
+  unfolding plan_to shown_texts
+  plan_is finish texts_are plain =
       let here : IsAccepted schema (bare term) (bag element) = subst (λ (a : TypeTree). IsAccepted schema (bare term) a) (sym of_bag) accepted in
       let shown : texts ≡ texts_of schema (normal_form schema.tables (element_type own) (bare (plain.says term))) =
       texts_are element (plain.says term) here (plain.right schema term type accepted) ∙ ap (λ (a : TypeTree). texts_of schema (normal_form schema.tables (element_type a) (bare (plain.says term)))) same_own in
-      let same : plan ≡ query_plan plain schema term own tables = same_plan columns (map (columns_at own) (paths own)) texts (texts_of schema (normal_form schema.tables (element_type own) (bare (plain.says term)))) (columns_of ∙ ap (λ (a : TypeTree). map (columns_at a) (paths a)) same_own) shown same_own in
-      record {
-        is = is ∙ same;
-        sound = subst (λ (p : Plan). IsSound p (Question.query term)) same sound;
-      }
+      same_plan columns (map (columns_at own) (paths own)) texts (texts_of schema (normal_form schema.tables (element_type own) (bare (plain.says term)))) (columns_of ∙ ap (λ (a : TypeTree). map (columns_at a) (paths a)) same_own) shown same_own
     where
       same_plan : (cs ds : List (List ColumnType)) (ss ts : List (List ℕ)) → cs ≡ ds → ss ≡ ts → type ≡ own
-          → ◌≡◌ {A = Plan} (record { tables = tables; texts = ss; columns = cs; finish = Finish.value type }) (record { tables = tables; texts = ts; columns = ds; finish = Finish.value own })
+          → ◌≡◌ {A = Plan} (record { tables = tables; texts = ss; columns = cs; finish = finish type }) (record { tables = tables; texts = ts; columns = ds; finish = finish own })
       same_plan cs ds ss ts e f g = cc
+
+  holds_to : (finish : TypeTree → Finish) (question : Question) → IsSound (plan (finish type)) question → TextsAre schema term type [] texts → (plain : PlainReading) (asked : Asked)
+      → plan_view asked ≡ plan (finish type) → HoldsPlan (plan_to finish plain schema term own tables) question asked
+  holds_to finish question sound_plan texts_are plain asked is =
+      let same = plan_is finish texts_are plain in
+      record { is = is ∙ same; sound = subst (λ (p : Plan). IsSound p question) same sound_plan }
+
+  pub holds : TextsAre schema term type [] texts → (plain : PlainReading) (asked : Asked) → plan_view asked ≡ plan (Finish.value type) → HoldsPlan (query_plan plain schema term own tables) (Question.query term) asked
+  holds texts_are plain asked is = holds_to Finish.value (Question.query term) sound texts_are plain asked is
+
+  pub summary_holds : TextsAre schema term type [] texts → (plain : PlainReading) (asked : Asked) → plan_view asked ≡ plan (Finish.summary type)
+      → HoldsPlan (plan_to Finish.summary plain schema term own tables) (Question.summary term own) asked
+  summary_holds texts_are plain asked is =
+      let P : TypeTree → Type 0 = λ a. IsSound (plan (Finish.summary type)) (Question.summary term a) in
+      holds_to Finish.summary (Question.summary term own) (subst P same_own summary_sound) texts_are plain asked is
 
 -- a query has one text over given tables
 pub one_text : (tables : List Loaded) (term : PlacedTerm) (text other : List ℕ) → IsMeant tables term text → IsMeant tables term other → text ≡ other
 one_text tables term text other a b =
     a.is ∙ ap canonical_text (one_meaning (map filled_of tables) term a.value b.value a.means b.means) ∙ sym b.is
+
+pub one_summary : (tables : List Loaded) (term : PlacedTerm) (type : TypeTree) (text other : List ℕ) → IsSummed tables term type text → IsSummed tables term type other → text ≡ other
+one_summary tables term type text other a b =
+    a.is ∙ ap (summary_of type) (one_meaning (map filled_of tables) term a.value b.value a.means b.means) ∙ sym b.is

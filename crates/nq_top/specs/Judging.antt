@@ -8,14 +8,15 @@ use Rattle.nq_model.specs.declared.table.TableShape.{TableShape}
 use Rattle.nq_edge.specs.Edge.{Files, bytes_at}
 use Rattle.show_texts.specs.Paths.{paths_text}
 use Rattle.sql_profile.specs.declared.server.Loaded.{Loaded}
-use Rattle.nq_top.specs.Commands.{Aim, run, check, show_types, show_normal, show_paths, show_sql, Command, help, version, of_query, answer, command_of, file_of, accepted_line, type_line}
-use Rattle.nq_top.specs.Help.{help_text, version_text}
+use Rattle.command_words.specs.Commands.{Aim, run, check, show_types, show_normal, show_paths, show_sql, Command, help, version, of_query, answer, generated, command_of}
+use Rattle.nq_top.specs.Lines.{file_of, accepted_line, type_line}
+use Rattle.command_words.specs.Help.{help_text, version_text}
 use Rattle.nq_serve.specs.Plans.{Plan}
-use Rattle.nq_top.specs.Plans.{Question, query_plan, sql_plan}
+use Rattle.nq_top.specs.Plans.{Question, query_plan, sql_plan, generated_plan, generated_question}
 use Rattle.nq_top.specs.Reading.{PlainReading, Reading, SqlColumns, schema_read, term_read, type_read, rows_read, sql_read}
 use Rattle.nq_top.specs.Shown.{Shown, shown_form, form_line, shown_texts, shown_frames}
-use Rattle.nq_top.specs.declared.refusal.Refused.{Refused}
-use Rattle.nq_top.specs.declared.refusal.Refused.TheVariants.{Usage, TooLong}
+use Rattle.refusals.specs.declared.refusal.Refused.{Refused}
+use Rattle.refusals.specs.declared.refusal.Refused.TheVariants.{Usage, TooLong}
 
 -- The first refusal; or a name that is not held, whose fetch fails; or the text that is written; or the plan of a question,
 -- over the tables of the schema in its order.
@@ -115,6 +116,7 @@ command_judged reading (Some help) files = at_once (written help_text)
 command_judged reading (Some version) files = at_once (written version_text)
 command_judged reading (Some (of_query aim schema name)) files = schema_judged reading files aim schema name
 command_judged reading (Some (answer schema name folder)) files = answer_judged reading files schema name folder
+command_judged reading (Some (generated size)) files = at_once (planned (generated_plan reading.plain size) generated_question)
 
 -- the words, then the schema, then the query or the SQL text, then each table text in the order of the schema
 unfoldable pub judgement : Reading → List (List ℕ) → Files → Judgement

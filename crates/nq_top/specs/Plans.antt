@@ -1,4 +1,4 @@
--- The plan of a query and of an SQL text, and what they come to.
+-- The plans of a query, of its summary and of an SQL text, and what they come to.
 use Rattle.std.specs.Prelude.{◌≡◌, ℕ, List, [], ◌∷◌, map}
 use Rattle.nq_model.specs.Canonical.{canonical_text}
 use Rattle.nq_model.specs.QueryMeaning.{Means}
@@ -18,9 +18,11 @@ use Rattle.sql_profile.specs.Tokens.{First}
 use Rattle.sql_profile.specs.declared.answer.Answer.{Answer}
 use Rattle.sql_profile.specs.declared.server.Loaded.{Loaded}
 use Rattle.stitcher.specs.Stitching.{rows_of}
+use Rattle.generated_inputs.specs.Generated.{generated_schema, generated_query, generated_type, generated_tables}
 use Rattle.nq_serve.specs.Plans.{Finish, Plan, finished}
-use Rattle.canon.specs.RowTexts.{rows_text}
 use Rattle.nq_serve.specs.Serving.{Allowed}
+use Rattle.nq_serve.specs.Summaries.{summary_of}
+use Rattle.canon.specs.RowTexts.{rows_text}
 use Rattle.nq_top.specs.Reading.{PlainReading}
 use Rattle.nq_top.specs.Shown.{shown_texts}
 
@@ -30,29 +32,47 @@ pub record AreReadFor (shapes : List TableShape) (tables : List Loaded) : Type 0
   pub stored : AreTablesOf shapes rows
   pub is : tables ≡ held_of shapes rows
 
--- the plan of a query of this type over tables: the texts that are shown for it
-unfoldable pub query_plan : PlainReading → Schema → PlacedTerm → TypeTree → List Loaded → Plan
-query_plan plain schema term type tables = record {
+-- the plan of a query of this type over tables, finished in a way: the texts that are shown for it
+unfoldable pub plan_to : (TypeTree → Finish) → PlainReading → Schema → PlacedTerm → TypeTree → List Loaded → Plan
+plan_to finish plain schema term type tables = record {
   tables = tables;
   texts = (shown_texts plain schema term type).texts;
   columns = map (columns_at type) (paths type);
-  finish = Finish.value type;
+  finish = finish type;
 }
+
+-- its value is written
+abbrev pub query_plan : PlainReading → Schema → PlacedTerm → TypeTree → List Loaded → Plan
+query_plan plain schema term type tables = plan_to Finish.value plain schema term type tables
+
+-- the plan of the summary of a query over generated tables of a size
+abbrev pub generated_plan : PlainReading → ℕ → Plan
+generated_plan plain size = plan_to Finish.summary plain generated_schema generated_query generated_type (generated_tables size)
 
 -- the plan of an SQL text with columns of these types
 abbrev pub sql_plan : List ℕ → List ColumnType → List Loaded → Plan
 sql_plan text types tables = record { tables = tables; texts = text ∷ []; columns = types ∷ []; finish = Finish.rows }
 
--- what a server is asked for: the value of a query, or the rows of an SQL text
+-- what a server is asked for: the value of a query; or its summary, as a value of a type; or the rows of an SQL text
 pub data Question : Type 0 where
   query : PlacedTerm → Question
+  summary : PlacedTerm → TypeTree → Question
   sql : List ℕ → Question
+
+abbrev pub generated_question : Question
+generated_question = Question.summary generated_query generated_type
 
 -- the text is the canonical text of the nested multiset that the query means over the tables
 pub record IsMeant (tables : List Loaded) (query : PlacedTerm) (text : List ℕ) : Type 0 where
   pub value : Nested
   pub means : Means (map filled_of tables) query value
   pub is : text ≡ canonical_text value
+
+-- the text is the summary of that nested multiset, as a value of this type
+pub record IsSummed (tables : List Loaded) (query : PlacedTerm) (type : TypeTree) (text : List ℕ) : Type 0 where
+  pub value : Nested
+  pub means : Means (map filled_of tables) query value
+  pub is : text ≡ summary_of type value
 
 -- the text is that of rows that SQL allows to the SQL text over the tables
 pub record IsAllowed (tables : List Loaded) (asked : List ℕ) (text : List ℕ) : Type 0 where
@@ -63,6 +83,7 @@ pub record IsAllowed (tables : List Loaded) (asked : List ℕ) (text : List ℕ)
 -- the text is an answer to the question over the tables
 abbrev pub Settles : List Loaded → Question → List ℕ → Type 0
 Settles tables (Question.query term) text = IsMeant tables term text
+Settles tables (Question.summary term type) text = IsSummed tables term type text
 Settles tables (Question.sql asked) text = IsAllowed tables asked text
 
 -- whatever answers SQL allows to the texts of a plan, each by itself, what is written of them is an answer to the question

@@ -10,11 +10,11 @@ ghost use Rattle.nq_top.specs.Gathering.{InputCounts, GatherTells, CanServe, gat
 use crate::fetch::{TEXT_LIMIT, fetch_input};
 use crate::gathered::Gathered;
 use crate::read::{columns_of, schema_of};
-use crate::refusal::{InputRefusal, Refused};
 use crate::tables::{TABLES_LIMIT, gather_tables};
 use nq_edge::Inputs;
 use nq_model::{ColumnType, List, Memory, Schema, Text};
 use nq_serve::{Finish, Plan};
+use refusals::{InputRefusal, Refused};
 use sql_profile::Loaded;
 use std::alloc::Global;
 

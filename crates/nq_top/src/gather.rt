@@ -5,8 +5,9 @@ ghost use Rattle.nq_model.specs.Tables.{IsProperSchema};
 ghost use Rattle.nq_model.specs.Terms.{placed, bare};
 ghost use Rattle.nq_model.specs.Types.{TypeTree, type_tree};
 ghost use Rattle.nq_serve.specs.Plans.{plan_view, value};
-ghost use Rattle.nq_top.specs.Commands.{command_of, aim_asks, asks_server, type_line};
-ghost use Rattle.nq_top.specs.Words.{aim_view};
+ghost use Rattle.command_words.specs.Commands.{command_of, aim_asks, asks_server};
+ghost use Rattle.nq_top.specs.Lines.{type_line};
+ghost use Rattle.command_words.specs.Words.{aim_view};
 ghost use Rattle.nq_top.specs.Reading.{Reading, PlainReading, type_read};
 ghost use Rattle.nq_top.specs.Judging.{judgement, schema_judged, query_judged, term_judged, aim_judged, run_judged};
 ghost use Rattle.nq_top.specs.Gathering.{InputCounts, GatherTells, IsTyped, CanServe, gathered_asks};
@@ -14,17 +15,17 @@ ghost use Rattle.nq_top.specs.Gathering.{InputCounts, GatherTells, IsTyped, CanS
 use crate::answer::gather_answer;
 use crate::fetch::{TEXT_LIMIT, fetch_input};
 use crate::gathered::Gathered;
-use crate::help::{help_text, version_text};
+use crate::generated::generated_plan;
 use crate::read::{schema_of, term_of, type_of};
-use crate::refusal::{InputRefusal, Refused};
 use crate::shown::{normal_text, shown_text};
 use crate::tables::{TABLES_LIMIT, gather_tables};
-use crate::words::{Aim, Command, command_of};
+use command_words::{Aim, Command, command_of, help_text, version_text};
 use nq_compile::{Compiled, compile};
 use nq_edge::Inputs;
 use nq_model::{List, Memory, Schema, Term, Text, Ty};
 use nq_serve::{Finish, Plan};
 use nq_types::write_type;
+use refusals::{InputRefusal, Refused};
 use show_texts::paths_text;
 use sql_profile::Loaded;
 use std::alloc::Global;
@@ -213,6 +214,7 @@ pub fn gather<I: Inputs>(
         Some(Command::Answer(schema, file, folder)) => {
             gather_answer(alloc, inputs, schema, file, folder)
         }
+        Some(Command::Generated(size)) => Ok(Gathered::Plan(generated_plan(alloc, size)?)),
         Some(Command::Help) => Ok(Gathered::Text(help_text(alloc)?)),
         Some(Command::Version) => Ok(Gathered::Text(version_text(alloc)?)),
         None => Err(InputRefusal::Refused(Refused::Usage)),

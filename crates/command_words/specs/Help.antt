@@ -1,0 +1,25 @@
+-- The texts on the program.
+use Rattle.std.specs.Prelude.{ℕ, List, ◌++◌, codes}
+
+-- the listed forms of words, a line for each, and where the statuses are explained
+unfoldable pub help_text : List ℕ
+help_text =
+    codes "nq answers typed queries over flat tables.\n"
+    ++ (codes "\n"
+    ++ (codes "nq run SCHEMA QUERY DIR       writes the value of the query over the tables of DIR\n"
+    ++ (codes "nq answer SCHEMA SQLFILE DIR  writes the rows of the SQL text over the tables of DIR\n"
+    ++ (codes "nq gen N                      writes a summary of nested data over generated tables of size N\n"
+    ++ (codes "nq check SCHEMA QUERY         writes ok where the query is accepted\n"
+    ++ (codes "nq show types SCHEMA QUERY    writes the type of the query\n"
+    ++ (codes "nq show normal SCHEMA QUERY   writes the normal form of the query, which is a query itself\n"
+    ++ (codes "nq show paths SCHEMA QUERY    writes a line for each bag constructor of the type\n"
+    ++ (codes "nq show sql SCHEMA QUERY      writes an SQL text for each bag constructor of the type\n"
+    ++ (codes "nq --help                     writes this text\n"
+    ++ (codes "nq --version                  writes the name and the version of the program\n"
+    ++ (codes "\n"
+    ++ (codes "SCHEMA, QUERY and SQLFILE are files, and the table t is the file DIR/t.csv.\n"
+    ++ codes "README.md explains the statuses, under Commands.\n")))))))))))))
+
+-- the name and the version of the program
+unfoldable pub version_text : List ℕ
+version_text = codes "nq 0.1.0\n"

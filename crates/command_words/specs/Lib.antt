@@ -1,0 +1,3 @@
+pub mod Commands
+pub mod Help
+pub mod Words

@@ -1,4 +1,0 @@
-use Rattle.nq_top.proofs.note.put_text_failed.Goals as goal
-
-pub returns : goal.returns
-returns g c = rw (c.as_bytes-text.ensures.value, c.format.ensures.text) at c.put_three.ensures
