@@ -1,12 +1,15 @@
-//! Inputs that are worked out from a size: a schema, a nested query over it, and a text for each table.
+//! What is worked out from a size: a schema, a nested query over it, and the rows of each table.
 #![tactic(auto)]
 
-mod inputs;
+mod query;
+mod schema;
 mod size;
 mod tables;
 
-pub use inputs::generated_inputs;
+pub use query::generated_query;
+pub use schema::generated_schema;
 pub use size::size_of;
+pub use tables::generated_tables;
 
 #[cfg(test)]
 mod tests;
