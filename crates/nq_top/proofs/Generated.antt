@@ -35,6 +35,7 @@ module _ (schema : Schema) (term : PlacedTerm) (type : TypeTree) (texts : List (
       (subst (λ (t : PlacedTerm). type_read generated_schema t ≡ Ok generated_type) (sym term_is) (read_type typed))
 
   held : AreReadFor schema.tables tables
+  unfolding generated_tables
   held =
       subst (λ (s : Schema). AreReadFor s.tables tables) (sym schema_is)
       (record { rows = generated_rows size; stored = stored; is = tables_are })
