@@ -8,5 +8,5 @@ pub mod Runs
 pub mod Statuses
 pub mod Completeness
 pub mod Plans
-pub mod Generated
+pub mod GeneratedPlans
 pub mod QueryRuns

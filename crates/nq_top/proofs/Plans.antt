@@ -49,6 +49,7 @@ use Rattle.nq_serve.specs.Plans.{Finish, Plan, plan_view, answered_value, value_
 use Rattle.nq_serve.specs.Serving.{Allowed}
 use Rattle.nq_serve.specs.Summaries.{summary_of}
 use Rattle.nq_serve.specs.declared.plan.Plan.{Plan as Asked}
+use Rattle.nq_serve.proofs.Summaries.{summary_same}
 use Rattle.nq_top.specs.Gathering.{HoldsPlan}
 use Rattle.nq_top.specs.Plans.{AreReadFor, plan_to, query_plan, sql_plan, Question, IsMeant, IsSummed, IsAllowed, IsSound}
 use Rattle.nq_top.specs.Reading.{PlainReading, type_read}
@@ -239,7 +240,7 @@ module _ (schema : Schema) (term : PlacedTerm) (type : TypeTree) (texts : List (
   summary_sound answers allowed = record {
     value = value;
     means = means;
-    is = same_summary type (answered_value type (rows_of answers)) value (stitches answers allowed);
+    is = summary_same type (answered_value type (rows_of answers)) value (stitches answers allowed);
   }
 
   -- the plan is the one that the query comes to
