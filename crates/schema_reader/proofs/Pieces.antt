@@ -1,14 +1,13 @@
 -- What the tests of the first byte tell of the front of bytes.
-use Rattle.std.proofs.Common.{◌≡◌, ◌≢◌, ℕ, zero, suc, ◌+◌, ◌<◌, true, false, cond, ◌||◌, ◌&&◌, ◌==◌, nat_le, nat_eq, List, [], ◌∷◌, length, take, refl, sym, ◌∙◌, ap, subst, arith, one-add, Some, None, length-take-le, take-append-drop, true≢false, slice_index}
-use Rattle.std.specs.List.{AllByRecursion as Each, prefix_len, starts_with}
+use Rattle.std.proofs.Common.{◌≡◌, ℕ, zero, suc, ◌+◌, ◌<◌, true, cond, ◌||◌, ◌&&◌, nat_le, List, [], ◌∷◌, length, take, refl, sym, ◌∙◌, ap, subst, arith, one-add, Some, length-take-le, take-append-drop, slice_index}
+use Rattle.std.specs.List.{AllByRecursion as Each, prefix_len}
 use Rattle.std.specs.Str.{IsAscii, IsUtf8}
 use Rattle.std.proofs.lemmas.Str.{IsUtf8-from_ascii}
-use Rattle.std.proofs.lemmas.Bool.Decides.{nat_tests, Decides-eqb}
+use Rattle.std.proofs.lemmas.Bool.Decides.{nat_tests}
 use Rattle.std.proofs.lemmas.List.Sums.{prefix_len-le-length}
-use Rattle.std.proofs.lemmas.Slice.Eq.{starts_is}
-use Rattle.nq_model.specs.SchemaTokens.{Mark, Symbol, token, is_white, begins_word, is_word_byte, is_comment_byte, Piece, bytes_of, IsStuck}
+use Rattle.nq_model.specs.SchemaTokens.{Mark, Symbol, token, is_white, begins_word, is_word_byte, is_comment_byte, Piece}
 use Rattle.schema_reader.specs.Fronts.{mark_of, HasFront}
-use Rattle.schema_reader.proofs.Cuts.{comment_front, word_front, byte_of-mark_of, none_begins, run_all}
+use Rattle.schema_reader.proofs.Cuts.{comment_front, word_front, byte_of-mark_of, run_all}
 
 pub has_white : (place b : ℕ) (bs bytes : List ℕ) → bytes ≡ b ∷ bs → is_white b ≡ true → HasFront place bytes 1 []
 has_white place b bs bytes e h = subst (λ z. HasFront place z 1 []) (sym e) (record { piece = Piece.white b; whole = refl; fits = h; size = refl; says = refl })
@@ -53,21 +52,6 @@ pub has_mark : (place b : ℕ) (bs bytes : List ℕ) (m : Mark) → bytes ≡ b 
 has_mark place b bs bytes m e h =
     subst (λ z. HasFront place z 1 (token place (Symbol.mark m) ∷ [])) (sym e)
     (record { piece = Piece.mark m; whole = ap (λ z. z ∷ bs) (byte_of-mark_of b m h); fits = tt; size = refl; says = refl })
-
-abbrev pub order_mark : List ℕ
-order_mark = bytes_of Piece.byte_order_mark
-
-pub has_order_mark : (place : ℕ) (bytes : List ℕ) → place ≡ 0 → starts_with nat_eq bytes order_mark ≡ true → HasFront place bytes 3 []
-has_order_mark place bytes e h =
-    record { piece = Piece.byte_order_mark; whole = (starts_is Decides-eqb bytes order_mark (starts_with nat_eq bytes order_mark) refl).0 h; fits = e; size = refl; says = refl }
-
-pub stuck_at : (place b : ℕ) (bs bytes : List ℕ) → bytes ≡ b ∷ bs → is_white b ≡ false → (b == 35) ≡ false → begins_word b ≡ false → mark_of b ≡ None
-    → (place ≡ 0 → starts_with nat_eq bytes order_mark ≡ false) → (bytes ≢ []) × IsStuck place bytes
-stuck_at place b bs bytes e w c l m o = (
-  λ h. let k : [] ≡ b ∷ bs = sym h ∙ e in cc,
-  subst (IsStuck place) (sym e) (none_begins place b bs w c l m
-      (λ z after f. true≢false (sym ((starts_is Decides-eqb bytes order_mark (starts_with nat_eq bytes order_mark) refl).1 after (e ∙ f)) ∙ o z))),
-)
 
 -- a word is ASCII, so it is UTF-8
 word_byte_small : (b : ℕ) → is_word_byte b ≡ true → b < 128

@@ -1,13 +1,11 @@
 // What stands at the front of a text: white space, a comment, a token, or none of these.
 ghost use Rattle.std.specs.Prelude.{◌≡◌, take, option_map};
 ghost use Rattle.std.specs.List.{prefix_len};
-ghost use Rattle.nq_model.specs.SchemaTokens.{is_white, begins_word, is_word_byte, is_comment_byte};
+ghost use Rattle.nq_model.specs.SchemaTokens.{is_word_byte};
 ghost use Rattle.schema_reader.specs.Fronts.{mark_of, mark_view, IsFront, BeginsWord};
 
 use std::str;
-
-// The bytes EF BB BF, which count as white space at the beginning of a text.
-const BYTE_ORDER_MARK: [u8; 3] = [0xEF, 0xBB, 0xBF];
+use text_fronts::{begins_word, comment_len, is_order_mark, is_white, word_len};
 
 /// A token that is no word.
 #[derive(Clone, Copy)]
@@ -39,24 +37,6 @@ pub enum Front<'a> {
     Token(Symbol<'a>, usize),
 }
 
-fn is_white(byte: u8) -> bool
-    ensures { result ≡ is_white byte }
-{
-    byte == b' ' || byte == b'\t' || byte == b'\n' || byte == b'\r'
-}
-
-fn begins_word(byte: u8) -> bool
-    ensures { result ≡ begins_word byte }
-{
-    byte.is_ascii_alphabetic() || byte == b'_'
-}
-
-fn is_word_byte(byte: u8) -> bool
-    ensures { result ≡ is_word_byte byte }
-{
-    begins_word(byte) || byte.is_ascii_digit()
-}
-
 fn mark_of(byte: u8) -> Option<Mark>
     ensures { option_map mark_view result ≡ mark_of byte }
 {
@@ -68,30 +48,6 @@ fn mark_of(byte: u8) -> Option<Mark>
         b';' => Some(Mark::Semicolon),
         _ => None,
     }
-}
-
-// How many bytes stand before the first line feed, or before the end.
-fn comment_len(bytes: &[u8]) -> usize
-    ensures { result ≡ prefix_len is_comment_byte bytes.now }
-{
-    for (i, byte) in bytes.iter().enumerate() {
-        if *byte == b'\n' {
-            return i;
-        }
-    }
-    bytes.len()
-}
-
-// How many bytes stand before the first that is in no word, or before the end.
-fn word_len(bytes: &[u8]) -> usize
-    ensures { result ≡ prefix_len is_word_byte bytes.now }
-{
-    for (i, byte) in bytes.iter().enumerate() {
-        if !is_word_byte(*byte) {
-            return i;
-        }
-    }
-    bytes.len()
 }
 
 // The word at the front of the bytes.
@@ -125,7 +81,7 @@ pub fn front_at<'a>(place: usize, bytes: &'a [u8]) -> Front<'a>
     if let Some(mark) = mark_of(*first) {
         return Front::Token(Symbol::Mark(mark), 1);
     }
-    if place == 0 && bytes.starts_with(&BYTE_ORDER_MARK) {
+    if is_order_mark(place, bytes) {
         return Front::Gap(3);
     }
     Front::Stray
