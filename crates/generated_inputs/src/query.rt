@@ -1,8 +1,8 @@
 // The query, with the place 0 everywhere, since it stands in no text.
-ghost use Rattle.std.specs.Prelude.{◌≡◌, IfOk, [], ◌∷◌, codes, Ok};
+ghost use Rattle.std.specs.Prelude.{◌≡◌, IfOk, [], ◌∷◌, Ok};
 ghost use Rattle.nq_model.specs.Judging.{program_judged};
 ghost use Rattle.nq_model.specs.Proper.{IsProperTerm};
-ghost use Rattle.nq_model.specs.Terms.{PlacedNode, bare, placed, placed_node, placed_fields};
+ghost use Rattle.nq_model.specs.Terms.{PlacedNode, bare, placed, placed_node};
 ghost use Rattle.generated_inputs.specs.Generated.{unplaced, variable, column, over, single, where_equal, record_of, tasks_function, employee_element, department_element, generated_schema, generated_query, generated_type};
 
 use nq_model::{Binary, Label, List, Memory, Node, Term, Ty, boxed};
