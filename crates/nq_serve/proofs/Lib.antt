@@ -3,3 +3,4 @@ pub mod Asks
 pub mod Finishes
 pub mod Serves
 pub mod FlatBags
+pub mod Summaries

@@ -1,15 +1,18 @@
 //! Serving a command: a server is loaded with tables and asked texts, each answer is tried against its columns before the
-//! next text is asked, and the value that the answers stitch to is written, or the rows of the one answer.
+//! next text is asked, and the value that the answers stitch to is written, or its summary, or the rows of the one answer.
 #![tactic(auto)]
 
 mod ask;
 mod finish;
 mod flat;
+mod laws;
 mod load;
 mod plan;
 mod refusal;
 mod serving;
+mod summary;
 
+pub use laws::summary_laws;
 pub use plan::{Finish, Plan};
 pub use refusal::ServerRefusal;
 pub use serving::serve;

@@ -7,6 +7,8 @@ use sql_profile::Loaded;
 pub enum Finish {
     /// The canonical text of the value of this bag type to which they stitch.
     Value(Ty),
+    /// The summary of the value of this bag type to which they stitch.
+    Summary(Ty),
     /// The rows of the one answer, in the order of their cells from the left, a line for each.
     Rows,
 }
