@@ -1,8 +1,8 @@
 // The rows that SQL trees give over tables, worked out by hand.
 use crate::built::{Chosen, Keep, Named, Value, text_of};
 use crate::held::organisation;
+use crate::told::{line, listed};
 use nq_model::{Cell, List, Memory};
-use rows::Rows;
 use sql_eval::{Arrangement, Joining, evaluate};
 use sql_plain::{Ties, evaluate_text};
 use std::alloc::Global;
@@ -239,17 +239,11 @@ const ROWS: [Row; 11] = [
     },
 ];
 
-// The rows, each cell with a blank behind it and each row with a semicolon.
+// The rows, each with a semicolon behind it.
 fn shown(alloc: Global, rows: &[List<Cell>]) -> Result<String, Memory> {
     let mut text = String::new(alloc);
     for row in rows {
-        for cell in row.as_slice() {
-            match cell {
-                Cell::Int(number) => write!(text, "{number} ")?,
-                Cell::Bool(truth) => write!(text, "{truth} ")?,
-                Cell::Text(word) => write!(text, "{} ", word.as_str())?,
-            }
-        }
+        text.push_str(line(alloc, row)?.as_str())?;
         text.push_str(";")?;
     }
     Ok(text)
@@ -270,15 +264,6 @@ fn gives(rt: HostRuntime) -> Result<(), Memory> {
         }
     }
     Ok(())
-}
-
-// The rows one by one.
-fn listed(alloc: Global, rows: &Rows) -> Result<Vec<List<Cell>>, Memory> {
-    let mut list = Vec::new(alloc);
-    for row in 0..rows.len() {
-        list.push(rows.row(alloc, row)?)?;
-    }
-    Ok(list)
 }
 
 #[test]

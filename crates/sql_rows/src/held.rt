@@ -1,5 +1,5 @@
 // The tables of an organisation, as a server holds them.
-use nq_model::{List, Memory, TableShape};
+use nq_model::{List, Memory, Schema, TableShape};
 use schema_reader::read_schema;
 use sql_profile::Loaded;
 use std::alloc::Global;
@@ -10,14 +10,16 @@ const SCHEMA: &[u8] = b"table departments (name: text);
 table employees (dept: text, name: text, salary: int);
 table tasks (employee: text, task: text);
 table t (a: int);
-table nothing (name: text);";
+table nothing (name: text);
+table branches (dept: text);";
 
-const TABLES: [&str; 5] = [
+const TABLES: [&str; 6] = [
     "name\nProduct\nQuality\nResearch\nSales\n",
     "dept,name,salary\nProduct,Alex,20000\nProduct,Bert,900\nSales,Erik,2000000\n",
     "employee,task\nAlex,build\nBert,build\nErik,call\nErik,enthuse\n",
     "a\n5\n6\n",
     "name\n",
+    "dept\nSales\nProduct\nSales\n",
 ];
 
 fn loaded(alloc: Global, shape: &TableShape, text: &str) -> Result<Loaded, Memory> {
@@ -33,9 +35,14 @@ fn loaded(alloc: Global, shape: &TableShape, text: &str) -> Result<Loaded, Memor
     })
 }
 
+/// The schema.
+pub fn schema(alloc: Global) -> Result<Schema, Memory> {
+    read_schema(alloc, SCHEMA).map_err(|_| Memory)
+}
+
 /// The tables.
 pub fn organisation(alloc: Global) -> Result<Vec<Loaded>, Memory> {
-    let schema = read_schema(alloc, SCHEMA).map_err(|_| Memory)?;
+    let schema = schema(alloc)?;
     let mut held = Vec::new(alloc);
     for (shape, text) in schema.tables.as_slice().iter().zip(TABLES.iter()) {
         held.push(loaded(alloc, shape, text)?)?;
