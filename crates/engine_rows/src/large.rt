@@ -11,13 +11,52 @@ use std::test::Fail;
 
 const COUNT: usize = 200_000;
 
-// Each row meets itself.
-const JOINED: &str =
-    r#"SELECT "x"."a" AS "a" FROM "t" AS "x", "t" AS "y" WHERE ("x"."a" = "y"."a")"#;
+// A text over every number in `t` and the even ones in `e`, and the numbers that answer it: how many, the first, and
+// the step by which they rise.
+struct Case {
+    text: &'static str,
+    count: usize,
+    first: i64,
+    step: i64,
+}
 
-// The rows that meet none of the other table.
-const ALONE: &str =
-    r#"SELECT "x"."a" AS "a" FROM "t" AS "x" WHERE (NOT EXISTS (SELECT 1 AS "o" FROM "e" AS "y" WHERE ("y"."a" = "x"."a")))"#;
+const CASES: [Case; 5] = [
+    // Each row meets itself.
+    Case {
+        text: r#"SELECT "x"."a" AS "a" FROM "t" AS "x", "t" AS "y" WHERE ("x"."a" = "y"."a")"#,
+        count: COUNT,
+        first: 0,
+        step: 1,
+    },
+    // The rows that meet none of the other table.
+    Case {
+        text: r#"SELECT "x"."a" AS "a" FROM "t" AS "x" WHERE (NOT EXISTS (SELECT 1 AS "o" FROM "e" AS "y" WHERE ("y"."a" = "x"."a")))"#,
+        count: COUNT / 2,
+        first: 1,
+        step: 2,
+    },
+    // A condition on the last source alone, which its first row meets.
+    Case {
+        text: r#"SELECT "x"."a" AS "a" FROM "t" AS "x", "t" AS "y", "e" AS "z" WHERE (("z"."a" < 2) AND ("x"."a" = "y"."a"))"#,
+        count: COUNT,
+        first: 0,
+        step: 1,
+    },
+    // A condition on the inner source alone, which no row meets.
+    Case {
+        text: r#"SELECT "x"."a" AS "a" FROM "t" AS "x" WHERE (NOT EXISTS (SELECT 1 AS "o" FROM "e" AS "y" WHERE ("y"."a" < 0)))"#,
+        count: COUNT,
+        first: 0,
+        step: 1,
+    },
+    // A condition on the source around alone, which the first half of its rows meets.
+    Case {
+        text: r#"SELECT "x"."a" AS "a" FROM "t" AS "x" WHERE (NOT EXISTS (SELECT 1 AS "o" FROM "e" AS "y" WHERE ("x"."a" < 100000)))"#,
+        count: COUNT / 2,
+        first: 100_000,
+        step: 1,
+    },
+];
 
 // As many pairs, whose first numbers rise from 0 by a step.
 fn pairs(alloc: Global, step: i64) -> Result<Vec<(i64, i64)>, Memory> {
@@ -30,16 +69,16 @@ fn pairs(alloc: Global, step: i64) -> Result<Vec<(i64, i64)>, Memory> {
     Ok(pairs)
 }
 
-// Whether the rows are so many numbers, which rise from a first by a step.
-fn rise(rows: &Rows, count: usize, first: i64, step: i64) -> bool {
-    let mut number = first;
+// Whether the rows are the numbers that answer a text.
+fn rise(rows: &Rows, case: &Case) -> bool {
+    let mut number = case.first;
     for row in 0..rows.len() {
         if rows.width(row) != 1 || rows.cell(row, 0) != CellRef::Int(number) {
             return false;
         }
-        number = number.wrapping_add(step);
+        number = number.wrapping_add(case.step);
     }
-    rows.len() == count
+    rows.len() == case.count
 }
 
 #[test]
@@ -49,10 +88,10 @@ fn joins_and_not_exists(rt: HostRuntime) -> Result<(), Fail> {
     let (every, even) = (pairs(alloc, 1)?, pairs(alloc, 2)?);
     let mut server: Box<dyn SqlServer> = Box::new(alloc, FastServer::new(alloc))?;
     load_both(alloc, &mut server, every.as_slice(), even.as_slice())?;
-    let joined = ask(alloc, &mut server, &schema, JOINED)?;
-    assert!(&rt; rise(&joined.rows, COUNT, 0, 1));
-    let alone = ask(alloc, &mut server, &schema, ALONE)?;
-    assert!(&rt; rise(&alone.rows, COUNT / 2, 1, 2));
+    for case in &CASES {
+        let answer = ask(alloc, &mut server, &schema, case.text)?;
+        assert!(&rt; rise(&answer.rows, case), "{}", case.text);
+    }
     Ok(())
 }
 

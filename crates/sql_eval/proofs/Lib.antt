@@ -18,6 +18,8 @@ pub mod Pieces
 pub mod Keeping
 pub mod Levels
 pub mod Agreeing
+pub mod RulingOut
 pub mod Skipping
 pub mod Chaining
 pub mod Comparing
+pub mod Meeting

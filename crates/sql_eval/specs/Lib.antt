@@ -2,6 +2,7 @@ pub mod Scopes
 pub mod Lists
 pub mod Combinations
 pub mod Comparisons
+pub mod Conditions
 pub mod Chains
 pub mod Keys
 pub mod Joins
