@@ -14,7 +14,7 @@ use Rattle.shred_types.specs.Columns.{columns_at}
 use Rattle.sql_profile.specs.declared.server.Loaded.{Loaded}
 use Rattle.nq_serve.specs.Plans.{Finish, Plan, plan_view, IsServable}
 use Rattle.nq_serve.specs.declared.plan.Plan.{Plan as Asked}
-use Rattle.nq_top.specs.Gathering.{HoldsPlan}
+use Rattle.nq_top.specs.Gathering.{HoldsPlan, IsTyped}
 use Rattle.nq_top.specs.Plans.{AreReadFor, Question, plan_to, generated_plan, generated_question}
 use Rattle.nq_top.specs.Reading.{PlainReading, refused_as, ill_typed, type_read}
 use Rattle.nq_top.proofs.Plans.{summary_servable, summary_holds}
@@ -24,15 +24,22 @@ read_type : program_judged generated_schema generated_query ≡ Ok generated_typ
 unfolding type_read
 read_type typed = ap (refused_as ill_typed) typed
 
+read_as : (schema : Schema) (term : PlacedTerm) → schema ≡ generated_schema → term ≡ generated_query → program_judged generated_schema generated_query ≡ Ok generated_type → type_read schema term ≡ Ok generated_type
+read_as schema term schema_is term_is typed =
+    subst (λ (s : Schema). type_read s term ≡ Ok generated_type) (sym schema_is)
+    (subst (λ (t : PlacedTerm). type_read generated_schema t ≡ Ok generated_type) (sym term_is) (read_type typed))
+
+-- the query has a type
+pub has_type : (schema : Schema) (term : PlacedTerm) → schema ≡ generated_schema → term ≡ generated_query → program_judged generated_schema generated_query ≡ Ok generated_type → IsTyped schema term
+has_type schema term schema_is term_is typed = record { type = generated_type; typed = read_as schema term schema_is term_is typed }
+
 module _ (schema : Schema) (term : PlacedTerm) (type : TypeTree) (texts : List (List ℕ)) (columns : List (List ColumnType)) (tables : List Loaded) (size : ℕ)
     (schema_is : schema ≡ generated_schema) (term_is : term ≡ generated_query) (tables_are : tables ≡ generated_tables size)
     (proper_schema : IsProperSchema schema) (proper_term : IsProperTerm (bare term)) (typed : program_judged generated_schema generated_query ≡ Ok generated_type)
     (stored : AreTablesOf generated_schema.tables (generated_rows size))
     (shred : TextsShred schema term type [] texts) (result_is : ResultIs schema term type [] texts) (columns_of : columns ≡ map (columns_at type) (paths type)) where
   read : type_read schema term ≡ Ok generated_type
-  read =
-      subst (λ (s : Schema). type_read s term ≡ Ok generated_type) (sym schema_is)
-      (subst (λ (t : PlacedTerm). type_read generated_schema t ≡ Ok generated_type) (sym term_is) (read_type typed))
+  read = read_as schema term schema_is term_is typed
 
   held : AreReadFor schema.tables tables
   unfolding generated_tables
