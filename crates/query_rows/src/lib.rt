@@ -9,6 +9,8 @@ mod canonical;
 #[cfg(test)]
 mod deep;
 #[cfg(test)]
+mod generated;
+#[cfg(test)]
 mod shown;
 #[cfg(test)]
 mod terms;

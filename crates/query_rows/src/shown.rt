@@ -1,5 +1,6 @@
 // Terms as text, with each variable named after how many binders stand around its own: x1 is the outermost.
-use nq_model::{Binary, Memory, Node, Term};
+use nq_model::{Binary, Label, Memory, Node, Term, Ty};
+use nq_types::write_type;
 use std::alloc::Global;
 
 /// The text of a term, with the place of each node before it where `places` says so. A form that no row leaves
@@ -31,6 +32,14 @@ impl Page {
     fn number(&mut self, before: &str, number: u64, after: &str) -> Result<(), Memory> {
         let text = format!(in self.alloc; "{before}{number}{after}")?;
         self.say(text.as_str())
+    }
+
+    // The parameter of a function, and the arrow.
+    fn parameter(&mut self, level: u64, taken: &Ty) -> Result<(), Memory> {
+        let taken = write_type(self.alloc, taken)?;
+        self.number("fun (x", level, ": ")?;
+        self.say(str::from_utf8(taken.as_slice()).unwrap_or("?"))?;
+        self.say(") -> ")
     }
 
     #[cycle(put)]
@@ -83,6 +92,23 @@ impl Page {
                 self.put(right, level)?;
                 self.say(")")
             }
+            Node::Rec(fields) => self.put_record(fields.as_slice(), level),
+            Node::Fun { taken, body } => {
+                self.parameter(under, taken)?;
+                self.put(body, under)
+            }
+            Node::Apply { func, arg } => {
+                self.put(func, level)?;
+                self.say("(")?;
+                self.put(arg, level)?;
+                self.say(")")
+            }
+            Node::Bind { value, body } => {
+                self.number("let x", under, " = ")?;
+                self.put(value, level)?;
+                self.say("; ")?;
+                self.put(body, under)
+            }
             Node::For { source, body } => {
                 self.number("for (x", under, " <- ")?;
                 self.put(source, level)?;
@@ -97,6 +123,18 @@ impl Page {
             }
             _ => self.say("?"),
         }
+    }
+
+    #[cycle(put)]
+    fn put_record(&mut self, fields: &[(Label, Term)], level: u64) -> Result<(), Memory> {
+        self.say("(")?;
+        for field in fields {
+            self.say(field.0.as_str())?;
+            self.say(" = ")?;
+            self.put(&field.1, level)?;
+            self.say(", ")?;
+        }
+        self.say(")")
     }
 }
 
