@@ -11,87 +11,72 @@ use std::test::Fail;
 
 const COUNT: usize = 200_000;
 
-// A text over every number in `t` and the even ones in `e`, and the numbers that answer it: how many, the first, and
-// the step by which they rise.
-struct Case {
-    text: &'static str,
-    count: usize,
-    first: i64,
-    step: i64,
-}
+const HALF: usize = COUNT / 2;
 
-const CASES: [Case; 5] = [
-    // Each row meets itself.
-    Case {
-        text: r#"SELECT "x"."a" AS "a" FROM "t" AS "x", "t" AS "y" WHERE ("x"."a" = "y"."a")"#,
-        count: COUNT,
-        first: 0,
-        step: 1,
-    },
-    // The rows that meet none of the other table.
-    Case {
-        text: r#"SELECT "x"."a" AS "a" FROM "t" AS "x" WHERE (NOT EXISTS (SELECT 1 AS "o" FROM "e" AS "y" WHERE ("y"."a" = "x"."a")))"#,
-        count: COUNT / 2,
-        first: 1,
-        step: 2,
-    },
-    // A condition on the last source alone, which its first row meets.
-    Case {
-        text: r#"SELECT "x"."a" AS "a" FROM "t" AS "x", "t" AS "y", "e" AS "z" WHERE (("z"."a" < 2) AND ("x"."a" = "y"."a"))"#,
-        count: COUNT,
-        first: 0,
-        step: 1,
-    },
-    // A condition on the inner source alone, which no row meets.
-    Case {
-        text: r#"SELECT "x"."a" AS "a" FROM "t" AS "x" WHERE (NOT EXISTS (SELECT 1 AS "o" FROM "e" AS "y" WHERE ("y"."a" < 0)))"#,
-        count: COUNT,
-        first: 0,
-        step: 1,
-    },
-    // A condition on the source around alone, which the first half of its rows meets.
-    Case {
-        text: r#"SELECT "x"."a" AS "a" FROM "t" AS "x" WHERE (NOT EXISTS (SELECT 1 AS "o" FROM "e" AS "y" WHERE ("x"."a" < 100000)))"#,
-        count: COUNT / 2,
-        first: 100_000,
-        step: 1,
-    },
-];
+// Each row meets itself.
+const JOINED: &str =
+    r#"SELECT "x"."a" AS "a" FROM "t" AS "x", "t" AS "y" WHERE ("x"."a" = "y"."a")"#;
+
+// The rows that meet none of the other table.
+const ALONE: &str =
+    r#"SELECT "x"."a" AS "a" FROM "t" AS "x" WHERE (NOT EXISTS (SELECT 1 AS "o" FROM "e" AS "y" WHERE ("y"."a" = "x"."a")))"#;
+
+// Every row, as often as there are rows in the other table whose number is below 2: it has one, the first.
+const LAST_ALONE: &str =
+    r#"SELECT "x"."a" AS "a" FROM "t" AS "x", "t" AS "y", "e" AS "z" WHERE (("z"."a" < 2) AND ("x"."a" = "y"."a"))"#;
+
+// The rows whose number is not below 100, since the other table has rows.
+const AROUND_ALONE: &str =
+    r#"SELECT "x"."a" AS "a" FROM "t" AS "x" WHERE (NOT EXISTS (SELECT 1 AS "o" FROM "e" AS "y" WHERE ("x"."a" < 100)))"#;
 
 // As many pairs, whose first numbers rise from 0 by a step.
-fn pairs(alloc: Global, step: i64) -> Result<Vec<(i64, i64)>, Memory> {
-    let mut pairs = Vec::with_capacity(alloc, COUNT)?;
+fn pairs(alloc: Global, count: usize, step: i64) -> Result<Vec<(i64, i64)>, Memory> {
+    let mut pairs = Vec::with_capacity(alloc, count)?;
     let mut number: i64 = 0;
-    for _ in 0..COUNT {
+    for _ in 0..count {
         pairs.push((number, 0))?;
         number = number.wrapping_add(step);
     }
     Ok(pairs)
 }
 
-// Whether the rows are the numbers that answer a text.
-fn rise(rows: &Rows, case: &Case) -> bool {
-    let mut number = case.first;
+// Whether the rows are so many numbers, which rise from a first by a step.
+fn rise(rows: &Rows, count: usize, first: i64, step: i64) -> bool {
+    let mut number = first;
     for row in 0..rows.len() {
         if rows.width(row) != 1 || rows.cell(row, 0) != CellRef::Int(number) {
             return false;
         }
-        number = number.wrapping_add(case.step);
+        number = number.wrapping_add(step);
     }
-    rows.len() == case.count
+    rows.len() == count
 }
 
 #[test]
 fn joins_and_not_exists(rt: HostRuntime) -> Result<(), Fail> {
     let alloc = rt.alloc();
     let schema = schema(alloc)?;
-    let (every, even) = (pairs(alloc, 1)?, pairs(alloc, 2)?);
+    let (every, even) = (pairs(alloc, COUNT, 1)?, pairs(alloc, COUNT, 2)?);
     let mut server: Box<dyn SqlServer> = Box::new(alloc, FastServer::new(alloc))?;
     load_both(alloc, &mut server, every.as_slice(), even.as_slice())?;
-    for case in &CASES {
-        let answer = ask(alloc, &mut server, &schema, case.text)?;
-        assert!(&rt; rise(&answer.rows, case), "{}", case.text);
-    }
+    let joined = ask(alloc, &mut server, &schema, JOINED)?;
+    assert!(&rt; rise(&joined.rows, COUNT, 0, 1));
+    let alone = ask(alloc, &mut server, &schema, ALONE)?;
+    assert!(&rt; rise(&alone.rows, HALF, 1, 2));
+    Ok(())
+}
+
+#[test]
+fn conditions_on_one_source(rt: HostRuntime) -> Result<(), Fail> {
+    let alloc = rt.alloc();
+    let schema = schema(alloc)?;
+    let (every, even) = (pairs(alloc, HALF, 1)?, pairs(alloc, HALF, 2)?);
+    let mut server: Box<dyn SqlServer> = Box::new(alloc, FastServer::new(alloc))?;
+    load_both(alloc, &mut server, every.as_slice(), even.as_slice())?;
+    let last = ask(alloc, &mut server, &schema, LAST_ALONE)?;
+    assert!(&rt; rise(&last.rows, HALF, 0, 1));
+    let around = ask(alloc, &mut server, &schema, AROUND_ALONE)?;
+    assert!(&rt; rise(&around.rows, HALF - 100, 100, 1));
     Ok(())
 }
 
