@@ -333,8 +333,8 @@ const ROWS: [Row; 43] = [
     },
 ];
 
-// The inputs of a row, whose query is this text.
-fn inputs_of(alloc: Global, row: &Row, query: List<u8>) -> Result<HeldInputs, Fail> {
+/// The inputs of a row, whose query is this text.
+pub fn inputs_of(alloc: Global, row: &Row, query: List<u8>) -> Result<HeldInputs, Fail> {
     let failing = List::from_slice(alloc, row.failing)?;
     let mut files = List::new(alloc);
     files.push((Text::from_str(alloc, "org")?, padded(alloc, 0, ORG)?))?;

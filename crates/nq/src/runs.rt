@@ -33,9 +33,9 @@ pub fn padded(alloc: Global, blanks: usize, text: &str) -> Result<List<u8>, Fail
 }
 
 // The words of a run.
-fn words_of(alloc: Global, wanted: &Wanted) -> Result<Vec<String>, Fail> {
+fn words_of(alloc: Global, listed: &[&str]) -> Result<Vec<String>, Fail> {
     let mut words = Vec::new(alloc);
-    for word in wanted.words {
+    for word in listed {
         words.push(String::from_str(alloc, word)?)?;
     }
     Ok(words)
@@ -69,7 +69,7 @@ pub fn check_run_over(
 ) -> Result<(), Fail>
     requires { loaded server ≡ [] }
 {
-    let words = words_of(alloc, wanted)?;
+    let words = words_of(alloc, wanted.words)?;
     let mut out = HeldSink::new(alloc, wanted.room)?;
     let mut notes = HeldSink::new(alloc, 200)?;
     let status = nq_main(
@@ -84,6 +84,31 @@ pub fn check_run_over(
     Ok(())
 }
 
+/// What the program writes over these inputs and the plain server. It ends with status 0 and writes no note.
+pub fn written(
+    rt: &impl Abort,
+    alloc: Global,
+    mut inputs: HeldInputs,
+    words: &[&str],
+    room: u64,
+) -> Result<HeldSink, Fail> {
+    let words = words_of(alloc, words)?;
+    let server: Box<dyn SqlServer> = Box::new(alloc, PlainServer::new(alloc))?;
+    let mut out = HeldSink::new(alloc, room)?;
+    let mut notes = HeldSink::new(alloc, 200)?;
+    let status = nq_main(
+        alloc,
+        words.as_slice(),
+        &mut inputs,
+        &mut out,
+        &mut notes,
+        server,
+    );
+    assert_eq!(rt; status, 0);
+    assert_eq!(rt; notes.bytes().len(), 0);
+    Ok(out)
+}
+
 /// Runs the program over these inputs and a server that is lent and holds no table.
 pub fn check_run_lent(
     rt: &impl Abort,
@@ -94,7 +119,7 @@ pub fn check_run_lent(
 ) -> Result<(), Fail>
     requires { loaded server.old ≡ [] }
 {
-    let words = words_of(alloc, wanted)?;
+    let words = words_of(alloc, wanted.words)?;
     let mut out = HeldSink::new(alloc, wanted.room)?;
     let mut notes = HeldSink::new(alloc, 200)?;
     let status = nq_lent(

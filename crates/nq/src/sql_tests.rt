@@ -1,6 +1,7 @@
 // Whole runs that show the SQL texts of queries, which are worked out by hand.
-use crate::query_tests::{CHECK, NESTED, Row, run_row};
-use crate::runs::padded;
+use crate::query_tests::{CHECK, NESTED, Row, inputs_of, run_row};
+use crate::runs::{padded, written};
+use std::process::Abort;
 use std::test::Fail;
 
 const SQL: Row = Row {
@@ -130,5 +131,45 @@ fn shows_the_texts_of_each_query(rt: HostRuntime) -> Result<(), Fail> {
     for row in &TEXTS {
         run_row(&rt, alloc, row, padded(alloc, 0, row.query)?)?;
     }
+    Ok(())
+}
+
+// A bag of a bag, which a function doubles 13 times.
+const DOUBLED: &str =
+    "let f = fun (x: [[int]]) -> x ++ x; f(f(f(f(f(f(f(f(f(f(f(f(f([[1]])))))))))))))";
+
+// How many bytes each of its texts has. The 8,192 outer comprehensions have the odd tags to 16,383, which are 35,405
+// digits, and their WITH queries the numbers to 8,192, which are 31,661. Between SELECTs stands UNION ALL with its
+// blanks, 11 bytes. Each of the first text has 67 bytes and its tag; for each the second has a WITH query of 44 bytes
+// and its number, with `, ` between, and a SELECT of 60, its tag and its number.
+const TEXT_SIZES: [(&str, usize); 2] = [
+    ("/", 8_192 * 67 + 35_405 + 8_191 * 11),
+    (
+        "/[]",
+        5 + 8_192 * 44 + 31_661 + 8_191 * 2 + 1 + 8_192 * 60 + 35_405 + 31_661 + 8_191 * 11,
+    ),
+];
+
+// What stands behind a frame with this first line, whose text has so many bytes.
+fn behind_frame<'a>(written: &'a [u8], line: &str, size: usize) -> Option<&'a [u8]> {
+    let text = written.strip_prefix(line.as_bytes())?;
+    let (_, end) = text.split_at_checked(size)?;
+    end.strip_prefix(b"\n;\n")
+}
+
+#[test]
+fn shows_texts_of_more_than_a_megabyte(rt: HostRuntime) -> Result<(), Fail> {
+    let alloc = rt.alloc();
+    let inputs = inputs_of(alloc, &SQL, padded(alloc, 0, DOUBLED)?)?;
+    let out = written(&rt, alloc, inputs, SQL.words, 2_000_000)?;
+    assert!(&rt; TEXT_SIZES[0].1 + TEXT_SIZES[1].1 > 1_048_576);
+    let mut rest = out.bytes();
+    for (path, size) in &TEXT_SIZES {
+        let line = format!(in alloc; "-- {path} {size}\n")?;
+        let behind = behind_frame(rest, line.as_str(), *size);
+        assert!(&rt; behind.is_some(), "{path}");
+        rest = behind.unwrap_or(rest);
+    }
+    assert!(&rt; rest.is_empty());
     Ok(())
 }
