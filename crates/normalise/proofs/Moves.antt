@@ -1,6 +1,6 @@
 -- Base terms under more generators: moved twice is moved once, and numbered as if the numbers of the others were alone
 -- in scope.
-use Rattle.std.proofs.Common.{◌≡◌, ℕ, zero, suc, ◌+◌, ◌≤◌, List, [], ◌∷◌, drop, refl, sym, ap, ap₂, ◌∙◌, length, get_or, arith}
+use Rattle.std.proofs.Common.{◌≡◌, ℕ, zero, suc, ◌+◌, ◌≤◌, List, [], ◌∷◌, drop, map, refl, sym, ap, ap₂, ◌∙◌, length, get_or, arith}
 use Rattle.nq_model.specs.NamedRows.{Label}
 use Rattle.nq_ir.specs.NormalForms.{gens_in_base, gens_in_conds, gens_in_tests, number_gens, deal, number_base, number_conds, number_tests}
 use Rattle.nq_ir.specs.RawForms.{RawBase, raw_literal, raw_column, raw_unary, raw_binary, raw_choose, raw_empty, RawConds, no_raw, and_raw, RawTests, no_raw_test, raw_test, up_index, up_base, up_bases, up_tests}
@@ -59,6 +59,10 @@ mutual
   tests_same : (xs : RawTests) (c : ℕ) → up_tests 0 c xs ≡ xs
   tests_same no_raw_test c = refl
   tests_same (raw_test gs bs xs) c = ap₂ (raw_test gs) (bases_same bs (length gs + c)) (tests_same xs c)
+
+pub all_same : (bs : List RawBase) → map (up_base 0 0) bs ≡ bs
+all_same [] = refl
+all_same (b ∷ bs) = ap₂ (λ (y : RawBase) (z : List RawBase). y ∷ z) (base_same b 0) (all_same bs)
 
 -- what has not been moved
 pub base_unmoved : (m : MovedBase) → m.more ≡ 0 → moved_base m ≡ raw_base m.base.value

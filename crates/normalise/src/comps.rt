@@ -3,9 +3,8 @@ ghost use Rattle.std.specs.Prelude.{◌≡◌, ◌++◌, IfOk, OnOk, map, revers
 ghost use Rattle.nq_ir.specs.RawForms.{append_raw, no_raw, no_raw_comp, raw_base_in, raw_comp, raw_comps_in, where_raw};
 ghost use Rattle.normalise.specs.Raw.{comp_part, inside_part, moved_base, moved_body, raw_comps, raw_conds};
 
-use crate::depth::deepest;
 use crate::raw::{MovedBase, MovedBody, RawBase, RawBody, RawComp};
-use crate::raw_copy::{conds_under, copy_labels};
+use crate::raw_copy::{all_under, copy_labels, shared_conds};
 use nq_model::{Label, List, Memory};
 use std::alloc::Global;
 
@@ -76,13 +75,14 @@ pub(crate) fn append(left: List<RawComp>, right: List<RawComp>) -> Result<List<R
     joined(left, right)
 }
 
-/// Each of `parts` inside the generators of `tables` and under `conds`, put behind `all`. The last takes them as they
-/// stand.
+/// Each of `parts` inside the generators of `tables` and under `conds`, of which the deepest is so deep, put behind
+/// `all`. The last takes them as they stand.
 pub(crate) fn put_inside(
     alloc: Global,
     all: &mut List<RawComp>,
     tables: List<Label>,
     conds: List<MovedBase>,
+    deepest: u64,
     parts: List<RawComp>,
 ) -> Result<(), Memory>
     ensures { OnOk result (map comp_part all.new ≡ map comp_part all.old ++ map (inside_part tables (raw_conds conds)) (map comp_part parts)) }
@@ -90,8 +90,15 @@ pub(crate) fn put_inside(
     let mut parts = parts;
     match parts.pop() {
         Some(last) => {
-            put_each_inside(alloc, all, tables.as_slice(), conds.as_slice(), parts)?;
-            let part = inside_one(alloc, tables, conds.as_slice(), last)?;
+            put_each_inside(
+                alloc,
+                all,
+                tables.as_slice(),
+                conds.as_slice(),
+                deepest,
+                parts,
+            )?;
+            let part = inside_one(alloc, tables, conds, deepest, last)?;
             all.push(part)?;
             Ok(())
         }
@@ -104,13 +111,15 @@ fn put_each_inside(
     all: &mut List<RawComp>,
     tables: &[Label],
     conds: &[MovedBase],
+    deepest: u64,
     parts: List<RawComp>,
 ) -> Result<(), Memory>
     ensures { OnOk result (map comp_part all.new ≡ map comp_part all.old ++ map (inside_part tables.now (raw_conds conds.now)) (map comp_part parts)) }
 {
     for part in parts.into_vec() {
         let outer = copy_labels(alloc, tables)?;
-        all.push(inside_one(alloc, outer, conds, part)?)?;
+        let around = shared_conds(alloc, conds)?;
+        all.push(inside_one(alloc, outer, around, deepest, part)?)?;
     }
     Ok(())
 }
@@ -118,10 +127,11 @@ fn put_each_inside(
 fn inside_one(
     alloc: Global,
     tables: List<Label>,
-    conds: &[MovedBase],
+    conds: List<MovedBase>,
+    deepest: u64,
     part: RawComp,
 ) -> Result<RawComp, Memory>
-    ensures { IfOk result (λ comp. comp_part comp ≡ inside_part tables (raw_conds conds.now) (comp_part part)) }
+    ensures { IfOk result (λ comp. comp_part comp ≡ inside_part tables (raw_conds conds) (comp_part part)) }
 {
     let more = part.tables.len() as u64;
     let RawComp {
@@ -130,14 +140,13 @@ fn inside_one(
         deepest: own_deepest,
         body,
     } = part;
-    let deepest = own_deepest.max(deepest(conds));
-    let around = conds_under(alloc, conds, more, 0)?;
+    let around = all_under(alloc, conds, more)?;
     let tables = joined(tables, own_tables)?;
     let conds = joined(around, own_conds)?;
     Ok(RawComp {
         tables,
         conds,
-        deepest,
+        deepest: deepest.max(own_deepest),
         body,
     })
 }
@@ -150,9 +159,10 @@ pub(crate) fn guarded(
 ) -> Result<List<RawComp>, Memory>
     ensures { IfOk result (λ all. raw_comps all ≡ where_raw (moved_base cond) (raw_comps parts)) }
 {
+    let deepest = cond.depth;
     let mut conds = List::with_capacity(alloc, 1)?;
     conds.push(cond)?;
     let mut all = List::with_capacity(alloc, parts.len())?;
-    put_inside(alloc, &mut all, List::new(alloc), conds, parts)?;
+    put_inside(alloc, &mut all, List::new(alloc), conds, deepest, parts)?;
     Ok(all)
 }

@@ -26,8 +26,8 @@ pub(crate) fn body_depth(body: &RawBody) -> Result<u64, Memory> {
     }
 }
 
-/// How deep the deepest condition is.
-pub(crate) fn deepest(conds: &[MovedBase]) -> u64 {
+// How deep the deepest condition is.
+fn deepest(conds: &[MovedBase]) -> u64 {
     let mut deepest: u64 = 0;
     for cond in conds {
         deepest = deepest.max(cond.depth);

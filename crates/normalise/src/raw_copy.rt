@@ -54,3 +54,29 @@ pub(crate) fn conds_under(
     }
     Ok(moved)
 }
+
+/// The same conditions.
+pub(crate) fn shared_conds(alloc: Global, conds: &[MovedBase]) -> Result<List<MovedBase>, Memory>
+    ensures { IfOk result (λ shared. map moved_base shared ≡ map moved_base conds.now) }
+{
+    let mut shared = List::with_capacity(alloc, conds.len())?;
+    for cond in conds {
+        shared.push(cond.shared()?)?;
+    }
+    Ok(shared)
+}
+
+/// These conditions under `more` generators.
+pub(crate) fn all_under(
+    alloc: Global,
+    conds: List<MovedBase>,
+    more: u64,
+) -> Result<List<MovedBase>, Memory>
+    ensures { IfOk result (λ moved. map moved_base moved ≡ map (up_base more 0) (map moved_base conds)) }
+{
+    if more == 0 {
+        Ok(conds)
+    } else {
+        conds_under(alloc, conds.as_slice(), more, 0)
+    }
+}

@@ -5,7 +5,7 @@ ghost use Rattle.normalise.specs.Raw.{append_tests, bodiless, comp_part, moved_b
 
 use crate::comps::joined;
 use crate::raw::{MovedBase, RawComp, RawTest};
-use crate::raw_copy::{conds_under, copy_labels};
+use crate::raw_copy::{all_under, copy_labels, shared_conds};
 use nq_model::{Label, List, Memory};
 use std::alloc::Global;
 
@@ -56,7 +56,7 @@ pub(crate) fn put_tests_inside(
     match parts.pop() {
         Some(last) => {
             put_each_test_inside(alloc, all, tables.as_slice(), conds.as_slice(), parts)?;
-            let part = inside_test(alloc, tables, conds.as_slice(), last)?;
+            let part = inside_test(alloc, tables, conds, last)?;
             all.push(part)?;
             Ok(())
         }
@@ -75,7 +75,8 @@ fn put_each_test_inside(
 {
     for part in parts.into_vec() {
         let outer = copy_labels(alloc, tables)?;
-        all.push(inside_test(alloc, outer, conds, part)?)?;
+        let around = shared_conds(alloc, conds)?;
+        all.push(inside_test(alloc, outer, around, part)?)?;
     }
     Ok(())
 }
@@ -83,17 +84,17 @@ fn put_each_test_inside(
 fn inside_test(
     alloc: Global,
     tables: List<Label>,
-    conds: &[MovedBase],
+    conds: List<MovedBase>,
     part: RawTest,
 ) -> Result<RawTest, Memory>
-    ensures { IfOk result (λ test. test_part test ≡ test_inside tables (raw_conds conds.now) (test_part part)) }
+    ensures { IfOk result (λ test. test_part test ≡ test_inside tables (raw_conds conds) (test_part part)) }
 {
     let more = part.tables.len() as u64;
     let RawTest {
         tables: own_tables,
         conds: own_conds,
     } = part;
-    let around = conds_under(alloc, conds, more, 0)?;
+    let around = all_under(alloc, conds, more)?;
     let tables = joined(tables, own_tables)?;
     let conds = joined(around, own_conds)?;
     Ok(RawTest { tables, conds })

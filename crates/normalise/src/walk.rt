@@ -69,8 +69,8 @@ fn body(alloc: Global, schema: &Schema, term: &Term, scope: &Scope) -> Result<Mo
                 let RawComp {
                     tables,
                     conds,
+                    deepest,
                     body: of,
-                    ..
                 } = comp;
                 let deeper = Scope::Under {
                     count: tables.len() as u64,
@@ -81,7 +81,7 @@ fn body(alloc: Global, schema: &Schema, term: &Term, scope: &Scope) -> Result<Mo
                     outer: &deeper,
                 };
                 let parts = comps(alloc, schema, rest, &inner)?;
-                put_inside(alloc, &mut all, tables, conds, parts)?;
+                put_inside(alloc, &mut all, tables, conds, deepest, parts)?;
             }
             bag(alloc, all)
         }

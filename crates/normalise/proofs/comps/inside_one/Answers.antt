@@ -8,5 +8,5 @@ pub returns : goal.returns
 returns c =
     let x = c.args.part in
     let more : c.len-more.result ≡ length x.tables = search rules in
-    let f = c.in_ok-around.ensures ∙ ap (λ n. map (up_base n 0) (map moved_base c.args.conds.now)) more in
-    comp_inside c.args.tables c.args.conds.now x c.in_ok-tables.tables c.in_ok-around.around c.in_ok-conds.conds _ c.in_ok-tables.ensures c.in_ok-conds.ensures f
+    let f = c.in_ok-around.ensures ∙ ap (λ n. map (up_base n 0) (map moved_base c.args.conds)) more in
+    comp_inside c.args.tables c.args.conds x c.in_ok-tables.tables c.in_ok-around.around c.in_ok-conds.conds _ c.in_ok-tables.ensures c.in_ok-conds.ensures f
