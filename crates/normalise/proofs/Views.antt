@@ -4,7 +4,7 @@ use Rattle.nq_model.specs.NamedRows.{Label}
 use Rattle.nq_model.specs.declared.term.Binary.{Binary}
 use Rattle.nq_model.specs.declared.term.Unary.{Unary}
 use Rattle.nq_ir.specs.RawForms.{RawBase, raw_binary, raw_choose, raw_empty, raw_unary, up_base, RawBody, raw_plain, raw_rec, raw_bag, up_body}
-use Rattle.normalise.specs.declared.raw.RawBase.{RawBase as CodeBase, RawBase-F, fold-roll-RawBase}
+use Rattle.normalise.specs.declared.raw.RawBase.{RawBase-F, fold-roll-RawBase}
 use Rattle.normalise.specs.declared.raw.RawBase.TheVariants as base
 use Rattle.normalise.specs.declared.raw.MovedBase.{MovedBase, fold-roll-MovedBase}
 use Rattle.normalise.specs.declared.raw.RawTest.{RawTest as CodeTest, fold-roll-RawTest, fold_out-RawTest, out-RawTest, roll-RawTest}

@@ -10,6 +10,7 @@ use std::alloc::Global;
 
 /// The base term of a body; FALSE where it has another shape, as in no typed term.
 #[tactic(auto, using(crate::proofs::Views::moved_body_is, crate::proofs::Views::body_rec, crate::proofs::Views::body_bag))]
+#[inline(never)]
 pub(crate) fn base_in(alloc: Global, body: &MovedBody) -> Result<MovedBase, Memory>
     ensures { IfOk result (λ b. moved_base b ≡ raw_base_in (moved_body body.now)) }
 {
@@ -21,6 +22,7 @@ pub(crate) fn base_in(alloc: Global, body: &MovedBody) -> Result<MovedBase, Memo
 
 /// The comprehensions of a body; none where it has another shape, as in no typed term.
 #[tactic(auto, using(crate::proofs::Views::body_plain, crate::proofs::Views::body_rec, crate::proofs::Views::body_bag))]
+#[inline(never)]
 pub(crate) fn comps_in(alloc: Global, body: MovedBody) -> Result<List<RawComp>, Memory>
     ensures { IfOk result (λ cs. raw_comps cs ≡ raw_comps_in (moved_body body)) }
 {
@@ -77,6 +79,7 @@ pub(crate) fn append(left: List<RawComp>, right: List<RawComp>) -> Result<List<R
 
 /// Each of `parts` inside the generators of `tables` and under `conds`, of which the deepest is so deep, put behind
 /// `all`. The last takes them as they stand.
+#[inline(never)]
 pub(crate) fn put_inside(
     alloc: Global,
     all: &mut List<RawComp>,

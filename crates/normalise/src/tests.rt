@@ -10,6 +10,7 @@ use nq_model::{Label, List, Memory};
 use std::alloc::Global;
 
 /// One comprehension over the table of that name.
+#[inline(never)]
 pub(crate) fn test_of_table(alloc: Global, name: &Label) -> Result<List<RawTest>, Memory>
     ensures { IfOk result (λ tests. raw_tests tests ≡ raw_test (name.now ∷ []) no_raw no_raw_test) }
 {
@@ -20,6 +21,7 @@ pub(crate) fn test_of_table(alloc: Global, name: &Label) -> Result<List<RawTest>
 
 /// One comprehension without conditions.
 #[tactic(auto, using(crate::proofs::Views::test_is))]
+#[inline(never)]
 pub(crate) fn one_test(alloc: Global, tables: List<Label>) -> Result<List<RawTest>, Memory>
     ensures { IfOk result (λ tests. raw_tests tests ≡ raw_test tables no_raw no_raw_test) }
 {
@@ -32,6 +34,7 @@ pub(crate) fn one_test(alloc: Global, tables: List<Label>) -> Result<List<RawTes
 }
 
 /// These comprehensions, and then those.
+#[inline(never)]
 pub(crate) fn append_tests(
     left: List<RawTest>,
     right: List<RawTest>,
@@ -43,6 +46,7 @@ pub(crate) fn append_tests(
 
 /// Each of `parts` inside the generators of `tables` and under `conds`, put behind `all`. The last takes them as they
 /// stand.
+#[inline(never)]
 pub(crate) fn put_tests_inside(
     alloc: Global,
     all: &mut List<RawTest>,

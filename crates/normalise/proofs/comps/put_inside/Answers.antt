@@ -1,7 +1,5 @@
-use Rattle.std.proofs.Common.{rules, ◌≡◌, ◌++◌, ap₂, ◌∙◌, map, List}
-use Rattle.nq_model.specs.NamedRows.{Label}
+use Rattle.std.proofs.Common.{rules, ◌≡◌, ◌++◌, map}
 use Rattle.normalise.specs.Raw.{comp_part, inside_part, raw_conds}
-use Rattle.normalise.specs.declared.raw.MovedBase.{MovedBase}
 use Rattle.normalise.proofs.Lists.{put_last}
 use Rattle.normalise.proofs.comps.put_inside.Goals as goal
 

@@ -1,7 +1,5 @@
-use Rattle.std.proofs.Common.{rules, ◌≡◌, ◌++◌, ap₂, ◌∙◌, map, List}
-use Rattle.nq_model.specs.NamedRows.{Label}
+use Rattle.std.proofs.Common.{rules, ◌≡◌, ◌++◌, map}
 use Rattle.normalise.specs.Raw.{test_part, test_inside, raw_conds}
-use Rattle.normalise.specs.declared.raw.MovedBase.{MovedBase}
 use Rattle.normalise.proofs.Lists.{put_last}
 use Rattle.normalise.proofs.tests.put_tests_inside.Goals as goal
 
