@@ -3,6 +3,7 @@ ghost use Rattle.std.specs.Prelude.{◌≡◌, ◌++◌, IfOk, OnOk, map, revers
 ghost use Rattle.nq_ir.specs.RawForms.{append_raw, no_raw, no_raw_comp, raw_base_in, raw_comp, raw_comps_in, where_raw};
 ghost use Rattle.normalise.specs.Raw.{comp_part, inside_part, moved_base, moved_body, raw_comps, raw_conds};
 
+use crate::depth::deepest_under;
 use crate::raw::{MovedBase, MovedBody, RawBase, RawBody, RawComp};
 use crate::raw_copy::{all_under, copy_labels, shared_conds};
 use nq_model::{Label, List, Memory};
@@ -144,6 +145,7 @@ fn inside_one(
         body,
     } = part;
     let around = all_under(alloc, conds, more)?;
+    let deepest = deepest_under(around.as_slice(), more, deepest);
     let tables = joined(tables, own_tables)?;
     let conds = joined(around, own_conds)?;
     Ok(RawComp {

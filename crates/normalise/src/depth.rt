@@ -26,13 +26,18 @@ pub(crate) fn body_depth(body: &RawBody) -> Result<u64, Memory> {
     }
 }
 
-// How deep the deepest condition is.
-fn deepest(conds: &[MovedBase]) -> u64 {
+/// How deep the deepest condition is.
+pub(crate) fn deepest(conds: &[MovedBase]) -> u64 {
     let mut deepest: u64 = 0;
     for cond in conds {
         deepest = deepest.max(cond.depth);
     }
     deepest
+}
+
+/// The same where the deepest was so deep, and `more` generators came around them since.
+pub(crate) fn deepest_under(conds: &[MovedBase], more: u64, before: u64) -> u64 {
+    if more == 0 { before } else { deepest(conds) }
 }
 
 /// How deep the comprehensions of a test are. Conditions are joined from the left.

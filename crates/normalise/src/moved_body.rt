@@ -3,7 +3,7 @@ ghost use Rattle.std.specs.Prelude.{◌≡◌, IfOk, map};
 ghost use Rattle.nq_ir.specs.RawForms.{up_body};
 ghost use Rattle.normalise.specs.Raw.{comp_part, fields_view, moved_body, raw_body, up_comp};
 
-use crate::depth::body_depth;
+use crate::depth::{body_depth, deepest};
 use crate::raw::{MovedBody, RawBody, RawComp};
 use crate::raw_copy::{conds_under, copy_labels, plus};
 use nq_model::{Label, List, Memory};
@@ -65,11 +65,12 @@ impl MovedBody {
         ensures { IfOk result (λ m. moved_body m ≡ up_body more from (moved_body self.now)) }
     {
         let body = body_under(alloc, &self.body, self.more, self.from)?;
+        let depth = body_depth(&body)?;
         Ok(MovedBody {
             body: Rc::new(alloc, body)?,
             more,
             from,
-            depth: self.depth,
+            depth,
         })
     }
 
@@ -154,11 +155,12 @@ fn comp_under(alloc: Global, comp: &RawComp, more: u64, from: u64) -> Result<Raw
     let inner = plus(comp.tables.len() as u64, from)?;
     let tables = copy_labels(alloc, comp.tables.as_slice())?;
     let conds = conds_under(alloc, comp.conds.as_slice(), more, inner)?;
+    let deepest = deepest(conds.as_slice());
     let body = comp.body.under(alloc, more, inner)?;
     Ok(RawComp {
         tables,
         conds,
-        deepest: comp.deepest,
+        deepest,
         body,
     })
 }

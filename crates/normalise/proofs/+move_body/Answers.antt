@@ -27,7 +27,7 @@ moved_body::comp_under-returns t c =
     let e : c.in_ok-inner.inner ≡ length x.tables + c.args.from = search rules in
     let f = rw c.as_slice-2.ensures at c.in_ok-conds.ensures in
     let g = c.in_ok-tables.ensures ∙ c.as_slice.ensures in
-    comp_made c.args.more c.args.from c.in_ok-inner.inner x c.in_ok-tables.tables c.in_ok-conds.conds x.deepest c.in_ok-body.body e g f c.in_ok-body.ensures
+    comp_made c.args.more c.args.from c.in_ok-inner.inner x c.in_ok-tables.tables c.in_ok-conds.conds _ c.in_ok-body.body e g f c.in_ok-body.ensures
 
 pub raw::MovedBody::under-returns-then-more-eq0 : goal.raw::MovedBody::under-returns-then-more-eq0
 raw::MovedBody::under-returns-then-more-eq0 t c =
