@@ -1,10 +1,13 @@
-// Queries with the texts of their normal forms, worked out by hand; each is read back, and prints as the same text.
+// Queries with the texts of their normal forms, worked out by hand; each is read back, unfolds to itself, and prints as
+// the same text.
 ghost use Rattle.nq_model.specs.Tables.{IsProperSchema};
 
+use crate::alike::is_alike;
 use crate::asked::{org, plain};
 use normal_printer::print_normal;
 use normalise::normalise;
 use nq_model::{List, Memory, Schema};
+use nq_parser::parse;
 use std::alloc::Global;
 use std::process::Abort;
 
@@ -104,6 +107,15 @@ fn printed(alloc: Global, schema: &Schema, query: &str) -> Result<List<u8>, Memo
     print_normal(alloc, &form)
 }
 
+// Whether unfolding leaves the term of a text as it is.
+fn is_unfolded(alloc: Global, schema: &Schema, text: &str) -> Result<bool, Memory> {
+    let unfolded = plain(alloc, schema, text)?;
+    match parse(alloc, text.as_bytes(), 200) {
+        Ok(read) => Ok(is_alike(&read, &unfolded)),
+        Err(_) => Err(Memory),
+    }
+}
+
 #[test]
 fn prints_and_reads_back(rt: HostRuntime) -> Result<(), Memory> {
     let alloc = rt.alloc();
@@ -111,6 +123,7 @@ fn prints_and_reads_back(rt: HostRuntime) -> Result<(), Memory> {
     for (query, text) in &PRINTED {
         assert_eq!(&rt; printed(alloc, &schema, query)?.as_slice(), text.as_bytes());
         assert_eq!(&rt; printed(alloc, &schema, text)?.as_slice(), text.as_bytes());
+        assert!(&rt; is_unfolded(alloc, &schema, text)?);
     }
     Ok(())
 }

@@ -4,8 +4,8 @@ use Rattle.std.proofs.lemmas.List.{reverse-append}
 use Rattle.nq_model.specs.NamedRows.{Label}
 use Rattle.nq_ir.specs.RawForms.{RawBase, RawBody, raw_field, choice, choice_of_fields}
 use Rattle.normalise.specs.Choices.{choice_list}
-use Rattle.normalise.specs.Raw.{fields_of, fields_view, raw_body}
-use Rattle.normalise.specs.declared.raw.RawBody.{RawBody as CodeBody}
+use Rattle.normalise.specs.Raw.{fields_of, fields_view, moved_body}
+use Rattle.normalise.specs.declared.raw.MovedBody.{MovedBody}
 
 pub choices_are : (x : RawBase) (fs gs : List (Label × RawBody)) → fields_of (choice_list x fs gs) ≡ choice_of_fields x (fields_of fs) (fields_of gs)
 choices_are x [] gs = refl
@@ -20,14 +20,14 @@ reverse_last : {A : Type 0} (xs : List A) (x : A) → reverse (xs ++ x ∷ []) �
 reverse_last xs x = reverse-append xs (x ∷ [])
 
 -- one more field is chosen
-pub choice_step : (x : RawBase) (f : Label × CodeBody) (rest old new : List (Label × CodeBody)) (o : Option (Label × CodeBody)) (r : CodeBody) → MatchOption o ((old ≡ []) × (new ≡ [])) (λ g. old ≡ new ++ g ∷ []) → MatchOption o (raw_body r ≡ raw_body f.1) (λ g. raw_body r ≡ choice x (raw_body f.1) (raw_body g.1)) → choice_list x (fields_view (f ∷ rest)) (fields_view (reverse old)) ≡ (f.0, raw_body r) ∷ choice_list x (fields_view rest) (fields_view (reverse new))
+pub choice_step : (x : RawBase) (f : Label × MovedBody) (rest old new : List (Label × MovedBody)) (o : Option (Label × MovedBody)) (r : MovedBody) → MatchOption o ((old ≡ []) × (new ≡ [])) (λ g. old ≡ new ++ g ∷ []) → MatchOption o (moved_body r ≡ moved_body f.1) (λ g. moved_body r ≡ choice x (moved_body f.1) (moved_body g.1)) → choice_list x (fields_view (f ∷ rest)) (fields_view (reverse old)) ≡ (f.0, moved_body r) ∷ choice_list x (fields_view rest) (fields_view (reverse new))
 choice_step x f rest old new None r p q =
-    ap (λ (z : List (Label × CodeBody)). choice_list x (fields_view (f ∷ rest)) (fields_view (reverse z))) p.0
+    ap (λ (z : List (Label × MovedBody)). choice_list x (fields_view (f ∷ rest)) (fields_view (reverse z))) p.0
     ∙ ap (λ z. (f.0, z) ∷ fields_view rest) (sym q)
-    ∙ ap (λ (z : List (Label × RawBody)). (f.0, raw_body r) ∷ z) (sym (choice_none x (fields_view rest)))
-    ∙ ap (λ (z : List (Label × CodeBody)). (f.0, raw_body r) ∷ choice_list x (fields_view rest) (fields_view (reverse z))) (sym p.1)
+    ∙ ap (λ (z : List (Label × RawBody)). (f.0, moved_body r) ∷ z) (sym (choice_none x (fields_view rest)))
+    ∙ ap (λ (z : List (Label × MovedBody)). (f.0, moved_body r) ∷ choice_list x (fields_view rest) (fields_view (reverse z))) (sym p.1)
 choice_step x f rest old new (Some g) r p q =
-    ap (λ (z : List (Label × CodeBody)). choice_list x (fields_view (f ∷ rest)) (fields_view z)) (ap reverse p ∙ reverse_last new g)
+    ap (λ (z : List (Label × MovedBody)). choice_list x (fields_view (f ∷ rest)) (fields_view z)) (ap reverse p ∙ reverse_last new g)
     ∙ ap (λ z. (f.0, z) ∷ choice_list x (fields_view rest) (fields_view (reverse new))) (sym q)
 
 pub none_left : {A : Type 0} (xs : List A) → length xs ≡ 0 → xs ≡ []

@@ -1,7 +1,8 @@
 pub mod Views
 pub mod Lists
+pub mod Moves
 pub mod Numbering
-pub mod Copies
+pub mod MovedBodies
 pub mod Scopes
 pub mod FieldFacts
 pub mod Choices

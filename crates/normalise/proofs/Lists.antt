@@ -1,22 +1,18 @@
 -- Lists of the code and the lists of raw forms.
-use Rattle.std.proofs.Common.{◌≡◌, ℕ, zero, suc, List, [], ◌∷◌, ◌++◌, map, refl, sym, ap, ap₂, ◌∙◌, length, ◌+◌, ◌<◌, ◌≤◌, arith}
+use Rattle.std.proofs.Common.{◌≡◌, ℕ, zero, suc, List, [], ◌∷◌, ◌++◌, map, refl, sym, ap, ap₂, ◌∙◌, append_assoc, length, ◌+◌, ◌<◌, ◌≤◌, arith}
 use Rattle.std.proofs.lemmas.List.{map-append}
 use Rattle.nq_model.specs.NamedRows.{Label}
-use Rattle.nq_ir.specs.RawForms.{RawBase, RawConds, and_raw, raw_test, RawBody, raw_field, raw_comp, up_index, up_base, up_bases, up_tests, up_body, up_fields, up_comps, both_raw, append_raw, inside, where_raw, raw_tests_of}
-use Rattle.normalise.specs.declared.raw.RawBase.{RawBase as CodeBase}
-use Rattle.normalise.specs.declared.raw.RawTest.{RawTest as CodeTest, roll-RawTest}
-use Rattle.normalise.specs.declared.raw.RawBody.{RawBody as CodeBody}
+use Rattle.nq_ir.specs.RawForms.{RawBase, RawConds, and_raw, raw_test, RawBody, raw_field, RawComps, no_raw_comp, raw_comp, up_index, up_base, up_bases, up_body, up_fields, up_comps, both_raw, append_raw, inside, where_raw, raw_tests_of}
+use Rattle.normalise.specs.declared.raw.MovedBase.{MovedBase}
+use Rattle.normalise.specs.declared.raw.RawTest.{RawTest as CodeTest, out-RawTest, roll-RawTest}
+use Rattle.normalise.specs.declared.raw.MovedBody.{MovedBody}
 use Rattle.normalise.specs.declared.raw.RawComp.{RawComp as CodeComp, roll-RawComp}
-use Rattle.normalise.proofs.Views.{test_is, comp_is}
-use Rattle.normalise.specs.Raw.{bodiless, raw_body, test_part, TestPart, CompPart, conds_of, tests_of, fields_of, comps_of, raw_base, raw_conds, raw_comps, comp_part, up_test, up_comp, inside_part}
+use Rattle.normalise.proofs.Views.{test_is, test_rolled, comp_is}
+use Rattle.normalise.specs.Raw.{bodiless, moved_body, test_part, TestPart, CompPart, conds_of, tests_of, fields_of, comps_of, append_tests, moved_base, raw_conds, raw_comps, raw_tests, comp_part, test_inside, tests_inside, up_comp, inside_part, where_tests}
 
 pub conds_up : (n c : ℕ) (bs : List RawBase) → up_bases n c (conds_of bs) ≡ conds_of (map (up_base n c) bs)
 conds_up n c [] = refl
 conds_up n c (b ∷ bs) = ap (and_raw (up_base n c b)) (conds_up n c bs)
-
-pub tests_up : (n c : ℕ) (ts : List TestPart) → up_tests n c (tests_of ts) ≡ tests_of (map (up_test n c) ts)
-tests_up n c [] = refl
-tests_up n c (t ∷ ts) = ap (raw_test t.tables (up_bases n (length t.tables + c) t.conds)) (tests_up n c ts)
 
 pub fields_up : (n c : ℕ) (fs : List (Label × RawBody)) → up_fields n c (fields_of fs) ≡ fields_of (map (λ f. (f.0, up_body n c f.1)) fs)
 fields_up n c [] = refl
@@ -42,43 +38,75 @@ inside_of gs bs (d ∷ ds) = ap (raw_comp (gs ++ d.tables) (both_raw (up_bases (
 pub comps_joined : (xs ys : List CodeComp) → raw_comps (xs ++ ys) ≡ append_raw (raw_comps xs) (raw_comps ys)
 comps_joined xs ys = ap comps_of (map-append comp_part xs ys) ∙ comps_append (map comp_part xs) (map comp_part ys)
 
+-- the last of several, put behind what is there
+pub put_last : {C P : Type 0} (v : C → P) (g : P → P) (old mid new parts before : List C) (last made : C) → parts ≡ before ++ last ∷ [] → map v mid ≡ map v old ++ map g (map v before) → v made ≡ g (v last) → new ≡ mid ++ made ∷ [] → map v new ≡ map v old ++ map g (map v parts)
+put_last {C = C} {P = P} v g old mid new parts before last made p m e n =
+    ap (map v) n
+    ∙ map-append v mid (made ∷ [])
+    ∙ ap₂ (λ (y : List P) (z : P). y ++ z ∷ []) m e
+    ∙ append_assoc (map v old) (map g (map v before)) (g (v last) ∷ [])
+    ∙ ap (λ (z : List P). map v old ++ z) (sym (ap (λ (l : List C). map g (map v l)) p ∙ ap (map g) (map-append v before (last ∷ [])) ∙ map-append g (map v before) (v last ∷ [])))
+
 -- copied conditions, then others
-pub conds_inside : (n : ℕ) (copies bs own : List CodeBase) → map raw_base copies ≡ map (up_base n 0) (map raw_base bs) → raw_conds (copies ++ own) ≡ both_raw (up_bases n 0 (raw_conds bs)) (raw_conds own)
+pub conds_inside : (n : ℕ) (copies bs own : List MovedBase) → map moved_base copies ≡ map (up_base n 0) (map moved_base bs) → raw_conds (copies ++ own) ≡ both_raw (up_bases n 0 (raw_conds bs)) (raw_conds own)
 conds_inside n copies bs own e =
-    ap conds_of (map-append raw_base copies own ∙ ap (λ (l : List RawBase). l ++ map raw_base own) e)
-    ∙ conds_append (map (up_base n 0) (map raw_base bs)) (map raw_base own)
-    ∙ ap (λ z. both_raw z (raw_conds own)) (sym (conds_up n 0 (map raw_base bs)))
+    ap conds_of (map-append moved_base copies own ∙ ap (λ (l : List RawBase). l ++ map moved_base own) e)
+    ∙ conds_append (map (up_base n 0) (map moved_base bs)) (map moved_base own)
+    ∙ ap (λ z. both_raw z (raw_conds own)) (sym (conds_up n 0 (map moved_base bs)))
 
 -- what a copy is made of
-pub test_made : (n c m : ℕ) (x : CodeTest) (tables : List Label) (conds : List CodeBase) → m ≡ length x.tables + c → tables ≡ x.tables → map raw_base conds ≡ map (up_base n m) (map raw_base x.conds) → test_part (roll-RawTest (record { tables = tables; conds = conds })) ≡ up_test n c (test_part x)
-test_made n c m x tables conds e g f =
-    test_is (roll-RawTest (record { tables = tables; conds = conds }))
-    ∙ ap₂ (λ (y : List Label) z. record { tables = y; conds = z }) g (ap conds_of f ∙ sym (conds_up n m (map raw_base x.conds)) ∙ ap (λ k. up_bases n k (raw_conds x.conds)) e)
-    ∙ ap (up_test n c) (sym (test_is x))
-
-pub comp_made : (n c m : ℕ) (x : CodeComp) (tables : List Label) (conds : List CodeBase) (body : CodeBody) → m ≡ length x.tables + c → tables ≡ x.tables → map raw_base conds ≡ map (up_base n m) (map raw_base x.conds) → raw_body body ≡ up_body n m (raw_body x.body) → comp_part (roll-RawComp (record { tables = tables; conds = conds; body = body })) ≡ up_comp n c (comp_part x)
-comp_made n c m x tables conds body e g f h =
-    comp_is (roll-RawComp (record { tables = tables; conds = conds; body = body }))
-    ∙ ap₂ (λ (y : List Label) z. record { tables = y; conds = z; body = raw_body body }) g (ap conds_of f ∙ sym (conds_up n m (map raw_base x.conds)) ∙ ap (λ k. up_bases n k (raw_conds x.conds)) e)
-    ∙ ap (λ z. record { tables = x.tables; conds = up_bases n (length x.tables + c) (raw_conds x.conds); body = z }) (h ∙ ap (λ k. up_body n k (raw_body x.body)) e)
+pub comp_made : (n c m : ℕ) (x : CodeComp) (tables : List Label) (conds : List MovedBase) (deepest : ℕ) (body : MovedBody) → m ≡ length x.tables + c → tables ≡ x.tables → map moved_base conds ≡ map (up_base n m) (map moved_base x.conds) → moved_body body ≡ up_body n m (moved_body x.body) → comp_part (roll-RawComp (record { tables = tables; conds = conds; deepest = deepest; body = body })) ≡ up_comp n c (comp_part x)
+comp_made n c m x tables conds deepest body e g f h =
+    comp_is (roll-RawComp (record { tables = tables; conds = conds; deepest = deepest; body = body }))
+    ∙ ap₂ (λ (y : List Label) z. record { tables = y; conds = z; body = moved_body body }) g (ap conds_of f ∙ sym (conds_up n m (map moved_base x.conds)) ∙ ap (λ k. up_bases n k (raw_conds x.conds)) e)
+    ∙ ap (λ z. record { tables = x.tables; conds = up_bases n (length x.tables + c) (raw_conds x.conds); body = z }) (h ∙ ap (λ k. up_body n k (moved_body x.body)) e)
     ∙ ap (up_comp n c) (sym (comp_is x))
 
-pub comp_inside : (gs : List Label) (bs : List CodeBase) (x : CodeComp) (tables : List Label) (copies conds : List CodeBase) → tables ≡ gs ++ x.tables → conds ≡ copies ++ x.conds → map raw_base copies ≡ map (up_base (length x.tables) 0) (map raw_base bs) → comp_part (roll-RawComp (record { tables = tables; conds = conds; body = x.body })) ≡ inside_part gs (raw_conds bs) (comp_part x)
-comp_inside gs bs x tables copies conds g k f =
-    comp_is (roll-RawComp (record { tables = tables; conds = conds; body = x.body }))
-    ∙ ap₂ (λ (y : List Label) z. record { tables = y; conds = z; body = raw_body x.body }) g (ap raw_conds k ∙ conds_inside (length x.tables) copies bs x.conds f)
+pub comp_inside : (gs : List Label) (bs : List MovedBase) (x : CodeComp) (tables : List Label) (copies conds : List MovedBase) (deepest : ℕ) → tables ≡ gs ++ x.tables → conds ≡ copies ++ x.conds → map moved_base copies ≡ map (up_base (length x.tables) 0) (map moved_base bs) → comp_part (roll-RawComp (record { tables = tables; conds = conds; deepest = deepest; body = x.body })) ≡ inside_part gs (raw_conds bs) (comp_part x)
+comp_inside gs bs x tables copies conds deepest g k f =
+    comp_is (roll-RawComp (record { tables = tables; conds = conds; deepest = deepest; body = x.body }))
+    ∙ ap₂ (λ (y : List Label) z. record { tables = y; conds = z; body = moved_body x.body }) g (ap raw_conds k ∙ conds_inside (length x.tables) copies bs x.conds f)
     ∙ ap (inside_part gs (raw_conds bs)) (sym (comp_is x))
 
 -- one more condition before those of each comprehension
-pub guarded_is : (x : CodeBase) (parts all : List CodeComp) → map comp_part all ≡ map (inside_part [] (raw_conds (x ∷ []))) (map comp_part parts) → raw_comps all ≡ where_raw (raw_base x) (raw_comps parts)
+pub guarded_is : (x : MovedBase) (parts all : List CodeComp) → map comp_part all ≡ map (inside_part [] (raw_conds (x ∷ []))) (map comp_part parts) → raw_comps all ≡ where_raw (moved_base x) (raw_comps parts)
 guarded_is x parts all e = ap comps_of e ∙ inside_of [] (raw_conds (x ∷ [])) (map comp_part parts)
 
 pub bodiless_is : (x : CodeComp) → test_part (roll-RawTest (record { tables = x.tables; conds = x.conds })) ≡ bodiless (comp_part x)
-bodiless_is x = test_is (roll-RawTest (record { tables = x.tables; conds = x.conds })) ∙ ap bodiless (sym (comp_is x))
+bodiless_is x = test_rolled x.tables x.conds ∙ ap bodiless (sym (comp_is x))
 
 pub tests_bodiless : (cs : List CompPart) → tests_of (map bodiless cs) ≡ raw_tests_of (comps_of cs)
 tests_bodiless [] = refl
 tests_bodiless (c ∷ cs) = ap (raw_test c.tables c.conds) (tests_bodiless cs)
+
+pub tests_append : (xs ys : List TestPart) → tests_of (xs ++ ys) ≡ append_tests (tests_of xs) (tests_of ys)
+tests_append [] ys = refl
+tests_append (x ∷ xs) ys = ap (raw_test x.tables x.conds) (tests_append xs ys)
+
+pub tests_joined : (xs ys : List CodeTest) → raw_tests (xs ++ ys) ≡ append_tests (raw_tests xs) (raw_tests ys)
+tests_joined xs ys = ap tests_of (map-append test_part xs ys) ∙ tests_append (map test_part xs) (map test_part ys)
+
+pub tests_inside_of : (gs : List Label) (bs : RawConds) (xs : List TestPart) → tests_of (map (test_inside gs bs) xs) ≡ tests_inside gs bs (tests_of xs)
+tests_inside_of gs bs [] = refl
+tests_inside_of gs bs (x ∷ xs) = ap (raw_test (gs ++ x.tables) (both_raw (up_bases (length x.tables) 0 bs) x.conds)) (tests_inside_of gs bs xs)
+
+pub test_inside_is : (gs : List Label) (bs : List MovedBase) (x : CodeTest) (tables : List Label) (copies conds : List MovedBase) → tables ≡ gs ++ (out-RawTest x).tables → conds ≡ copies ++ (out-RawTest x).conds → map moved_base copies ≡ map (up_base (length (out-RawTest x).tables) 0) (map moved_base bs) → test_part (roll-RawTest (record { tables = tables; conds = conds })) ≡ test_inside gs (raw_conds bs) (test_part x)
+test_inside_is gs bs x tables copies conds g k f =
+    test_rolled tables conds
+    ∙ ap₂ (λ (y : List Label) z. record { tables = y; conds = z }) g (ap raw_conds k ∙ conds_inside (length (out-RawTest x).tables) copies bs (out-RawTest x).conds f)
+    ∙ ap (test_inside gs (raw_conds bs)) (sym (test_is x))
+
+pub tests_guarded : (x : MovedBase) (parts all : List CodeTest) → map test_part all ≡ map (test_inside [] (raw_conds (x ∷ []))) (map test_part parts) → raw_tests all ≡ where_tests (moved_base x) (raw_tests parts)
+tests_guarded x parts all e = ap tests_of e ∙ tests_inside_of [] (raw_conds (x ∷ [])) (map test_part parts)
+
+-- the tests of comprehensions one behind the other, and inside others
+pub tests_of_append : (cs ds : RawComps) → raw_tests_of (append_raw cs ds) ≡ append_tests (raw_tests_of cs) (raw_tests_of ds)
+tests_of_append no_raw_comp ds = refl
+tests_of_append (raw_comp gs bs b cs) ds = ap (raw_test gs bs) (tests_of_append cs ds)
+
+pub tests_of_inside : (gs : List Label) (bs : RawConds) (cs : RawComps) → raw_tests_of (inside gs bs cs) ≡ tests_inside gs bs (raw_tests_of cs)
+tests_of_inside gs bs no_raw_comp = refl
+tests_of_inside gs bs (raw_comp hs cs b ds) = ap (raw_test (gs ++ hs) (both_raw (up_bases (length hs) 0 bs) cs)) (tests_of_inside gs bs ds)
 
 pub index_inner : (n c i : ℕ) → i < c → i ≡ up_index n c i
 index_inner n zero i h = absurd (omega arith)

@@ -8,16 +8,29 @@ use Rattle.nq_ir.specs.declared.base.Base.{Base}
 use Rattle.nq_ir.specs.declared.base.Gen.{Gen}
 use Rattle.nq_ir.specs.declared.base.Test.{roll-Test}
 use Rattle.nq_ir.proofs.Forms.{test_is as numbered_is}
-use Rattle.normalise.specs.Raw.{TestPart, conds_of, tests_of, raw_base, raw_conds, test_part}
-use Rattle.normalise.specs.Numbers.{dealt, numbers, numbers_layer, bases_numbered, gens_in_bases, gens_in_test, test_numbered, tests_numbered, gens_in_parts}
-use Rattle.normalise.specs.declared.raw.RawTest.{RawTest as CodeTest}
+use Rattle.normalise.specs.Raw.{TestPart, conds_of, tests_of, moved_base, raw_base, raw_conds, test_part}
+use Rattle.normalise.specs.Numbers.{dealt, without, numbers, numbers_layer, bases_numbered, gens_in_bases, gens_in_test, test_numbered, tests_numbered, gens_in_parts}
+use Rattle.normalise.specs.declared.raw.RawTest.{RawTest as CodeTest, out-RawTest}
 use Rattle.normalise.specs.declared.numbers.Numbers.{Numbers, Numbers-F, fold-roll-Numbers}
-use Rattle.normalise.specs.declared.numbers.Numbers.TheVariants.{Dealt, rolls-Dealt}
-use Rattle.normalise.proofs.Views.{test_is}
+use Rattle.normalise.specs.declared.numbers.Numbers.TheVariants.{Dealt, Without, rolls-Dealt, rolls-Without}
+use Rattle.normalise.specs.declared.raw.MovedBase.{MovedBase}
+use Rattle.normalise.proofs.Moves.{gens_moved, moved_numbered}
+use Rattle.normalise.proofs.Views.{moved_is, test_is}
 
 pub numbers_dealt : (first count : ℕ) (outer : Bor Numbers) → numbers (Dealt first count outer) ≡ dealt first count (numbers outer.now)
 numbers_dealt first count outer =
     ap numbers (sym (rolls-Dealt first count outer)) ∙ fold-roll-Numbers (List ℕ) numbers_layer (Numbers-F.Dealt first count outer)
+
+pub numbers_without : (from count : ℕ) (outer : Bor Numbers) → numbers (Without from count outer) ≡ without count from (numbers outer.now)
+numbers_without from count outer =
+    ap numbers (sym (rolls-Without from count outer)) ∙ fold-roll-Numbers (List ℕ) numbers_layer (Numbers-F.Without from count outer)
+
+-- a base term that is moved, numbered
+pub moved_made : (m : MovedBase) (n : ℕ) (sc : List ℕ) → number_base n (without m.more m.from sc) (raw_base m.base.value) ≡ number_base n sc (moved_base m)
+moved_made m n sc = sym (ap (number_base n sc) (moved_is m) ∙ moved_numbered (raw_base m.base.value) n m.more m.from sc)
+
+pub moved_has : (m : MovedBase) → gens_in_base (raw_base m.base.value) ≡ gens_in_base (moved_base m)
+moved_has m = sym (ap gens_in_base (moved_is m) ∙ gens_moved (raw_base m.base.value) m.more m.from)
 
 pub deal_dealt : (n : ℕ) (gs : List Label) (sc : List ℕ) → deal n gs sc ≡ dealt n (length gs) sc
 deal_dealt n [] sc = refl
@@ -67,17 +80,17 @@ tests_have [] = refl
 tests_have (t ∷ ts) = let h = tests_have ts in omega arith
 
 -- a comprehension of a test, numbered
-pub test_made : (n count m : ℕ) (sc : List ℕ) (x : CodeTest) (gens : List Gen) (conds : List Base) → count ≡ length x.tables → m ≡ n + count → gens ≡ number_gens n x.tables → map base_tree conds ≡ bases_numbered m (dealt n count sc) (map raw_base x.conds) → numbered_part (roll-Test (record { gens = gens; conds = conds })) ≡ test_numbered n sc (test_part x)
+pub test_made : (n count m : ℕ) (sc : List ℕ) (x : CodeTest) (gens : List Gen) (conds : List Base) → count ≡ length (out-RawTest x).tables → m ≡ n + count → gens ≡ number_gens n (out-RawTest x).tables → map base_tree conds ≡ bases_numbered m (dealt n count sc) (map moved_base (out-RawTest x).conds) → numbered_part (roll-Test (record { gens = gens; conds = conds })) ≡ test_numbered n sc (test_part x)
 test_made n count m sc x gens conds a b g h =
     numbered_is (roll-Test (record { gens = gens; conds = conds }))
     ∙ ap₂ (λ (y : List Gen) z. record { gens = y; conds = z }) g
-    (ap numbered_conds h ∙ sym (conds_are m (dealt n count sc) (map raw_base x.conds))
-    ∙ ap (λ z. number_conds z (dealt n count sc) (raw_conds x.conds)) (b ∙ ap (λ z. n + z) a)
-    ∙ ap (λ z. number_conds (n + length x.tables) z (raw_conds x.conds)) (ap (λ z. dealt n z sc) a ∙ sym (deal_dealt n x.tables sc)))
+    (ap numbered_conds h ∙ sym (conds_are m (dealt n count sc) (map moved_base (out-RawTest x).conds))
+    ∙ ap (λ z. number_conds z (dealt n count sc) (raw_conds (out-RawTest x).conds)) (b ∙ ap (λ z. n + z) a)
+    ∙ ap (λ z. number_conds (n + length (out-RawTest x).tables) z (raw_conds (out-RawTest x).conds)) (ap (λ z. dealt n z sc) a ∙ sym (deal_dealt n (out-RawTest x).tables sc)))
     ∙ ap (test_numbered n sc) (sym (test_is x))
 
-pub test_has : (n count m after : ℕ) (x : CodeTest) → count ≡ length x.tables → m ≡ n + count → after ≡ m + gens_in_bases (map raw_base x.conds) → after ≡ n + gens_in_test (test_part x)
+pub test_has : (n count m after : ℕ) (x : CodeTest) → count ≡ length (out-RawTest x).tables → m ≡ n + count → after ≡ m + gens_in_bases (map moved_base (out-RawTest x).conds) → after ≡ n + gens_in_test (test_part x)
 test_has n count m after x a b e =
-    let k : gens_in_conds (raw_conds x.conds) ≡ gens_in_bases (map raw_base x.conds) = conds_have (map raw_base x.conds) in
-    let f : after ≡ n + (length x.tables + gens_in_conds (raw_conds x.conds)) = omega arith in
+    let k : gens_in_conds (raw_conds (out-RawTest x).conds) ≡ gens_in_bases (map moved_base (out-RawTest x).conds) = conds_have (map moved_base (out-RawTest x).conds) in
+    let f : after ≡ n + (length (out-RawTest x).tables + gens_in_conds (raw_conds (out-RawTest x).conds)) = omega arith in
     f ∙ ap (λ z. n + gens_in_test z) (sym (test_is x))

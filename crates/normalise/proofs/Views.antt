@@ -1,29 +1,56 @@
 -- The raw forms of the code's bodies, form by form.
 use Rattle.std.proofs.Common.{◌≡◌, List, map, sym, ap, ◌∙◌}
 use Rattle.nq_model.specs.NamedRows.{Label}
-use Rattle.nq_ir.specs.RawForms.{RawBase, raw_empty, RawBody, raw_plain, raw_rec, raw_bag}
-use Rattle.normalise.specs.declared.raw.RawBase.{RawBase as CodeBase, RawBase-F, fold-roll-RawBase}
+use Rattle.nq_model.specs.declared.term.Binary.{Binary}
+use Rattle.nq_model.specs.declared.term.Unary.{Unary}
+use Rattle.nq_ir.specs.RawForms.{RawBase, raw_binary, raw_choose, raw_empty, raw_unary, up_base, RawBody, raw_plain, raw_rec, raw_bag, up_body}
+use Rattle.normalise.specs.declared.raw.RawBase.{RawBase-F, fold-roll-RawBase}
 use Rattle.normalise.specs.declared.raw.RawBase.TheVariants as base
-use Rattle.normalise.specs.declared.raw.RawTest.{RawTest as CodeTest, fold-roll-RawTest}
-use Rattle.normalise.specs.declared.raw.RawBody.{RawBody as CodeBody, RawBody-F, fold-roll-RawBody}
+use Rattle.normalise.specs.declared.raw.MovedBase.{MovedBase, fold-roll-MovedBase}
+use Rattle.normalise.specs.declared.raw.RawTest.{RawTest as CodeTest, fold-roll-RawTest, fold_out-RawTest, out-RawTest, roll-RawTest}
+use Rattle.normalise.specs.declared.raw.RawBody.{RawBody-F, fold-roll-RawBody}
 use Rattle.normalise.specs.declared.raw.RawBody.TheVariants as body
+use Rattle.normalise.specs.declared.raw.MovedBody.{MovedBody, fold-roll-MovedBody}
 use Rattle.normalise.specs.declared.raw.RawComp.{RawComp as CodeComp, fold-roll-RawComp}
-use Rattle.normalise.specs.Raw.{TestPart, CompPart, tests_of, fields_of, comps_of, base_layer, test_layer, raw_base, test_part, raw_conds, body_layer, comp_layer, raw_body, comp_part}
+use Rattle.normalise.specs.Raw.{TestPart, CompPart, tests_of, fields_of, comps_of, base_layer, moved_layer, test_layer, raw_base, moved_base, test_part, raw_conds, body_layer, moved_body_layer, comp_layer, raw_body, moved_body, comp_part}
 
 pub base_empty : (ts : List CodeTest) → raw_base (base.Empty ts) ≡ raw_empty (tests_of (map test_part ts))
-base_empty ts = ap raw_base (sym (base.rolls-Empty ts)) ∙ fold-roll-RawBase RawBase TestPart base_layer test_layer (RawBase-F.Empty ts)
+base_empty ts = ap raw_base (sym (base.rolls-Empty ts)) ∙ fold-roll-RawBase RawBase RawBase TestPart base_layer moved_layer test_layer (RawBase-F.Empty ts)
 
-pub test_is : (t : CodeTest) → test_part t ≡ record { tables = t.tables; conds = raw_conds t.conds }
-test_is t = fold-roll-RawTest RawBase TestPart base_layer test_layer (record { tables = t.tables; conds = t.conds })
+pub moved_is : (m : MovedBase) → moved_base m ≡ up_base m.more m.from (raw_base m.base.value)
+moved_is m =
+    fold-roll-MovedBase RawBase RawBase TestPart base_layer moved_layer test_layer (record { base = m.base; more = m.more; from = m.from; depth = m.depth })
 
-pub body_plain : (b : CodeBase) → raw_body (body.Plain b) ≡ raw_plain (raw_base b)
-body_plain b = ap raw_body (sym (body.rolls-Plain b)) ∙ fold-roll-RawBody RawBody CompPart body_layer comp_layer (RawBody-F.Plain b)
+pub base_unary : (op : Unary) (b : MovedBase) → raw_base (base.Unary op b) ≡ raw_unary op (moved_base b)
+base_unary op b = ap raw_base (sym (base.rolls-Unary op b)) ∙ fold-roll-RawBase RawBase RawBase TestPart base_layer moved_layer test_layer (RawBase-F.Unary op b)
 
-pub body_rec : (fs : List (Label × CodeBody)) → raw_body (body.Rec fs) ≡ raw_rec (fields_of (map (λ f. (f.0, raw_body f.1)) fs))
-body_rec fs = ap raw_body (sym (body.rolls-Rec fs)) ∙ fold-roll-RawBody RawBody CompPart body_layer comp_layer (RawBody-F.Rec fs)
+pub base_binary : (op : Binary) (a b : MovedBase) → raw_base (base.Binary op a b) ≡ raw_binary op (moved_base a) (moved_base b)
+base_binary op a b = ap raw_base (sym (base.rolls-Binary op a b)) ∙ fold-roll-RawBase RawBase RawBase TestPart base_layer moved_layer test_layer (RawBase-F.Binary op a b)
+
+pub base_choose : (x a b : MovedBase) → raw_base (base.Choose x a b) ≡ raw_choose (moved_base x) (moved_base a) (moved_base b)
+base_choose x a b = ap raw_base (sym (base.rolls-Choose x a b)) ∙ fold-roll-RawBase RawBase RawBase TestPart base_layer moved_layer test_layer (RawBase-F.Choose x a b)
+
+pub base_moved : (b : MovedBase) → raw_base (base.Moved b) ≡ moved_base b
+base_moved b = ap raw_base (sym (base.rolls-Moved b)) ∙ fold-roll-RawBase RawBase RawBase TestPart base_layer moved_layer test_layer (RawBase-F.Moved b)
+
+pub test_is : (t : CodeTest) → test_part t ≡ record { tables = (out-RawTest t).tables; conds = raw_conds (out-RawTest t).conds }
+test_is t = fold_out-RawTest RawBase RawBase TestPart base_layer moved_layer test_layer t
+
+pub test_rolled : (tables : List Label) (conds : List MovedBase) → test_part (roll-RawTest (record { tables = tables; conds = conds })) ≡ record { tables = tables; conds = raw_conds conds }
+test_rolled tables conds = fold-roll-RawTest RawBase RawBase TestPart base_layer moved_layer test_layer (record { tables = tables; conds = conds })
+
+pub body_plain : (b : MovedBase) → raw_body (body.Plain b) ≡ raw_plain (moved_base b)
+body_plain b = ap raw_body (sym (body.rolls-Plain b)) ∙ fold-roll-RawBody RawBody RawBody CompPart body_layer moved_body_layer comp_layer (RawBody-F.Plain b)
+
+pub body_rec : (fs : List (Label × MovedBody)) → raw_body (body.Rec fs) ≡ raw_rec (fields_of (map (λ f. (f.0, moved_body f.1)) fs))
+body_rec fs = ap raw_body (sym (body.rolls-Rec fs)) ∙ fold-roll-RawBody RawBody RawBody CompPart body_layer moved_body_layer comp_layer (RawBody-F.Rec fs)
 
 pub body_bag : (cs : List CodeComp) → raw_body (body.Bag cs) ≡ raw_bag (comps_of (map comp_part cs))
-body_bag cs = ap raw_body (sym (body.rolls-Bag cs)) ∙ fold-roll-RawBody RawBody CompPart body_layer comp_layer (RawBody-F.Bag cs)
+body_bag cs = ap raw_body (sym (body.rolls-Bag cs)) ∙ fold-roll-RawBody RawBody RawBody CompPart body_layer moved_body_layer comp_layer (RawBody-F.Bag cs)
 
-pub comp_is : (c : CodeComp) → comp_part c ≡ record { tables = c.tables; conds = raw_conds c.conds; body = raw_body c.body }
-comp_is c = fold-roll-RawComp RawBody CompPart body_layer comp_layer (record { tables = c.tables; conds = c.conds; body = c.body })
+pub moved_body_is : (m : MovedBody) → moved_body m ≡ up_body m.more m.from (raw_body m.body.value)
+moved_body_is m =
+    fold-roll-MovedBody RawBody RawBody CompPart body_layer moved_body_layer comp_layer (record { body = m.body; more = m.more; from = m.from; depth = m.depth })
+
+pub comp_is : (c : CodeComp) → comp_part c ≡ record { tables = c.tables; conds = raw_conds c.conds; body = moved_body c.body }
+comp_is c = fold-roll-RawComp RawBody RawBody CompPart body_layer moved_body_layer comp_layer (record { tables = c.tables; conds = c.conds; deepest = c.deepest; body = c.body })

@@ -1,11 +1,12 @@
 -- What the walk over a term builds.
-use Rattle.std.proofs.Common.{◌≡◌, ℕ, zero, suc, ◌+◌, ◌<◌, ◌≤◌, List, [], ◌∷◌, ◌++◌, map, refl, sym, ap, ◌∙◌, length, get_or, drop, drop-cons, add-one, arith}
+use Rattle.std.proofs.Common.{◌≡◌, List, [], ◌∷◌, ◌++◌, map, refl, sym, ap, ap₂, ◌∙◌}
 use Rattle.nq_model.specs.NamedRows.{Label}
-use Rattle.nq_ir.specs.RawForms.{RawBody, RawComps, no_raw_comp, raw_comp, append_raw, inside, each_comp}
-use Rattle.normalise.specs.Raw.{CompPart, comps_of, comp_part, inside_part, raw_body, raw_comps, raw_conds}
+use Rattle.nq_ir.specs.RawForms.{RawBody, RawComps, no_raw_comp, raw_comp, append_raw, inside, each_comp, raw_tests_of}
+use Rattle.normalise.specs.Raw.{append_tests, CompPart, comps_of, comp_part, inside_part, moved_body, raw_comps, raw_conds, raw_tests, test_inside, test_part, tests_inside, tests_of}
 use Rattle.normalise.specs.declared.raw.RawComp.{RawComp as CodeComp}
+use Rattle.normalise.specs.declared.raw.RawTest.{RawTest as CodeTest}
 use Rattle.normalise.proofs.Views.{comp_is}
-use Rattle.normalise.proofs.Lists.{comps_append, inside_of}
+use Rattle.normalise.proofs.Lists.{comps_append, comps_joined, inside_of, tests_append, tests_inside_of, tests_of_append, tests_of_inside}
 
 append_none : (cs : RawComps) → append_raw cs no_raw_comp ≡ cs
 append_none no_raw_comp = refl
@@ -15,26 +16,35 @@ append_twice : (xs ys zs : RawComps) → append_raw (append_raw xs ys) zs ≡ ap
 append_twice no_raw_comp ys zs = refl
 append_twice (raw_comp gs bs b xs) ys zs = ap (raw_comp gs bs b) (append_twice xs ys zs)
 
-drop_past : {A : Type 0} (i : ℕ) (xs : List A) → length xs ≤ i → drop i xs ≡ []
-drop_past zero [] h = refl
-drop_past zero (x ∷ xs) h = absurd (omega arith)
-drop_past (suc i) [] h = refl
-drop_past (suc i) (x ∷ xs) h = drop_past i xs (omega arith)
+each_append : (rest : List Label → RawBody → RawComps) (cs ds : RawComps) → each_comp (append_raw cs ds) rest ≡ append_raw (each_comp cs rest) (each_comp ds rest)
+each_append rest no_raw_comp ds = refl
+each_append rest (raw_comp gs bs b cs) ds =
+    ap (append_raw (inside gs bs (rest gs b))) (each_append rest cs ds) ∙ sym (append_twice (inside gs bs (rest gs b)) (each_comp cs rest) (each_comp ds rest))
 
--- a loop that puts the comprehensions of each item behind what is there
-module _ (rest : List Label → RawBody → RawComps) (items : List CodeComp) (whole : RawComps) where
-  pub loop_end : (all : RawComps) (i : ℕ) → append_raw all (each_comp (raw_comps (drop i items)) rest) ≡ whole → length items ≤ i → all ≡ whole
-  loop_end all i h k =
-      sym (append_none all) ∙ ap (λ (l : List CodeComp). append_raw all (each_comp (raw_comps l) rest)) (sym (drop_past i items k)) ∙ h
+-- a loop that puts the comprehensions of each item of a source behind what is there
+module _ (rest : List Label → RawBody → RawComps) (done : List CodeComp) (x : CodeComp) where
+  one_more : each_comp (raw_comps (done ++ x ∷ [])) rest ≡ append_raw (each_comp (raw_comps done) rest) (inside x.tables (raw_conds x.conds) (rest x.tables (moved_body x.body)))
+  one_more =
+      ap (λ (z : RawComps). each_comp z rest) (comps_joined done (x ∷ []) ∙ ap (λ (p : CompPart). append_raw (raw_comps done) (comps_of (p ∷ []))) (comp_is x))
+      ∙ each_append rest (raw_comps done) (raw_comp x.tables (raw_conds x.conds) (moved_body x.body) no_raw_comp)
+      ∙ ap (append_raw (each_comp (raw_comps done) rest)) (append_none (inside x.tables (raw_conds x.conds) (rest x.tables (moved_body x.body))))
 
-  pub loop_step : (old next parts : List CodeComp) (i : ℕ) (x : CodeComp) → append_raw (raw_comps old) (each_comp (raw_comps (drop i items)) rest) ≡ whole → x ≡ get_or items i x → i < length items → map comp_part next ≡ map comp_part old ++ map (inside_part x.tables (raw_conds x.conds)) (map comp_part parts) → raw_comps parts ≡ rest x.tables (raw_body x.body) → append_raw (raw_comps next) (each_comp (raw_comps (drop (i + 1) items)) rest) ≡ whole
-  loop_step old next parts i x h e k n p =
+  pub loop_step : (old next parts : List CodeComp) → raw_comps old ≡ each_comp (raw_comps done) rest → map comp_part next ≡ map comp_part old ++ map (inside_part x.tables (raw_conds x.conds)) (map comp_part parts) → raw_comps parts ≡ rest x.tables (moved_body x.body) → raw_comps next ≡ each_comp (raw_comps (done ++ x ∷ [])) rest
+  loop_step old next parts h n p =
       let gs = x.tables in
       let bs = raw_conds x.conds in
-      let later = each_comp (raw_comps (drop (suc i) items)) rest in
-      ap (λ z. append_raw (raw_comps next) (each_comp (raw_comps (drop z items)) rest)) (add-one i)
-      ∙ ap (λ (z : RawComps). append_raw z later) (ap comps_of n ∙ comps_append (map comp_part old) (map (inside_part gs bs) (map comp_part parts)) ∙ ap (append_raw (raw_comps old)) (inside_of gs bs (map comp_part parts) ∙ ap (inside gs bs) p))
-      ∙ append_twice (raw_comps old) (inside gs bs (rest gs (raw_body x.body))) later
-      ∙ ap (λ (q : CompPart). append_raw (raw_comps old) (append_raw (inside q.tables q.conds (rest q.tables q.body)) later)) (sym (comp_is x))
-      ∙ ap (λ (l : List CodeComp). append_raw (raw_comps old) (each_comp (raw_comps l) rest)) (ap (λ (z : CodeComp). z ∷ drop (suc i) items) e ∙ sym (drop-cons items i x k))
-      ∙ h
+      ap comps_of n
+      ∙ comps_append (map comp_part old) (map (inside_part gs bs) (map comp_part parts))
+      ∙ ap₂ append_raw h (inside_of gs bs (map comp_part parts) ∙ ap (inside gs bs) p)
+      ∙ sym one_more
+
+  pub tests_step : (old next parts : List CodeTest) → raw_tests old ≡ raw_tests_of (each_comp (raw_comps done) rest) → map test_part next ≡ map test_part old ++ map (test_inside x.tables (raw_conds x.conds)) (map test_part parts) → raw_tests parts ≡ raw_tests_of (rest x.tables (moved_body x.body)) → raw_tests next ≡ raw_tests_of (each_comp (raw_comps (done ++ x ∷ [])) rest)
+  tests_step old next parts h n p =
+      let gs = x.tables in
+      let bs = raw_conds x.conds in
+      let made = rest gs (moved_body x.body) in
+      ap tests_of n
+      ∙ tests_append (map test_part old) (map (test_inside gs bs) (map test_part parts))
+      ∙ ap₂ append_tests h (tests_inside_of gs bs (map test_part parts) ∙ ap (tests_inside gs bs) p ∙ sym (tests_of_inside gs bs made))
+      ∙ sym (tests_of_append (each_comp (raw_comps done) rest) (inside gs bs made))
+      ∙ sym (ap raw_tests_of one_more)

@@ -1,5 +1,5 @@
 -- The numbers of the generators in scope, and what is numbered one after the other.
-use Rattle.std.specs.Prelude.{ℕ, zero, suc, ◌+◌, List, [], ◌∷◌, length}
+use Rattle.std.specs.Prelude.{ℕ, zero, suc, ◌+◌, List, [], ◌∷◌, drop, length}
 use Rattle.nq_model.specs.NamedRows.{Label}
 use Rattle.nq_model.specs.Types.{TypeTree, FieldTypes}
 use Rattle.nq_ir.specs.NormalForms.{gens_in_base, gens_in_body, gens_in_conds, tags_in_body, number_gens, deal, number_base, number_body, number_conds, first_type, rest_types}
@@ -15,9 +15,16 @@ abbrev pub dealt : ℕ → ℕ → List ℕ → List ℕ
 dealt n zero sc = sc
 dealt n (suc k) sc = dealt (suc n) k (n ∷ sc)
 
+-- without k numbers behind the first c
+abbrev pub without : ℕ → ℕ → List ℕ → List ℕ
+without k zero sc = drop k sc
+without k (suc c) [] = []
+without k (suc c) (n ∷ sc) = n ∷ without k c sc
+
 abbrev pub numbers_layer : Numbers-F (List ℕ) → List ℕ
 numbers_layer Numbers-F.Top = []
 numbers_layer (Numbers-F.Dealt first count outer) = dealt first count outer.now
+numbers_layer (Numbers-F.Without from count outer) = without count from outer.now
 
 -- the numbers in scope, the innermost first
 abbrev pub numbers : Numbers → List ℕ

@@ -1,23 +1,34 @@
 // The choice between two bodies of one shape.
 ghost use Rattle.std.specs.Prelude.{◌≡◌, IfOk, MatchOption};
-ghost use Rattle.nq_ir.specs.RawForms.{RawComps, append_raw, choice, choice_of_fields, raw_bag, raw_plain, raw_unary, where_raw};
-ghost use Rattle.normalise.specs.Raw.{raw_base, raw_body, raw_comps, raw_fields_of};
+ghost use Rattle.nq_ir.specs.RawForms.{choice, choice_of_fields, raw_bag, raw_plain};
+ghost use Rattle.normalise.specs.Raw.{moved_base, moved_body, raw_body, raw_comps, raw_fields_of};
 
 use crate::comps::{append, guarded, reversed};
-use crate::raw::{RawBase, RawBody, RawComp};
-use nq_model::{Label, List, Memory, Unary, boxed};
+use crate::moved::{choose, negation};
+use crate::raw::{MovedBase, MovedBody, RawBody, RawComp};
+use nq_model::{Label, List, Memory};
 use std::alloc::Global;
 
-/// Of two bodies of one shape: a choice at each base part; and for each bag the comprehensions of `yes` under the
-/// test, and then those of `no` under its negation.
-#[cycle(choice)]
-pub(crate) fn choice(
+/// The choice between two bodies, whose parts are shared and not copied.
+#[inline(never)]
+pub(crate) fn chosen(
     alloc: Global,
-    test: &RawBase,
-    yes: RawBody,
-    no: RawBody,
-) -> Result<RawBody, Memory>
-    ensures { IfOk result (λ r. raw_body r ≡ choice (raw_base test.now) (raw_body yes) (raw_body no)) }
+    test: &MovedBase,
+    yes: MovedBody,
+    no: MovedBody,
+) -> Result<MovedBody, Memory>
+    ensures { IfOk result (λ r. moved_body r ≡ choice (moved_base test.now) (moved_body yes) (moved_body no)) }
+{
+    let yes = yes.opened(alloc)?;
+    let no = no.opened(alloc)?;
+    MovedBody::new(alloc, choice(alloc, test, yes, no)?)
+}
+
+// Of two bodies of one shape: a choice at each base part; and for each bag the comprehensions of `yes` under the
+// test, and then those of `no` under its negation.
+#[cycle(choice)]
+fn choice(alloc: Global, test: &MovedBase, yes: RawBody, no: RawBody) -> Result<RawBody, Memory>
+    ensures { IfOk result (λ r. raw_body r ≡ choice (moved_base test.now) (raw_body yes) (raw_body no)) }
 {
     match yes {
         RawBody::Plain(yes) => plain_choice(alloc, test, yes, no),
@@ -36,11 +47,11 @@ pub(crate) fn choice(
 #[cycle(choice)]
 fn fields_choice(
     alloc: Global,
-    test: &RawBase,
-    yes: List<(Label, RawBody)>,
-    no: List<(Label, RawBody)>,
-) -> Result<List<(Label, RawBody)>, Memory>
-    ensures { IfOk result (λ fs. raw_fields_of fs ≡ choice_of_fields (raw_base test.now) (raw_fields_of yes) (raw_fields_of no)) }
+    test: &MovedBase,
+    yes: List<(Label, MovedBody)>,
+    no: List<(Label, MovedBody)>,
+) -> Result<List<(Label, MovedBody)>, Memory>
+    ensures { IfOk result (λ fs. raw_fields_of fs ≡ choice_of_fields (moved_base test.now) (raw_fields_of yes) (raw_fields_of no)) }
 {
     let mut right = reversed(no);
     let mut all = List::with_capacity(alloc, yes.len())?;
@@ -54,46 +65,49 @@ fn fields_choice(
 #[cycle(choice)]
 fn field_choice(
     alloc: Global,
-    test: &RawBase,
-    yes: RawBody,
-    no: Option<(Label, RawBody)>,
-) -> Result<RawBody, Memory>
-    ensures { IfOk result (λ r. MatchOption no (raw_body r ≡ raw_body yes) (λ f. raw_body r ≡ choice (raw_base test.now) (raw_body yes) (raw_body f.1))) }
+    test: &MovedBase,
+    yes: MovedBody,
+    no: Option<(Label, MovedBody)>,
+) -> Result<MovedBody, Memory>
+    ensures { IfOk result (λ r. MatchOption no (moved_body r ≡ moved_body yes) (λ f. moved_body r ≡ choice (moved_base test.now) (moved_body yes) (moved_body f.1))) }
 {
     match no {
-        Some((_, no)) => choice(alloc, test, yes, no),
+        Some((_, no)) => {
+            let yes = yes.opened(alloc)?;
+            let no = no.opened(alloc)?;
+            let chosen = choice(alloc, test, yes, no)?;
+            MovedBody::new(alloc, chosen)
+        }
         None => Ok(yes),
     }
 }
 
-fn plain_choice(alloc: Global, test: &RawBase, yes: RawBase, no: RawBody) -> Result<RawBody, Memory>
-    ensures { IfOk result (λ r. raw_body r ≡ choice (raw_base test.now) (raw_plain (raw_base yes)) (raw_body no)) }
+fn plain_choice(
+    alloc: Global,
+    test: &MovedBase,
+    yes: MovedBase,
+    no: RawBody,
+) -> Result<RawBody, Memory>
+    ensures { IfOk result (λ r. raw_body r ≡ choice (moved_base test.now) (raw_plain (moved_base yes)) (raw_body no)) }
 {
     match no {
-        RawBody::Plain(no) => Ok(RawBody::Plain(RawBase::Choose {
-            test: boxed(alloc, test.copy(alloc)?)?,
-            yes: boxed(alloc, yes)?,
-            no: boxed(alloc, no)?,
-        })),
+        RawBody::Plain(no) => Ok(RawBody::Plain(choose(alloc, test.shared()?, yes, no)?)),
         RawBody::Rec(_) | RawBody::Bag(_) => Ok(RawBody::Plain(yes)),
     }
 }
 
 fn bag_choice(
     alloc: Global,
-    test: &RawBase,
+    test: &MovedBase,
     yes: List<RawComp>,
     no: RawBody,
 ) -> Result<RawBody, Memory>
-    ensures { IfOk result (λ r. raw_body r ≡ choice (raw_base test.now) (raw_bag (raw_comps yes)) (raw_body no)) }
+    ensures { IfOk result (λ r. raw_body r ≡ choice (moved_base test.now) (raw_bag (raw_comps yes)) (raw_body no)) }
 {
     match no {
         RawBody::Bag(no) => {
-            let yes = guarded(alloc, test.copy(alloc)?, yes)?;
-            let negated = RawBase::Unary {
-                op: Unary::Not,
-                of: boxed(alloc, test.copy(alloc)?)?,
-            };
+            let yes = guarded(alloc, test.shared()?, yes)?;
+            let negated = negation(alloc, test.shared()?)?;
             let no = guarded(alloc, negated, no)?;
             Ok(RawBody::Bag(append(yes, no)?))
         }

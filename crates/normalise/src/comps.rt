@@ -1,32 +1,35 @@
-// Lists of comprehensions: one behind the other, inside generators and conditions, and without their bodies.
+// Lists of comprehensions: one behind the other, and inside generators and conditions.
 ghost use Rattle.std.specs.Prelude.{◌≡◌, ◌++◌, IfOk, OnOk, map, reverse};
 ghost use Rattle.nq_ir.specs.RawForms.{append_raw, no_raw, no_raw_comp, raw_base_in, raw_comp, raw_comps_in, where_raw};
-ghost use Rattle.normalise.specs.Raw.{bodiless, comp_part, inside_part, raw_base, raw_body, raw_comps, raw_conds, test_part};
+ghost use Rattle.normalise.specs.Raw.{comp_part, inside_part, moved_base, moved_body, raw_comps, raw_conds};
 
-use crate::raw::{RawBase, RawBody, RawComp, RawTest};
-use crate::raw_copy::{copy_conds, copy_labels};
+use crate::depth::deepest_under;
+use crate::raw::{MovedBase, MovedBody, RawBase, RawBody, RawComp};
+use crate::raw_copy::{all_under, copy_labels, shared_conds};
 use nq_model::{Label, List, Memory};
 use std::alloc::Global;
 
 /// The base term of a body; FALSE where it has another shape, as in no typed term.
-#[tactic(auto, using(crate::proofs::Views::body_plain, crate::proofs::Views::body_rec, crate::proofs::Views::body_bag))]
-pub(crate) fn base_in(body: RawBody) -> RawBase
-    ensures { raw_base result ≡ raw_base_in (raw_body body) }
+#[tactic(auto, using(crate::proofs::Views::moved_body_is, crate::proofs::Views::body_rec, crate::proofs::Views::body_bag))]
+#[inline(never)]
+pub(crate) fn base_in(alloc: Global, body: &MovedBody) -> Result<MovedBase, Memory>
+    ensures { IfOk result (λ b. moved_base b ≡ raw_base_in (moved_body body.now)) }
 {
-    match body {
-        RawBody::Plain(base) => base,
-        RawBody::Rec(_) | RawBody::Bag(_) => RawBase::Bool(false),
+    match &*body.body {
+        RawBody::Plain(base) => base.under(alloc, body.more, body.from),
+        RawBody::Rec(_) | RawBody::Bag(_) => MovedBase::new(alloc, RawBase::Bool(false), 0),
     }
 }
 
 /// The comprehensions of a body; none where it has another shape, as in no typed term.
 #[tactic(auto, using(crate::proofs::Views::body_plain, crate::proofs::Views::body_rec, crate::proofs::Views::body_bag))]
-pub(crate) fn comps_in(alloc: Global, body: RawBody) -> List<RawComp>
-    ensures { raw_comps result ≡ raw_comps_in (raw_body body) }
+#[inline(never)]
+pub(crate) fn comps_in(alloc: Global, body: MovedBody) -> Result<List<RawComp>, Memory>
+    ensures { IfOk result (λ cs. raw_comps cs ≡ raw_comps_in (moved_body body)) }
 {
-    match body {
-        RawBody::Bag(comps) => comps,
-        RawBody::Plain(_) | RawBody::Rec(_) => List::new(alloc),
+    match body.opened(alloc)? {
+        RawBody::Bag(comps) => Ok(comps),
+        RawBody::Plain(_) | RawBody::Rec(_) => Ok(List::new(alloc)),
     }
 }
 
@@ -35,14 +38,15 @@ pub(crate) fn comps_in(alloc: Global, body: RawBody) -> List<RawComp>
 pub(crate) fn one_comp(
     alloc: Global,
     tables: List<Label>,
-    body: RawBody,
+    body: MovedBody,
 ) -> Result<List<RawComp>, Memory>
-    ensures { IfOk result (λ comps. raw_comps comps ≡ raw_comp tables no_raw (raw_body body) no_raw_comp) }
+    ensures { IfOk result (λ comps. raw_comps comps ≡ raw_comp tables no_raw (moved_body body) no_raw_comp) }
 {
     let mut comps = List::with_capacity(alloc, 1)?;
     comps.push(RawComp {
         tables,
         conds: List::new(alloc),
+        deepest: 0,
         body,
     })?;
     Ok(comps)
@@ -74,43 +78,80 @@ pub(crate) fn append(left: List<RawComp>, right: List<RawComp>) -> Result<List<R
     joined(left, right)
 }
 
-/// Each of `parts` inside the generators of `tables` and under `conds`, put behind `all`.
+/// Each of `parts` inside the generators of `tables` and under `conds`, of which the deepest is so deep, put behind
+/// `all`. The last takes them as they stand.
+#[inline(never)]
 pub(crate) fn put_inside(
     alloc: Global,
     all: &mut List<RawComp>,
+    tables: List<Label>,
+    conds: List<MovedBase>,
+    deepest: u64,
+    parts: List<RawComp>,
+) -> Result<(), Memory>
+    ensures { OnOk result (map comp_part all.new ≡ map comp_part all.old ++ map (inside_part tables (raw_conds conds)) (map comp_part parts)) }
+{
+    let mut parts = parts;
+    match parts.pop() {
+        Some(last) => {
+            put_each_inside(
+                alloc,
+                all,
+                tables.as_slice(),
+                conds.as_slice(),
+                deepest,
+                parts,
+            )?;
+            let part = inside_one(alloc, tables, conds, deepest, last)?;
+            all.push(part)?;
+            Ok(())
+        }
+        None => Ok(()),
+    }
+}
+
+fn put_each_inside(
+    alloc: Global,
+    all: &mut List<RawComp>,
     tables: &[Label],
-    conds: &[RawBase],
+    conds: &[MovedBase],
+    deepest: u64,
     parts: List<RawComp>,
 ) -> Result<(), Memory>
     ensures { OnOk result (map comp_part all.new ≡ map comp_part all.old ++ map (inside_part tables.now (raw_conds conds.now)) (map comp_part parts)) }
 {
     for part in parts.into_vec() {
-        all.push(inside_one(alloc, tables, conds, part)?)?;
+        let outer = copy_labels(alloc, tables)?;
+        let around = shared_conds(alloc, conds)?;
+        all.push(inside_one(alloc, outer, around, deepest, part)?)?;
     }
     Ok(())
 }
 
 fn inside_one(
     alloc: Global,
-    tables: &[Label],
-    conds: &[RawBase],
+    tables: List<Label>,
+    conds: List<MovedBase>,
+    deepest: u64,
     part: RawComp,
 ) -> Result<RawComp, Memory>
-    ensures { IfOk result (λ comp. comp_part comp ≡ inside_part tables.now (raw_conds conds.now) (comp_part part)) }
+    ensures { IfOk result (λ comp. comp_part comp ≡ inside_part tables (raw_conds conds) (comp_part part)) }
 {
     let more = part.tables.len() as u64;
     let RawComp {
         tables: own_tables,
         conds: own_conds,
+        deepest: own_deepest,
         body,
     } = part;
-    let outer = copy_labels(alloc, tables)?;
-    let around = copy_conds(alloc, conds, more, 0)?;
-    let tables = joined(outer, own_tables)?;
+    let around = all_under(alloc, conds, more)?;
+    let deepest = deepest_under(around.as_slice(), more, deepest);
+    let tables = joined(tables, own_tables)?;
     let conds = joined(around, own_conds)?;
     Ok(RawComp {
         tables,
         conds,
+        deepest: deepest.max(own_deepest),
         body,
     })
 }
@@ -118,36 +159,15 @@ fn inside_one(
 /// The comprehensions under one more condition, which stands before theirs.
 pub(crate) fn guarded(
     alloc: Global,
-    cond: RawBase,
+    cond: MovedBase,
     parts: List<RawComp>,
 ) -> Result<List<RawComp>, Memory>
-    ensures { IfOk result (λ all. raw_comps all ≡ where_raw (raw_base cond) (raw_comps parts)) }
+    ensures { IfOk result (λ all. raw_comps all ≡ where_raw (moved_base cond) (raw_comps parts)) }
 {
+    let deepest = cond.depth;
     let mut conds = List::with_capacity(alloc, 1)?;
     conds.push(cond)?;
     let mut all = List::with_capacity(alloc, parts.len())?;
-    put_inside(alloc, &mut all, &[], conds.as_slice(), parts)?;
+    put_inside(alloc, &mut all, List::new(alloc), conds, deepest, parts)?;
     Ok(all)
-}
-
-/// The comprehensions without their bodies.
-pub(crate) fn tests_of(alloc: Global, comps: List<RawComp>) -> Result<List<RawTest>, Memory>
-    ensures { IfOk result (λ tests. map test_part tests ≡ map bodiless (map comp_part comps)) }
-{
-    let mut tests = List::with_capacity(alloc, comps.len())?;
-    for comp in comps.into_vec() {
-        tests.push(test_in(comp))?;
-    }
-    Ok(tests)
-}
-
-fn test_in(comp: RawComp) -> RawTest
-    ensures { test_part result ≡ bodiless (comp_part comp) }
-{
-    let RawComp {
-        tables,
-        conds,
-        body: _body,
-    } = comp;
-    RawTest { tables, conds }
 }

@@ -7,7 +7,8 @@ mod comps;
 mod depth;
 mod fields;
 mod forms;
-mod lent;
+mod moved;
+mod moved_body;
 mod number_base;
 mod number_body;
 mod numbers;
@@ -15,6 +16,7 @@ mod raw;
 mod raw_copy;
 mod scope;
 mod table;
+mod tests;
 mod types;
 mod walk;
 

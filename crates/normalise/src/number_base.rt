@@ -2,19 +2,19 @@
 ghost use Rattle.std.specs.Prelude.{◌≡◌, ◌+◌, IfOk, length, map};
 ghost use Rattle.nq_ir.specs.NormalForms.{gens_in_base, number_base, number_gens};
 ghost use Rattle.nq_ir.specs.Trees.{base_tree, test_part as numbered_part};
-ghost use Rattle.normalise.specs.Raw.{raw_base, test_part};
+ghost use Rattle.normalise.specs.Raw.{moved_base, raw_base, test_part};
 ghost use Rattle.normalise.specs.Numbers.{numbers, bases_numbered, gens_in_bases, gens_in_test, test_numbered, tests_numbered, gens_in_parts};
 
 use crate::numbers::Numbers;
-use crate::raw::{RawBase, RawTest};
+use crate::raw::{MovedBase, RawBase, RawTest};
 use crate::raw_copy::plus;
 use nq_ir::{Base, Gen, Test};
 use nq_model::{Label, List, Memory, boxed};
 use std::alloc::Global;
 
-/// A base term with numbers from `next` on, and the number after its last.
+// A base term with numbers from `next` on, and the number after its last.
 #[cycle(number_base)]
-pub(crate) fn number_base(
+fn number_base(
     alloc: Global,
     raw: &RawBase,
     next: u64,
@@ -32,13 +32,13 @@ pub(crate) fn number_base(
             Ok((Base::Column { generator, column }, next))
         }
         RawBase::Unary { op, of } => {
-            let (of, next) = number_base(alloc, of, next, scope)?;
+            let (of, next) = number_moved(alloc, of, next, scope)?;
             let of = boxed(alloc, of)?;
             Ok((Base::Unary { op: *op, of }, next))
         }
         RawBase::Binary { op, left, right } => {
-            let (left, next) = number_base(alloc, left, next, scope)?;
-            let (right, next) = number_base(alloc, right, next, scope)?;
+            let (left, next) = number_moved(alloc, left, next, scope)?;
+            let (right, next) = number_moved(alloc, right, next, scope)?;
             let left = boxed(alloc, left)?;
             let right = boxed(alloc, right)?;
             Ok((
@@ -51,9 +51,9 @@ pub(crate) fn number_base(
             ))
         }
         RawBase::Choose { test, yes, no } => {
-            let (test, next) = number_base(alloc, test, next, scope)?;
-            let (yes, next) = number_base(alloc, yes, next, scope)?;
-            let (no, next) = number_base(alloc, no, next, scope)?;
+            let (test, next) = number_moved(alloc, test, next, scope)?;
+            let (yes, next) = number_moved(alloc, yes, next, scope)?;
+            let (no, next) = number_moved(alloc, no, next, scope)?;
             let test = boxed(alloc, test)?;
             let yes = boxed(alloc, yes)?;
             let no = boxed(alloc, no)?;
@@ -63,23 +63,38 @@ pub(crate) fn number_base(
             let (tests, next) = number_tests(alloc, tests.as_slice(), next, scope)?;
             Ok((Base::Empty(tests), next))
         }
+        RawBase::Moved(moved) => number_moved(alloc, moved, next, scope),
     }
+}
+
+/// The same of a base term that is moved under more generators: it does not name their numbers.
+#[cycle(number_base)]
+pub(crate) fn number_moved(
+    alloc: Global,
+    moved: &MovedBase,
+    next: u64,
+    scope: &Numbers,
+) -> Result<(Base, u64), Memory>
+    ensures { IfOk result (λ r. (base_tree r.0 ≡ number_base next (numbers scope.now) (moved_base moved.now)) × (r.1 ≡ next + gens_in_base (moved_base moved.now))) }
+{
+    let inner = scope.without(moved.more, moved.from);
+    number_base(alloc, &moved.base, next, &inner)
 }
 
 /// Conditions with numbers from `first` on, and the number after their last.
 #[cycle(number_base)]
 pub(crate) fn number_conds(
     alloc: Global,
-    conds: &[RawBase],
+    conds: &[MovedBase],
     first: u64,
     scope: &Numbers,
 ) -> Result<(List<Base>, u64), Memory>
-    ensures { IfOk result (λ r. (map base_tree r.0 ≡ bases_numbered first (numbers scope.now) (map raw_base conds.now)) × (r.1 ≡ first + gens_in_bases (map raw_base conds.now))) }
+    ensures { IfOk result (λ r. (map base_tree r.0 ≡ bases_numbered first (numbers scope.now) (map moved_base conds.now)) × (r.1 ≡ first + gens_in_bases (map moved_base conds.now))) }
 {
     let mut numbered = List::with_capacity(alloc, conds.len())?;
     let mut next = first;
     for cond in conds {
-        let (base, after) = number_base(alloc, cond, next, scope)?;
+        let (base, after) = number_moved(alloc, cond, next, scope)?;
         numbered.push(base)?;
         next = after;
     }

@@ -3,13 +3,12 @@ ghost use Rattle.std.specs.Prelude.{◌≡◌, ◌+◌, ◌<◌, ◌^◌, ◌≤
 ghost use Rattle.nq_model.specs.Types.{type_tree, field_types_of, fields_view as types_view};
 ghost use Rattle.nq_ir.specs.NormalForms.{element_type, first_type, gens_in_body, gens_in_comps as gens_in_form, number_body, number_comps, tags_in_body, tags_in_comps};
 ghost use Rattle.nq_ir.specs.Trees.{body_tree, comp_part as numbered_part, form_tree};
-ghost use Rattle.normalise.specs.Raw.{comp_part, fields_view, raw_body, raw_comps};
+ghost use Rattle.normalise.specs.Raw.{comp_part, fields_view, moved_body, raw_body, raw_comps};
 ghost use Rattle.normalise.specs.Numbers.{numbers, comp_numbered, comps_numbered, fields_numbered, tags_in_part, tags_in_parts, tags_in_list, gens_in_comp, gens_in_comps, gens_in_list};
 
-use crate::depth::all_shallow;
-use crate::number_base::{number_base, number_conds, number_gens};
+use crate::number_base::{number_conds, number_gens, number_moved};
 use crate::numbers::Numbers;
-use crate::raw::{RawBody, RawComp};
+use crate::raw::{MovedBody, RawBody, RawComp};
 use crate::raw_copy::plus;
 use crate::types::{element_of, fields_in};
 use nq_ir::{Body, Comp, Normal};
@@ -41,7 +40,6 @@ pub(crate) fn number_form(alloc: Global, comps: &[RawComp], ty: &Ty) -> Result<N
     ensures tags { IfOk result (λ n. tags_in_comps (raw_comps comps.now) < 2 ^ 63) }
     ensures gens { IfOk result (λ n. gens_in_form (raw_comps comps.now) < 2 ^ 63) }
 {
-    all_shallow(comps)?;
     let element = element_of(ty);
     let first = Next { tag: 1, number: 1 };
     let (parts, next) = number_comps(alloc, comps, element, first, &Numbers::Top)?;
@@ -65,7 +63,7 @@ fn number_body(
 {
     match raw {
         RawBody::Plain(base) => {
-            let (base, number) = number_base(alloc, base, next.number, scope)?;
+            let (base, number) = number_moved(alloc, base, next.number, scope)?;
             let next = Next {
                 tag: next.tag,
                 number,
@@ -86,10 +84,25 @@ fn number_body(
     }
 }
 
+// The same of a body that is moved under more generators: it does not name their numbers.
+#[cycle(number_body)]
+fn number_moved_body(
+    alloc: Global,
+    moved: &MovedBody,
+    ty: &Ty,
+    next: Next,
+    scope: &Numbers,
+) -> Result<(Body, Next), Memory>
+    ensures { IfOk result (λ r. (body_tree r.0 ≡ number_body next.tag next.number (numbers scope.now) (type_tree ty.now) (moved_body moved.now)) × (r.1.tag ≡ next.tag + tags_in_body (moved_body moved.now)) × (r.1.number ≡ next.number + gens_in_body (moved_body moved.now))) }
+{
+    let inner = scope.without(moved.more, moved.from);
+    number_body(alloc, &moved.body, ty, next, &inner)
+}
+
 #[cycle(number_body)]
 fn number_fields(
     alloc: Global,
-    fields: &[(Label, RawBody)],
+    fields: &[(Label, MovedBody)],
     types: &[(Label, Ty)],
     first: Next,
     scope: &Numbers,
@@ -112,17 +125,17 @@ fn number_fields(
 #[cycle(number_body)]
 fn number_field(
     alloc: Global,
-    raw: &RawBody,
+    raw: &MovedBody,
     types: &[(Label, Ty)],
     at: usize,
     next: Next,
     scope: &Numbers,
 ) -> Result<(Body, Next), Memory>
-    ensures { IfOk result (λ r. (body_tree r.0 ≡ number_body next.tag next.number (numbers scope.now) (first_type (field_types_of (types_view (drop at types.now)))) (raw_body raw.now)) × (r.1.tag ≡ next.tag + tags_in_body (raw_body raw.now)) × (r.1.number ≡ next.number + gens_in_body (raw_body raw.now))) }
+    ensures { IfOk result (λ r. (body_tree r.0 ≡ number_body next.tag next.number (numbers scope.now) (first_type (field_types_of (types_view (drop at types.now)))) (moved_body raw.now)) × (r.1.tag ≡ next.tag + tags_in_body (moved_body raw.now)) × (r.1.number ≡ next.number + gens_in_body (moved_body raw.now))) }
 {
     match types.get(at) {
-        Some(typed) => number_body(alloc, raw, &typed.1, next, scope),
-        None => number_body(alloc, raw, &Ty::Int, next, scope),
+        Some(typed) => number_moved_body(alloc, raw, &typed.1, next, scope),
+        None => number_moved_body(alloc, raw, &Ty::Int, next, scope),
     }
 }
 
@@ -170,7 +183,7 @@ fn number_comp(
         tag: plus(next.tag, 1)?,
         number,
     };
-    let (body, after) = number_body(alloc, &comp.body, element, inside, &inner)?;
+    let (body, after) = number_moved_body(alloc, &comp.body, element, inside, &inner)?;
     Ok((
         Comp {
             tag: next.tag,

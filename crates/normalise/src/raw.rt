@@ -1,8 +1,9 @@
 // Bodies of terms before their generators are numbered.
 use nq_model::{Binary, Label, List, Text, Unary};
+use std::rc::Rc;
 
 /// A base term. `Column` names its generator by how many stand between it and its use, so that a body which is used
-/// more than once has generators of its own in each copy.
+/// more than once has generators of its own at each use.
 #[cycle(raw)]
 #[derive(Drop)]
 pub(crate) enum RawBase {
@@ -15,19 +16,31 @@ pub(crate) enum RawBase {
     },
     Unary {
         op: Unary,
-        of: Box<RawBase>,
+        of: MovedBase,
     },
     Binary {
         op: Binary,
-        left: Box<RawBase>,
-        right: Box<RawBase>,
+        left: MovedBase,
+        right: MovedBase,
     },
     Choose {
-        test: Box<RawBase>,
-        yes: Box<RawBase>,
-        no: Box<RawBase>,
+        test: MovedBase,
+        yes: MovedBase,
+        no: MovedBase,
     },
     Empty(List<RawTest>),
+    Moved(MovedBase),
+}
+
+/// A base term under `more` generators, which stand outside the first `from` around it. It is shared where it is used
+/// more than once, and numbered as if it were moved, so that it is neither copied nor walked before.
+#[cycle(raw)]
+#[derive(Drop)]
+pub(crate) struct MovedBase {
+    pub base: Rc<RawBase>,
+    pub more: u64,
+    pub from: u64,
+    pub depth: u64,
 }
 
 /// A comprehension of an emptiness test: the tables of its generators, outermost first, and its conditions.
@@ -35,23 +48,35 @@ pub(crate) enum RawBase {
 #[derive(Drop)]
 pub(crate) struct RawTest {
     pub tables: List<Label>,
-    pub conds: List<RawBase>,
+    pub conds: List<MovedBase>,
 }
 
 /// The body of a term: a base term, the bodies of a record's fields in label order, or comprehensions.
 #[cycle(raw_body)]
 #[derive(Drop)]
 pub(crate) enum RawBody {
-    Plain(RawBase),
-    Rec(List<(Label, RawBody)>),
+    Plain(MovedBase),
+    Rec(List<(Label, MovedBody)>),
     Bag(List<RawComp>),
 }
 
-/// A comprehension: the tables of its generators, outermost first, its conditions and its body.
+/// A body under `more` generators, which stand outside the first `from` around it, shared as a base term is.
+#[cycle(raw_body)]
+#[derive(Drop)]
+pub(crate) struct MovedBody {
+    pub body: Rc<RawBody>,
+    pub more: u64,
+    pub from: u64,
+    pub depth: u64,
+}
+
+/// A comprehension: the tables of its generators, outermost first, its conditions, of which the deepest is so deep, and
+/// its body.
 #[cycle(raw_body)]
 #[derive(Drop)]
 pub(crate) struct RawComp {
     pub tables: List<Label>,
-    pub conds: List<RawBase>,
-    pub body: RawBody,
+    pub conds: List<MovedBase>,
+    pub deepest: u64,
+    pub body: MovedBody,
 }

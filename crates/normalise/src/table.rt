@@ -3,30 +3,31 @@ ghost use Rattle.std.specs.Prelude.{◌≡◌, IfOk, [], ◌∷◌, map, option_
 ghost use Rattle.nq_model.specs.Typing.{shape_named};
 ghost use Rattle.nq_ir.specs.RawForms.{columns_body, no_raw, no_raw_comp, raw_bag, raw_column, raw_comp, raw_plain, raw_rec};
 ghost use Rattle.nq_ir.specs.WellFormed.{table_columns};
-ghost use Rattle.normalise.specs.Raw.{fields_view, raw_body, raw_fields_of};
+ghost use Rattle.normalise.specs.Raw.{fields_view, moved_body, raw_fields_of};
 
 use crate::comps::one_comp;
 use crate::fields::in_label_order;
-use crate::raw::{RawBase, RawBody};
+use crate::forms::{bag, plain};
+use crate::raw::{MovedBody, RawBase, RawBody};
 use nq_model::{ColumnType, Label, List, Memory, Schema, TableShape};
 use std::alloc::Global;
 
 /// The record of the columns at each row of a table.
-pub(crate) fn table_body(alloc: Global, schema: &Schema, name: &Label) -> Result<RawBody, Memory>
-    ensures { IfOk result (λ b. raw_body b ≡ raw_bag (raw_comp (name.now ∷ []) no_raw (raw_rec (columns_body (table_columns schema.now.tables name.now))) no_raw_comp)) }
+pub(crate) fn table_body(alloc: Global, schema: &Schema, name: &Label) -> Result<MovedBody, Memory>
+    ensures { IfOk result (λ b. moved_body b ≡ raw_bag (raw_comp (name.now ∷ []) no_raw (raw_rec (columns_body (table_columns schema.now.tables name.now))) no_raw_comp)) }
 {
     let mut tables = List::with_capacity(alloc, 1)?;
     tables.push(name.copy(alloc)?)?;
     let fields = columns_of(alloc, schema, name)?;
-    let comps = one_comp(alloc, tables, RawBody::Rec(fields))?;
-    Ok(RawBody::Bag(comps))
+    let row = MovedBody::new(alloc, RawBody::Rec(fields))?;
+    bag(alloc, one_comp(alloc, tables, row)?)
 }
 
 fn columns_of(
     alloc: Global,
     schema: &Schema,
     name: &Label,
-) -> Result<List<(Label, RawBody)>, Memory>
+) -> Result<List<(Label, MovedBody)>, Memory>
     ensures { IfOk result (λ fs. raw_fields_of fs ≡ columns_body (table_columns schema.now.tables name.now)) }
 {
     match shape_of(schema, name) {
@@ -38,7 +39,7 @@ fn columns_of(
 fn columns_at(
     alloc: Global,
     columns: &[(Label, ColumnType)],
-) -> Result<List<(Label, RawBody)>, Memory>
+) -> Result<List<(Label, MovedBody)>, Memory>
     ensures { IfOk result (λ fs. raw_fields_of fs ≡ columns_body columns.now) }
 {
     in_label_order(each_column(alloc, columns)?)
@@ -47,7 +48,7 @@ fn columns_at(
 fn each_column(
     alloc: Global,
     columns: &[(Label, ColumnType)],
-) -> Result<List<(Label, RawBody)>, Memory>
+) -> Result<List<(Label, MovedBody)>, Memory>
     ensures { IfOk result (λ fs. fields_view fs ≡ map (λ c. (c.0, raw_plain (raw_column 0 c.0))) columns.now) }
 {
     let mut fields = List::with_capacity(alloc, columns.len())?;
@@ -57,7 +58,7 @@ fn each_column(
             back: 0,
             column: column.0.copy(alloc)?,
         };
-        fields.push((label, RawBody::Plain(base)))?;
+        fields.push((label, plain(alloc, base)?))?;
     }
     Ok(fields)
 }

@@ -1,31 +1,34 @@
-// The bodies of terms.
+// The bodies of terms, and the tests of those of which only these are asked.
 ghost use Rattle.std.specs.Prelude.{◌≡◌, IfOk, map};
 ghost use Rattle.nq_model.specs.Terms.{term_tree, fields_view as terms_view};
-ghost use Rattle.nq_ir.specs.RawForms.{raw_base_in, raw_comps_in, raw_form};
-ghost use Rattle.normalise.specs.Raw.{fields_view, raw_base, raw_body, raw_comps};
+ghost use Rattle.nq_ir.specs.RawForms.{raw_base_in, raw_comps_in, raw_form, raw_tests_of};
+ghost use Rattle.normalise.specs.Raw.{fields_view, moved_base, moved_body, raw_comps, raw_tests};
 ghost use Rattle.normalise.specs.Scopes.{bodies};
 
-use crate::choice::choice;
+use crate::choice::chosen;
 use crate::comps::{base_in, comps_in, put_inside};
-use crate::depth::shallow;
 use crate::fields::field_in;
-use crate::forms::{binary, emptiness, guard, single, text, unary, union, with_fields};
-use crate::lent::part_of;
-use crate::raw::{RawBase, RawBody, RawComp};
+use crate::forms::{
+    bag, binary, emptiness, guard, no_body, plain, single, text, unary, union, with_fields,
+};
+use crate::raw::{MovedBase, MovedBody, RawBase, RawComp, RawTest};
 use crate::scope::Scope;
 use crate::table::table_body;
+use crate::tests::{
+    append_tests, guarded_tests, one_test, put_tests_inside, test_of_table, tests_of,
+};
 use nq_model::{Label, List, Memory, Node, Schema, Term};
 use std::alloc::Global;
 
 /// The body of a plain term, where the variables have these bodies.
 #[cycle(body)]
-fn body(alloc: Global, schema: &Schema, term: &Term, scope: &Scope) -> Result<RawBody, Memory>
-    ensures { IfOk result (λ b. raw_body b ≡ raw_form schema.now.tables (term_tree term.now) (bodies scope.now)) }
+fn body(alloc: Global, schema: &Schema, term: &Term, scope: &Scope) -> Result<MovedBody, Memory>
+    ensures { IfOk result (λ b. moved_body b ≡ raw_form schema.now.tables (term_tree term.now) (bodies scope.now)) }
 {
     match &term.node {
         Node::Var(k) => scope.variable(alloc, *k),
-        Node::Int(number) => Ok(RawBody::Plain(RawBase::Int(*number))),
-        Node::Bool(truth) => Ok(RawBody::Plain(RawBase::Bool(*truth))),
+        Node::Int(number) => plain(alloc, RawBase::Int(*number)),
+        Node::Bool(truth) => plain(alloc, RawBase::Bool(*truth)),
         Node::Text(of) => text(alloc, of),
         Node::Table(name) => table_body(alloc, schema, name),
         Node::Unary { op, of } => {
@@ -41,43 +44,46 @@ fn body(alloc: Global, schema: &Schema, term: &Term, scope: &Scope) -> Result<Ra
             let test = base(alloc, schema, test, scope)?;
             let yes = body(alloc, schema, yes, scope)?;
             let no = body(alloc, schema, no, scope)?;
-            choice(alloc, &test, yes, no)
+            chosen(alloc, &test, yes, no)
         }
-        Node::Rec(fields) => with_fields(fields_of(alloc, schema, fields.as_slice(), scope)?),
-        Node::Field { of, label } => match part_of(term, scope)? {
-            Some(part) => part.copy(alloc),
-            None => {
-                let of = body(alloc, schema, of, scope)?;
-                Ok(field_in(label, of))
-            }
-        },
-        Node::Empty(of) => emptiness(alloc, comps(alloc, schema, of, scope)?),
+        Node::Rec(fields) => {
+            let fields = fields_of(alloc, schema, fields.as_slice(), scope)?;
+            with_fields(alloc, fields)
+        }
+        Node::Field { of, label } => {
+            let of = body(alloc, schema, of, scope)?;
+            field_in(alloc, label, &of)
+        }
+        Node::Empty(of) => emptiness(alloc, tests(alloc, schema, of, scope)?),
         Node::Single(of) => single(alloc, body(alloc, schema, of, scope)?),
-        Node::Nil(_) => Ok(RawBody::Bag(List::new(alloc))),
+        Node::Nil(_) => bag(alloc, List::new(alloc)),
         Node::Union { left, right } => {
             let left = comps(alloc, schema, left, scope)?;
             let right = comps(alloc, schema, right, scope)?;
-            union(left, right)
+            union(alloc, left, right)
         }
         Node::For { source, body: rest } => {
             let source = comps(alloc, schema, source, scope)?;
-            let items = source.as_slice();
             let mut all = List::new(alloc);
-            for comp in items {
-                shallow(&comp.body)?;
+            for comp in source.into_vec() {
+                let RawComp {
+                    tables,
+                    conds,
+                    deepest,
+                    body: of,
+                } = comp;
                 let deeper = Scope::Under {
-                    count: comp.tables.len() as u64,
+                    count: tables.len() as u64,
                     outer: scope,
                 };
                 let inner = Scope::Inner {
-                    body: &comp.body,
+                    body: &of,
                     outer: &deeper,
                 };
                 let parts = comps(alloc, schema, rest, &inner)?;
-                let tables = comp.tables.as_slice();
-                put_inside(alloc, &mut all, tables, comp.conds.as_slice(), parts)?;
+                put_inside(alloc, &mut all, tables, conds, deepest, parts)?;
             }
-            Ok(RawBody::Bag(all))
+            bag(alloc, all)
         }
         Node::Guard { test, body: rest } => {
             let test = base(alloc, schema, test, scope)?;
@@ -85,19 +91,17 @@ fn body(alloc: Global, schema: &Schema, term: &Term, scope: &Scope) -> Result<Ra
             guard(alloc, test, rest)
         }
         // these stand in no plain term
-        Node::Fun { .. } | Node::Apply { .. } | Node::Bind { .. } => {
-            Ok(RawBody::Plain(RawBase::Bool(false)))
-        }
+        Node::Fun { .. } | Node::Apply { .. } | Node::Bind { .. } => no_body(alloc),
     }
 }
 
 // The base term of a part.
 #[cycle(body)]
-fn base(alloc: Global, schema: &Schema, term: &Term, scope: &Scope) -> Result<RawBase, Memory>
-    ensures { IfOk result (λ b. raw_base b ≡ raw_base_in (raw_form schema.now.tables (term_tree term.now) (bodies scope.now))) }
+fn base(alloc: Global, schema: &Schema, term: &Term, scope: &Scope) -> Result<MovedBase, Memory>
+    ensures { IfOk result (λ b. moved_base b ≡ raw_base_in (raw_form schema.now.tables (term_tree term.now) (bodies scope.now))) }
 {
     let of = body(alloc, schema, term, scope)?;
-    Ok(base_in(of))
+    base_in(alloc, &of)
 }
 
 /// The comprehensions of a term.
@@ -111,7 +115,58 @@ pub(crate) fn comps(
     ensures { IfOk result (λ cs. raw_comps cs ≡ raw_comps_in (raw_form schema.now.tables (term_tree term.now) (bodies scope.now))) }
 {
     let of = body(alloc, schema, term, scope)?;
-    Ok(comps_in(alloc, of))
+    comps_in(alloc, of)
+}
+
+/// The comprehensions of a term without their bodies, which are not built.
+#[cycle(body)]
+fn tests(
+    alloc: Global,
+    schema: &Schema,
+    term: &Term,
+    scope: &Scope,
+) -> Result<List<RawTest>, Memory>
+    ensures { IfOk result (λ ts. raw_tests ts ≡ raw_tests_of (raw_comps_in (raw_form schema.now.tables (term_tree term.now) (bodies scope.now)))) }
+{
+    match &term.node {
+        Node::Table(name) => test_of_table(alloc, name),
+        Node::Single(_) => one_test(alloc, List::new(alloc)),
+        Node::Nil(_) => Ok(List::new(alloc)),
+        Node::Union { left, right } => {
+            let left = tests(alloc, schema, left, scope)?;
+            let right = tests(alloc, schema, right, scope)?;
+            append_tests(left, right)
+        }
+        Node::For { source, body: rest } => {
+            let source = comps(alloc, schema, source, scope)?;
+            let mut all = List::new(alloc);
+            for comp in source.into_vec() {
+                let RawComp {
+                    tables,
+                    conds,
+                    body: of,
+                    ..
+                } = comp;
+                let deeper = Scope::Under {
+                    count: tables.len() as u64,
+                    outer: scope,
+                };
+                let inner = Scope::Inner {
+                    body: &of,
+                    outer: &deeper,
+                };
+                let parts = tests(alloc, schema, rest, &inner)?;
+                put_tests_inside(alloc, &mut all, tables, conds, parts)?;
+            }
+            Ok(all)
+        }
+        Node::Guard { test, body: rest } => {
+            let test = base(alloc, schema, test, scope)?;
+            let rest = tests(alloc, schema, rest, scope)?;
+            guarded_tests(alloc, test, rest)
+        }
+        _ => tests_of(alloc, comps(alloc, schema, term, scope)?),
+    }
 }
 
 #[cycle(body)]
@@ -120,7 +175,7 @@ fn fields_of(
     schema: &Schema,
     fields: &[(Label, Term)],
     scope: &Scope,
-) -> Result<List<(Label, RawBody)>, Memory>
+) -> Result<List<(Label, MovedBody)>, Memory>
     ensures { IfOk result (λ fs. fields_view fs ≡ map (λ f. (f.0, raw_form schema.now.tables f.1 (bodies scope.now))) (terms_view fields.now)) }
 {
     let mut all = List::with_capacity(alloc, fields.len())?;

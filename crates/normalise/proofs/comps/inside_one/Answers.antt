@@ -1,7 +1,6 @@
-use Rattle.std.proofs.Common.{rules, ◌≡◌, ◌++◌, ap, ◌∙◌, map, length, List}
-use Rattle.nq_model.specs.NamedRows.{Label}
+use Rattle.std.proofs.Common.{rules, ◌≡◌, ap, ◌∙◌, map, length}
 use Rattle.nq_ir.specs.RawForms.{up_base}
-use Rattle.normalise.specs.Raw.{raw_base}
+use Rattle.normalise.specs.Raw.{moved_base}
 use Rattle.normalise.proofs.Lists.{comp_inside}
 use Rattle.normalise.proofs.comps.inside_one.Goals as goal
 
@@ -9,6 +8,5 @@ pub returns : goal.returns
 returns c =
     let x = c.args.part in
     let more : c.len-more.result ≡ length x.tables = search rules in
-    let g = c.in_ok-tables.ensures ∙ ap (λ (l : List Label). l ++ x.tables) c.in_ok-outer.ensures in
-    let f = c.in_ok-around.ensures ∙ ap (λ n. map (up_base n 0) (map raw_base c.args.conds.now)) more in
-    comp_inside c.args.tables.now c.args.conds.now x c.in_ok-tables.tables c.in_ok-around.around c.in_ok-conds.conds g c.in_ok-conds.ensures f
+    let f = c.in_ok-around.ensures ∙ ap (λ n. map (up_base n 0) (map moved_base c.args.conds)) more in
+    comp_inside c.args.tables c.args.conds x c.in_ok-tables.tables c.in_ok-around.around c.in_ok-conds.conds _ c.in_ok-tables.ensures c.in_ok-conds.ensures f

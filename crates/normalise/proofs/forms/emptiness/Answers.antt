@@ -1,12 +1,9 @@
-use Rattle.std.proofs.Common.{ap, ◌∙◌, map}
-use Rattle.nq_ir.specs.RawForms.{raw_plain, raw_empty}
-use Rattle.normalise.specs.Raw.{comp_part, tests_of}
-use Rattle.normalise.specs.declared.raw.RawBase.TheVariants as base
+use Rattle.std.proofs.Common.{ap, ◌∙◌}
+use Rattle.std.proofs.lemmas.Result.{IfOk-weaker}
+use Rattle.nq_ir.specs.RawForms.{raw_plain}
 use Rattle.normalise.proofs.Views.{base_empty, body_plain}
-use Rattle.normalise.proofs.Lists.{tests_bodiless}
 use Rattle.normalise.proofs.forms.emptiness.Goals as goal
 
 pub returns : goal.returns
 returns c =
-    body_plain (base.Empty c.in_ok-tests.tests)
-    ∙ ap raw_plain (base_empty c.in_ok-tests.tests ∙ ap raw_empty (ap tests_of c.in_ok-tests.ensures ∙ tests_bodiless (map comp_part c.args.comps)))
+    IfOk-weaker c.new-2.result _ _ (λ b e. e ∙ body_plain c.in_ok-base.base ∙ ap raw_plain (c.in_ok-base.ensures ∙ base_empty c.args.tests)) c.new-2.ensures

@@ -1,14 +1,17 @@
-use Rattle.std.proofs.Common.{◌≡◌, ◌∷◌, map, take, drop, length}
+use Rattle.std.proofs.Common.{◌≡◌, ◌∷◌, map, take, length}
 use Rattle.nq_model.specs.Terms.{term_tree, fields_view as terms_view}
-use Rattle.nq_ir.specs.RawForms.{append_raw, each_comp, raw_comps_in, raw_form, up_body}
-use Rattle.normalise.specs.Raw.{fields_view, raw_comps}
+use Rattle.nq_ir.specs.RawForms.{each_comp, raw_comps_in, raw_form, raw_tests_of, up_body}
+use Rattle.normalise.specs.Raw.{fields_view, raw_comps, raw_tests}
 use Rattle.normalise.specs.Scopes.{bodies}
 use Rattle.normalise.proofs.walk.+body.Given as goal
 
 abbrev pub invariant-body-loop-comp : goal.invariant-body-loop-comp
 invariant-body-loop-comp l =
-    append_raw (raw_comps l.all) (each_comp (raw_comps (drop l.comp-index l.items)) (λ gs e. raw_comps_in (raw_form l.schema.tables (term_tree l.rest.value) (e ∷ map (up_body (length gs) 0) (bodies l.scope)))))
-    ≡ each_comp (raw_comps l.items) (λ gs e. raw_comps_in (raw_form l.schema.tables (term_tree l.rest.value) (e ∷ map (up_body (length gs) 0) (bodies l.scope))))
+    raw_comps l.all ≡ each_comp (raw_comps l.yielded) (λ gs e. raw_comps_in (raw_form l.schema.tables (term_tree l.rest.value) (e ∷ map (up_body (length gs) 0) (bodies l.scope))))
+
+abbrev pub invariant-tests-loop-comp : goal.invariant-tests-loop-comp
+invariant-tests-loop-comp l =
+    raw_tests l.all ≡ raw_tests_of (each_comp (raw_comps l.yielded) (λ gs e. raw_comps_in (raw_form l.schema.tables (term_tree l.rest.value) (e ∷ map (up_body (length gs) 0) (bodies l.scope)))))
 
 abbrev pub invariant-fields_of-loop-field : goal.invariant-fields_of-loop-field
 invariant-fields_of-loop-field l =

@@ -1,5 +1,5 @@
 use Rattle.normalise.specs.Scopes.{bodies}
-use Rattle.normalise.proofs.Copies.{found_under}
+use Rattle.normalise.proofs.MovedBodies.{found_under}
 use Rattle.normalise.proofs.Scopes.{scope_under}
 use Rattle.normalise.proofs.scope.Scope.+body_of.Goals as goal
 

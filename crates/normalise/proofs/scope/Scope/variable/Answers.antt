@@ -2,7 +2,7 @@ use Rattle.std.proofs.Common.{◌∙◌, get_or}
 use Rattle.std.proofs.lemmas.Result.{IfOk-weaker}
 use Rattle.nq_ir.specs.RawForms.{no_raw_body}
 use Rattle.normalise.specs.Scopes.{bodies}
-use Rattle.normalise.proofs.Copies.{body_same}
+use Rattle.normalise.proofs.MovedBodies.{body_same}
 use Rattle.normalise.proofs.scope.Scope.variable.Goals as goal
 
 pub returns : goal.returns

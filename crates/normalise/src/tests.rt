@@ -1,0 +1,151 @@
+// Comprehensions of emptiness tests, which have no bodies: one behind the other, and inside generators and conditions.
+ghost use Rattle.std.specs.Prelude.{◌≡◌, ◌++◌, ◌∷◌, [], IfOk, OnOk, map};
+ghost use Rattle.nq_ir.specs.RawForms.{no_raw, no_raw_test, raw_test, raw_tests_of};
+ghost use Rattle.normalise.specs.Raw.{append_tests, bodiless, comp_part, moved_base, raw_comps, raw_conds, raw_tests, test_inside, test_part, where_tests};
+
+use crate::comps::joined;
+use crate::raw::{MovedBase, RawComp, RawTest};
+use crate::raw_copy::{all_under, copy_labels, shared_conds};
+use nq_model::{Label, List, Memory};
+use std::alloc::Global;
+
+/// One comprehension over the table of that name.
+#[inline(never)]
+pub(crate) fn test_of_table(alloc: Global, name: &Label) -> Result<List<RawTest>, Memory>
+    ensures { IfOk result (λ tests. raw_tests tests ≡ raw_test (name.now ∷ []) no_raw no_raw_test) }
+{
+    let mut tables = List::with_capacity(alloc, 1)?;
+    tables.push(name.copy(alloc)?)?;
+    one_test(alloc, tables)
+}
+
+/// One comprehension without conditions.
+#[tactic(auto, using(crate::proofs::Views::test_is))]
+#[inline(never)]
+pub(crate) fn one_test(alloc: Global, tables: List<Label>) -> Result<List<RawTest>, Memory>
+    ensures { IfOk result (λ tests. raw_tests tests ≡ raw_test tables no_raw no_raw_test) }
+{
+    let mut tests = List::with_capacity(alloc, 1)?;
+    tests.push(RawTest {
+        tables,
+        conds: List::new(alloc),
+    })?;
+    Ok(tests)
+}
+
+/// These comprehensions, and then those.
+#[inline(never)]
+pub(crate) fn append_tests(
+    left: List<RawTest>,
+    right: List<RawTest>,
+) -> Result<List<RawTest>, Memory>
+    ensures { IfOk result (λ tests. raw_tests tests ≡ append_tests (raw_tests left) (raw_tests right)) }
+{
+    joined(left, right)
+}
+
+/// Each of `parts` inside the generators of `tables` and under `conds`, put behind `all`. The last takes them as they
+/// stand.
+#[inline(never)]
+pub(crate) fn put_tests_inside(
+    alloc: Global,
+    all: &mut List<RawTest>,
+    tables: List<Label>,
+    conds: List<MovedBase>,
+    parts: List<RawTest>,
+) -> Result<(), Memory>
+    ensures { OnOk result (map test_part all.new ≡ map test_part all.old ++ map (test_inside tables (raw_conds conds)) (map test_part parts)) }
+{
+    let mut parts = parts;
+    match parts.pop() {
+        Some(last) => {
+            put_each_test_inside(alloc, all, tables.as_slice(), conds.as_slice(), parts)?;
+            let part = inside_test(alloc, tables, conds, last)?;
+            all.push(part)?;
+            Ok(())
+        }
+        None => Ok(()),
+    }
+}
+
+fn put_each_test_inside(
+    alloc: Global,
+    all: &mut List<RawTest>,
+    tables: &[Label],
+    conds: &[MovedBase],
+    parts: List<RawTest>,
+) -> Result<(), Memory>
+    ensures { OnOk result (map test_part all.new ≡ map test_part all.old ++ map (test_inside tables.now (raw_conds conds.now)) (map test_part parts)) }
+{
+    for part in parts.into_vec() {
+        let outer = copy_labels(alloc, tables)?;
+        let around = shared_conds(alloc, conds)?;
+        all.push(inside_test(alloc, outer, around, part)?)?;
+    }
+    Ok(())
+}
+
+fn inside_test(
+    alloc: Global,
+    tables: List<Label>,
+    conds: List<MovedBase>,
+    part: RawTest,
+) -> Result<RawTest, Memory>
+    ensures { IfOk result (λ test. test_part test ≡ test_inside tables (raw_conds conds) (test_part part)) }
+{
+    let more = part.tables.len() as u64;
+    let RawTest {
+        tables: own_tables,
+        conds: own_conds,
+    } = part;
+    let around = all_under(alloc, conds, more)?;
+    let tables = joined(tables, own_tables)?;
+    let conds = joined(around, own_conds)?;
+    Ok(RawTest { tables, conds })
+}
+
+/// The comprehensions under one more condition, which stands before theirs.
+#[inline(never)]
+pub(crate) fn guarded_tests(
+    alloc: Global,
+    cond: MovedBase,
+    parts: List<RawTest>,
+) -> Result<List<RawTest>, Memory>
+    ensures { IfOk result (λ all. raw_tests all ≡ where_tests (moved_base cond) (raw_tests parts)) }
+{
+    let mut conds = List::with_capacity(alloc, 1)?;
+    conds.push(cond)?;
+    let mut all = List::with_capacity(alloc, parts.len())?;
+    put_tests_inside(alloc, &mut all, List::new(alloc), conds, parts)?;
+    Ok(all)
+}
+
+/// The comprehensions without their bodies.
+#[inline(never)]
+pub(crate) fn tests_of(alloc: Global, comps: List<RawComp>) -> Result<List<RawTest>, Memory>
+    ensures { IfOk result (λ tests. raw_tests tests ≡ raw_tests_of (raw_comps comps)) }
+{
+    each_test(alloc, comps)
+}
+
+fn each_test(alloc: Global, comps: List<RawComp>) -> Result<List<RawTest>, Memory>
+    ensures { IfOk result (λ tests. map test_part tests ≡ map bodiless (map comp_part comps)) }
+{
+    let mut tests = List::with_capacity(alloc, comps.len())?;
+    for comp in comps.into_vec() {
+        tests.push(test_in(comp))?;
+    }
+    Ok(tests)
+}
+
+fn test_in(comp: RawComp) -> RawTest
+    ensures { test_part result ≡ bodiless (comp_part comp) }
+{
+    let RawComp {
+        tables,
+        conds,
+        deepest: _,
+        body: _body,
+    } = comp;
+    RawTest { tables, conds }
+}
