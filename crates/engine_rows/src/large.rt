@@ -76,7 +76,7 @@ fn conditions_on_one_source(rt: HostRuntime) -> Result<(), Fail> {
     let last = ask(alloc, &mut server, &schema, LAST_ALONE)?;
     assert!(&rt; rise(&last.rows, HALF, 0, 1));
     let around = ask(alloc, &mut server, &schema, AROUND_ALONE)?;
-    assert!(&rt; rise(&around.rows, HALF - 100, 100, 1));
+    assert!(&rt; rise(&around.rows, 99_900, 100, 1));
     Ok(())
 }
 
