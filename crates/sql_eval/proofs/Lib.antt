@@ -10,6 +10,7 @@ pub mod ColumnRows
 pub mod Evaluating
 pub mod Starting
 pub mod Meanings
+pub mod Scalars
 pub mod Fitting
 pub mod Places
 pub mod Resolving

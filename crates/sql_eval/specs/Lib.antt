@@ -1,7 +1,7 @@
 pub mod Scopes
 pub mod Lists
 pub mod Combinations
-pub mod Comparisons
+pub mod Scalars
 pub mod Conditions
 pub mod Chains
 pub mod Keys
