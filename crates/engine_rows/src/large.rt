@@ -25,6 +25,16 @@ const ALONE: &str =
 const LAST_ALONE: &str =
     r#"SELECT "x"."a" AS "a" FROM "t" AS "x", "t" AS "y", "e" AS "z" WHERE (("z"."a" < 2) AND ("x"."a" = "y"."a"))"#;
 
+// The same row of the other table, by OR, by NOT and by a sum.
+const LAST_BY_OR: &str =
+    r#"SELECT "x"."a" AS "a" FROM "t" AS "x", "t" AS "y", "e" AS "z" WHERE ((("z"."a" < 1) OR ("z"."a" < 2)) AND ("x"."a" = "y"."a"))"#;
+
+const LAST_BY_NOT: &str =
+    r#"SELECT "x"."a" AS "a" FROM "t" AS "x", "t" AS "y", "e" AS "z" WHERE ((NOT ("z"."a" > 1)) AND ("x"."a" = "y"."a"))"#;
+
+const LAST_BY_SUM: &str =
+    r#"SELECT "x"."a" AS "a" FROM "t" AS "x", "t" AS "y", "e" AS "z" WHERE ((("z"."a" + 1) < 3) AND ("x"."a" = "y"."a"))"#;
+
 // The rows whose number is not below 100, since the other table has rows.
 const AROUND_ALONE: &str =
     r#"SELECT "x"."a" AS "a" FROM "t" AS "x" WHERE (NOT EXISTS (SELECT 1 AS "o" FROM "e" AS "y" WHERE ("x"."a" < 100)))"#;
@@ -74,6 +84,12 @@ fn conditions_on_one_source(rt: HostRuntime) -> Result<(), Fail> {
     let mut server: Box<dyn SqlServer> = Box::new(alloc, FastServer::new(alloc))?;
     load_both(alloc, &mut server, every.as_slice(), even.as_slice())?;
     let last = ask(alloc, &mut server, &schema, LAST_ALONE)?;
+    assert!(&rt; rise(&last.rows, HALF, 0, 1));
+    let last = ask(alloc, &mut server, &schema, LAST_BY_OR)?;
+    assert!(&rt; rise(&last.rows, HALF, 0, 1));
+    let last = ask(alloc, &mut server, &schema, LAST_BY_NOT)?;
+    assert!(&rt; rise(&last.rows, HALF, 0, 1));
+    let last = ask(alloc, &mut server, &schema, LAST_BY_SUM)?;
     assert!(&rt; rise(&last.rows, HALF, 0, 1));
     let around = ask(alloc, &mut server, &schema, AROUND_ALONE)?;
     assert!(&rt; rise(&around.rows, 99_900, 100, 1));
