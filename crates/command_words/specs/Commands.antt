@@ -1,4 +1,4 @@
--- The words of a command, and the names of the inputs that they name.
+-- Commands: which words give them, and which inputs they name.
 use Rattle.std.specs.Prelude.{ℕ, Bool, true, false, List, [], ◌∷◌, codes, Option, Some, None, option_map, cond}
 use Rattle.std.specs.Str.{bytes_eq}
 use Rattle.generated_inputs.specs.Sizes.{size_of}

@@ -276,6 +276,7 @@ pub one_text : (tables : List Loaded) (term : PlacedTerm) (text other : List ℕ
 one_text tables term text other a b =
     a.is ∙ ap canonical_text (one_meaning (map filled_of tables) term a.value b.value a.means b.means) ∙ sym b.is
 
+-- and one summary
 pub one_summary : (tables : List Loaded) (term : PlacedTerm) (type : TypeTree) (text other : List ℕ) → IsSummed tables term type text → IsSummed tables term type other → text ≡ other
 one_summary tables term type text other a b =
     a.is ∙ ap (summary_of type) (one_meaning (map filled_of tables) term a.value b.value a.means b.means) ∙ sym b.is
