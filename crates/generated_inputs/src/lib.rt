@@ -10,6 +10,3 @@ pub use query::generated_query;
 pub use schema::generated_schema;
 pub use size::size_of;
 pub use tables::generated_tables;
-
-#[cfg(test)]
-mod tests;

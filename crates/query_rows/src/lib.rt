@@ -11,6 +11,8 @@ mod deep;
 #[cfg(test)]
 mod generated;
 #[cfg(test)]
+mod made_tables;
+#[cfg(test)]
 mod shown;
 #[cfg(test)]
 mod terms;

@@ -1,5 +1,5 @@
-// Small tables, worked out by hand.
-use crate::generated_tables;
+// The generated tables of small sizes, worked out by hand.
+use generated_inputs::generated_tables;
 use nq_model::{CellRef, Memory};
 use rows::Rows;
 use sql_profile::Loaded;
