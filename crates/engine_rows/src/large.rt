@@ -35,6 +35,14 @@ const LAST_BY_NOT: &str =
 const LAST_BY_SUM: &str =
     r#"SELECT "x"."a" AS "a" FROM "t" AS "x", "t" AS "y", "e" AS "z" WHERE ((("z"."a" + 1) < 3) AND ("x"."a" = "y"."a"))"#;
 
+// The one row of the other table that meets none of this one.
+const LAST_BY_QUERY: &str =
+    r#"SELECT "x"."a" AS "a" FROM "t" AS "x", "t" AS "y", "e" AS "z" WHERE ((NOT EXISTS (SELECT 1 AS "o" FROM "t" AS "u" WHERE ("u"."a" = "z"."a"))) AND ("x"."a" = "y"."a"))"#;
+
+// Every row, since the number of that row is below none.
+const INNER_BY_QUERY: &str =
+    r#"SELECT "x"."a" AS "a" FROM "t" AS "x" WHERE (NOT EXISTS (SELECT 1 AS "o" FROM "t" AS "y", "e" AS "z" WHERE ((("y"."a" = "x"."a") AND ("z"."a" < "y"."a")) AND (NOT EXISTS (SELECT 1 AS "o" FROM "t" AS "u" WHERE ("u"."a" = "z"."a"))))))"#;
+
 // The rows whose number is not below 100, since the other table has rows.
 const AROUND_ALONE: &str =
     r#"SELECT "x"."a" AS "a" FROM "t" AS "x" WHERE (NOT EXISTS (SELECT 1 AS "o" FROM "e" AS "y" WHERE ("x"."a" < 100)))"#;
@@ -80,7 +88,8 @@ fn joins_and_not_exists(rt: HostRuntime) -> Result<(), Fail> {
 fn conditions_on_one_source(rt: HostRuntime) -> Result<(), Fail> {
     let alloc = rt.alloc();
     let schema = schema(alloc)?;
-    let (every, even) = (pairs(alloc, HALF, 1)?, pairs(alloc, HALF, 2)?);
+    // the last number of the other table is the first that is none of this one
+    let (every, even) = (pairs(alloc, HALF, 1)?, pairs(alloc, HALF / 2 + 1, 2)?);
     let mut server: Box<dyn SqlServer> = Box::new(alloc, FastServer::new(alloc))?;
     load_both(alloc, &mut server, every.as_slice(), even.as_slice())?;
     let last = ask(alloc, &mut server, &schema, LAST_ALONE)?;
@@ -91,6 +100,10 @@ fn conditions_on_one_source(rt: HostRuntime) -> Result<(), Fail> {
     assert!(&rt; rise(&last.rows, HALF, 0, 1));
     let last = ask(alloc, &mut server, &schema, LAST_BY_SUM)?;
     assert!(&rt; rise(&last.rows, HALF, 0, 1));
+    let last = ask(alloc, &mut server, &schema, LAST_BY_QUERY)?;
+    assert!(&rt; rise(&last.rows, HALF, 0, 1));
+    let inner = ask(alloc, &mut server, &schema, INNER_BY_QUERY)?;
+    assert!(&rt; rise(&inner.rows, HALF, 0, 1));
     let around = ask(alloc, &mut server, &schema, AROUND_ALONE)?;
     assert!(&rt; rise(&around.rows, 99_900, 100, 1));
     Ok(())

@@ -22,5 +22,8 @@ pub mod Agreeing
 pub mod RulingOut
 pub mod Skipping
 pub mod Chaining
-pub mod Comparing
+pub mod Holding
+pub mod Sifting
+pub mod Sources
 pub mod Meeting
+pub mod Naming

@@ -2,6 +2,7 @@ pub mod Scopes
 pub mod Lists
 pub mod Combinations
 pub mod Scalars
+pub mod Sifting
 pub mod Conditions
 pub mod Chains
 pub mod Keys
@@ -13,3 +14,4 @@ pub mod Walking
 pub mod Dealing
 pub mod Columns
 pub mod Making
+pub mod Naming

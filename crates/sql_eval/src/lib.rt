@@ -4,6 +4,7 @@
 
 mod access;
 mod accesses;
+mod alone;
 mod answers;
 mod arrangement;
 mod chains;
@@ -16,11 +17,14 @@ mod kept;
 mod kept_places;
 mod key;
 mod lists;
+mod marks;
 mod operators;
+mod own_conditions;
 mod resolve;
 mod resolved;
 mod scalar;
 mod scope;
+mod sifted;
 mod steps;
 mod values;
 mod walk;
