@@ -80,8 +80,14 @@ fn put_bag(text: &mut String, marks: &Marks, times: u64) -> Result<(), Memory> {
     Ok(())
 }
 
-// `for (x <- [FIRST]) for (x <- BAG) .. BAG`, with 60 marks in each bag but the last, and so many in all.
-fn nested(alloc: Global, marks: &Marks, times: u64) -> Result<String, Memory> {
+// `for (x <- [FIRST]) for (x <- BAG) .. BAG`, with 60 marks in each bag but the last, and so many in all. The last bag
+// stands between the two sides of `around`.
+fn nested(
+    alloc: Global,
+    marks: &Marks,
+    times: u64,
+    around: (&str, &str),
+) -> Result<String, Memory> {
     let first = marks.first;
     let mut text = format!(in alloc; "for (x <- [{first}]) ")?;
     for _ in 0..times / 60 {
@@ -89,29 +95,48 @@ fn nested(alloc: Global, marks: &Marks, times: u64) -> Result<String, Memory> {
         put_bag(&mut text, marks, 60)?;
         text.push_str(") ")?;
     }
+    text.push_str(around.0)?;
     put_bag(&mut text, marks, times % 60)?;
+    text.push_str(around.1)?;
     Ok(text)
 }
 
 // Whether memory does not want.
-fn is_answered(alloc: Global, schema: &Schema, marks: &Marks, times: u64) -> Result<bool, Memory>
+fn is_answered(
+    alloc: Global,
+    schema: &Schema,
+    marks: &Marks,
+    times: u64,
+    around: (&str, &str),
+) -> Result<bool, Memory>
     requires { IsProperSchema schema.now }
 {
-    let text = nested(alloc, marks, times)?;
+    let text = nested(alloc, marks, times, around)?;
     let term = plain(alloc, schema, text.as_str())?;
     Ok(normalise(alloc, schema, &term).is_ok())
 }
+
+// The last bag as it is.
+const BARE: (&str, &str) = ("", "");
+
+// The last bag in a choice below an emptiness test.
+const TESTED: (&str, &str) = ("[empty(if true then ", " else [2])]");
 
 #[test]
 fn deeper_is_want_of_memory(rt: HostRuntime) -> Result<(), Memory> {
     let alloc = rt.alloc();
     let schema = org(alloc)?;
     // 60 nested `for`, each with 60 minuses.
-    assert!(&rt; !is_answered(alloc, &schema, &MARKS[0], 3600)?);
+    assert!(&rt; !is_answered(alloc, &schema, &MARKS[0], 3600, BARE)?);
     for marks in &MARKS {
         let most = marks.most;
-        assert!(&rt; is_answered(alloc, &schema, marks, most)?);
-        assert!(&rt; !is_answered(alloc, &schema, marks, most.saturating_add(1))?);
+        let more = most.saturating_add(1);
+        assert!(&rt; is_answered(alloc, &schema, marks, most, BARE)?);
+        assert!(&rt; !is_answered(alloc, &schema, marks, more, BARE)?);
     }
+    // Below an emptiness test elements are not built, in a choice neither.
+    let minuses = &MARKS[0];
+    let more = minuses.most.saturating_add(1);
+    assert!(&rt; is_answered(alloc, &schema, minuses, more, TESTED)?);
     Ok(())
 }

@@ -6,7 +6,7 @@ use nq_model::Memory;
 use std::process::Abort;
 
 // A query, and its normal form.
-const QUERIES: [(&str, &str); 18] = [
+const QUERIES: [(&str, &str); 19] = [
     // Three levels, the innermost by a function.
     (
         "let tasksOf = fun (e: text) ->
@@ -38,6 +38,18 @@ const QUERIES: [(&str, &str); 18] = [
            ++ (for (c <- table contacts) where (c.dept == d.name
              && empty(for (t <- table tasks) where (t.employee == c.name) [t])) [c.name])))]",
         "{(d: text, none: bool) | 1: x1 in departments -> (d = x1.name, none = empty(x2 in employees where (x2.dept == x1.name) | x3 in contacts where ((x3.dept == x1.name) && empty(x4 in tasks where (x4.employee == x3.name)))))}",
+    ),
+    // Choices of bags below an emptiness test: each branch is under its tests, the outer first, and each copy of a test
+    // has generators of its own.
+    (
+        "for (s <- for (d <- table departments)
+           [(n = d.name, es = for (e <- table employees) where (e.dept == d.name) [e.name])])
+         [empty(if s.n == 'Sales'
+           then (if empty(s.es)
+             then (for (t <- table tasks) where (t.employee == s.n) [t.task])
+             else s.es)
+           else (for (c <- table contacts) where (c.dept == s.n) [c.name]) ++ ['none'])]",
+        "{bool | 1: x1 in departments -> empty(x2 in tasks where (x1.name == 'Sales') and empty(x3 in employees where (x3.dept == x1.name)) and (x2.employee == x1.name) | x4 in employees where (x1.name == 'Sales') and !empty(x5 in employees where (x5.dept == x1.name)) and (x4.dept == x1.name) | x6 in contacts where !(x1.name == 'Sales') and (x6.dept == x1.name) | once where !(x1.name == 'Sales'))}",
     ),
     (
         "[empty(table tasks)]",

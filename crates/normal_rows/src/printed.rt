@@ -12,7 +12,7 @@ use std::alloc::Global;
 use std::process::Abort;
 
 // A query, and the text of its normal form.
-const PRINTED: [(&str, &str); 22] = [
+const PRINTED: [(&str, &str); 23] = [
     (
         "let tasksOf = fun (e: text) ->
            for (t <- table tasks) where (t.employee == e) [t.task];
@@ -51,6 +51,17 @@ const PRINTED: [(&str, &str); 22] = [
            ++ (for (c <- table contacts) where (c.dept == d.name
              && empty(for (t <- table tasks) where (t.employee == c.name) [t])) [c.name])))]",
         "for (x1 <- table departments) [(d = x1.name, none = empty((for (x2 <- table employees) where (x2.dept == x1.name) [()]) ++ (for (x3 <- table contacts) where (x3.dept == x1.name && empty(for (x4 <- table tasks) where (x4.employee == x3.name) [()])) [()])))]",
+    ),
+    // A choice of bags below an emptiness test is a union of what stands in its branches.
+    (
+        "for (s <- for (d <- table departments)
+           [(n = d.name, es = for (e <- table employees) where (e.dept == d.name) [e.name])])
+         [empty(if s.n == 'Sales'
+           then (if empty(s.es)
+             then (for (t <- table tasks) where (t.employee == s.n) [t.task])
+             else s.es)
+           else (for (c <- table contacts) where (c.dept == s.n) [c.name]) ++ ['none'])]",
+        "for (x1 <- table departments) [empty((for (x2 <- table tasks) where (x1.name == 'Sales' && empty(for (x3 <- table employees) where (x3.dept == x1.name) [()]) && x2.employee == x1.name) [()]) ++ (for (x4 <- table employees) where (x1.name == 'Sales' && !empty(for (x5 <- table employees) where (x5.dept == x1.name) [()]) && x4.dept == x1.name) [()]) ++ (for (x6 <- table contacts) where (!(x1.name == 'Sales') && x6.dept == x1.name) [()]) ++ (where (!(x1.name == 'Sales')) [()]))]",
     ),
     // `-` is joined from the left, and stands directly before what it negates.
     ("[- - 1]", "[--1]"),

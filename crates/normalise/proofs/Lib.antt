@@ -6,6 +6,7 @@ pub mod MovedBodies
 pub mod Scopes
 pub mod FieldFacts
 pub mod Choices
+pub mod BagTests
 pub mod Walks
 pub mod Whole
 pub mod NumberedBodies

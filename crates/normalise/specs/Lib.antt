@@ -2,3 +2,4 @@ pub mod Raw
 pub mod Numbers
 pub mod Scopes
 pub mod Choices
+pub mod BagTests

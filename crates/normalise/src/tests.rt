@@ -1,10 +1,12 @@
 // Comprehensions of emptiness tests, which have no bodies: one behind the other, and inside generators and conditions.
-ghost use Rattle.std.specs.Prelude.{◌≡◌, ◌++◌, ◌∷◌, [], IfOk, OnOk, map};
+ghost use Rattle.std.specs.Prelude.{◌≡◌, ◌++◌, ◌∷◌, [], IfOk, OnOk, map, option_map};
 ghost use Rattle.nq_ir.specs.RawForms.{no_raw, no_raw_test, raw_test, raw_tests_of};
-ghost use Rattle.normalise.specs.Raw.{append_tests, bodiless, comp_part, moved_base, raw_comps, raw_conds, raw_tests, test_inside, test_part, where_tests};
+ghost use Rattle.normalise.specs.Raw.{append_tests, bodiless, comp_part, moved_base, moved_body, raw_comps, raw_conds, raw_tests, test_inside, test_part, where_tests};
+ghost use Rattle.normalise.specs.BagTests.{bag_tests, choice_of_tests};
 
 use crate::comps::joined;
-use crate::raw::{MovedBase, RawComp, RawTest};
+use crate::moved::negation;
+use crate::raw::{MovedBase, MovedBody, RawBody, RawComp, RawTest};
 use crate::raw_copy::{all_under, copy_labels, shared_conds};
 use nq_model::{Label, List, Memory};
 use std::alloc::Global;
@@ -120,9 +122,44 @@ pub(crate) fn guarded_tests(
     Ok(all)
 }
 
-/// The comprehensions without their bodies.
+/// The choice between two: of two bags the comprehensions of `yes` under the test, and then those of `no` under its
+/// negation; otherwise it is `yes`.
 #[inline(never)]
-pub(crate) fn tests_of(alloc: Global, comps: List<RawComp>) -> Result<List<RawTest>, Memory>
+pub(crate) fn chosen_tests(
+    alloc: Global,
+    test: MovedBase,
+    yes: Option<List<RawTest>>,
+    no: Option<List<RawTest>>,
+) -> Result<Option<List<RawTest>>, Memory>
+    ensures { IfOk result (λ found. option_map raw_tests found ≡ choice_of_tests (moved_base test) (option_map raw_tests yes) (option_map raw_tests no)) }
+{
+    match yes {
+        Some(yes) => match no {
+            Some(no) => {
+                let yes = guarded_tests(alloc, test.shared()?, yes)?;
+                let negated = negation(alloc, test)?;
+                let no = guarded_tests(alloc, negated, no)?;
+                Ok(Some(append_tests(yes, no)?))
+            }
+            None => Ok(Some(yes)),
+        },
+        None => Ok(None),
+    }
+}
+
+/// The comprehensions of a body without their bodies, if it is a bag.
+#[tactic(auto, using(crate::proofs::Views::body_plain, crate::proofs::Views::body_rec, crate::proofs::Views::body_bag))]
+#[inline(never)]
+pub(crate) fn opened_tests(alloc: Global, body: MovedBody) -> Result<Option<List<RawTest>>, Memory>
+    ensures { IfOk result (λ found. option_map raw_tests found ≡ bag_tests (moved_body body)) }
+{
+    match body.opened(alloc)? {
+        RawBody::Bag(comps) => Ok(Some(tests_of(alloc, comps)?)),
+        RawBody::Plain(_) | RawBody::Rec(_) => Ok(None),
+    }
+}
+
+fn tests_of(alloc: Global, comps: List<RawComp>) -> Result<List<RawTest>, Memory>
     ensures { IfOk result (λ tests. raw_tests tests ≡ raw_tests_of (raw_comps comps)) }
 {
     each_test(alloc, comps)

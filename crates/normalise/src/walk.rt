@@ -1,9 +1,10 @@
 // The bodies of terms, and the tests of those of which only these are asked.
-ghost use Rattle.std.specs.Prelude.{◌≡◌, IfOk, map};
+ghost use Rattle.std.specs.Prelude.{◌≡◌, ◌∷◌, IfOk, length, map, option_map};
 ghost use Rattle.nq_model.specs.Terms.{term_tree, fields_view as terms_view};
-ghost use Rattle.nq_ir.specs.RawForms.{raw_base_in, raw_comps_in, raw_form, raw_tests_of};
+ghost use Rattle.nq_ir.specs.RawForms.{each_comp, raw_base_in, raw_comps_in, raw_form, raw_tests_of, up_body};
 ghost use Rattle.normalise.specs.Raw.{fields_view, moved_base, moved_body, raw_comps, raw_tests};
 ghost use Rattle.normalise.specs.Scopes.{bodies};
+ghost use Rattle.normalise.specs.BagTests.{bag_tests};
 
 use crate::choice::chosen;
 use crate::comps::{base_in, comps_in, put_inside};
@@ -15,7 +16,8 @@ use crate::raw::{MovedBase, MovedBody, RawBase, RawComp, RawTest};
 use crate::scope::Scope;
 use crate::table::table_body;
 use crate::tests::{
-    append_tests, guarded_tests, one_test, put_tests_inside, test_of_table, tests_of,
+    append_tests, chosen_tests, guarded_tests, one_test, opened_tests, put_tests_inside,
+    test_of_table,
 };
 use nq_model::{Label, List, Memory, Node, Schema, Term};
 use std::alloc::Global;
@@ -128,45 +130,84 @@ fn tests(
 ) -> Result<List<RawTest>, Memory>
     ensures { IfOk result (λ ts. raw_tests ts ≡ raw_tests_of (raw_comps_in (raw_form schema.now.tables (term_tree term.now) (bodies scope.now)))) }
 {
+    match bag_tests(alloc, schema, term, scope)? {
+        Some(tests) => Ok(tests),
+        None => Ok(List::new(alloc)),
+    }
+}
+
+/// The same; `None` where the term has another shape, as in no typed term, since a choice goes by the shapes of its
+/// branches.
+#[cycle(body)]
+fn bag_tests(
+    alloc: Global,
+    schema: &Schema,
+    term: &Term,
+    scope: &Scope,
+) -> Result<Option<List<RawTest>>, Memory>
+    ensures { IfOk result (λ found. option_map raw_tests found ≡ bag_tests (raw_form schema.now.tables (term_tree term.now) (bodies scope.now))) }
+{
     match &term.node {
-        Node::Table(name) => test_of_table(alloc, name),
-        Node::Single(_) => one_test(alloc, List::new(alloc)),
-        Node::Nil(_) => Ok(List::new(alloc)),
+        Node::Table(name) => Ok(Some(test_of_table(alloc, name)?)),
+        Node::Single(_) => Ok(Some(one_test(alloc, List::new(alloc))?)),
+        Node::Nil(_) => Ok(Some(List::new(alloc))),
         Node::Union { left, right } => {
             let left = tests(alloc, schema, left, scope)?;
             let right = tests(alloc, schema, right, scope)?;
-            append_tests(left, right)
+            Ok(Some(append_tests(left, right)?))
         }
         Node::For { source, body: rest } => {
             let source = comps(alloc, schema, source, scope)?;
-            let mut all = List::new(alloc);
-            for comp in source.into_vec() {
-                let RawComp {
-                    tables,
-                    conds,
-                    body: of,
-                    ..
-                } = comp;
-                let deeper = Scope::Under {
-                    count: tables.len() as u64,
-                    outer: scope,
-                };
-                let inner = Scope::Inner {
-                    body: &of,
-                    outer: &deeper,
-                };
-                let parts = tests(alloc, schema, rest, &inner)?;
-                put_tests_inside(alloc, &mut all, tables, conds, parts)?;
-            }
-            Ok(all)
+            Ok(Some(for_tests(alloc, schema, rest, source, scope)?))
         }
         Node::Guard { test, body: rest } => {
             let test = base(alloc, schema, test, scope)?;
             let rest = tests(alloc, schema, rest, scope)?;
-            guarded_tests(alloc, test, rest)
+            Ok(Some(guarded_tests(alloc, test, rest)?))
         }
-        _ => tests_of(alloc, comps(alloc, schema, term, scope)?),
+        Node::If { test, yes, no } => {
+            let test = base(alloc, schema, test, scope)?;
+            let yes = bag_tests(alloc, schema, yes, scope)?;
+            let no = bag_tests(alloc, schema, no, scope)?;
+            chosen_tests(alloc, test, yes, no)
+        }
+        Node::Var(_) | Node::Field { .. } => opened_tests(alloc, body(alloc, schema, term, scope)?),
+        // base terms and records are no bags, and functions and `let` stand in no plain term
+        _ => Ok(None),
     }
+}
+
+/// For each comprehension of the source of a `for`, those of `rest` inside it, without their bodies.
+#[cycle(body)]
+fn for_tests(
+    alloc: Global,
+    schema: &Schema,
+    rest: &Term,
+    source: List<RawComp>,
+    scope: &Scope,
+) -> Result<List<RawTest>, Memory>
+    ensures { IfOk result (λ ts. raw_tests ts ≡ raw_tests_of (each_comp (raw_comps source) (λ gs e. raw_comps_in (raw_form schema.now.tables (term_tree rest.now) (e ∷ map (up_body (length gs) 0) (bodies scope.now)))))) }
+{
+    let mut all = List::new(alloc);
+    for comp in source.into_vec() {
+        let RawComp {
+            tables,
+            conds,
+            body: of,
+            ..
+        } = comp;
+        let deeper = Scope::Under {
+            count: tables.len() as u64,
+            outer: &*scope,
+        };
+        let inner = Scope::Inner {
+            body: &of,
+            outer: &deeper,
+        };
+        let parts = tests(alloc, schema, rest, &inner)?;
+        put_tests_inside(alloc, &mut all, tables, conds, parts)?;
+    }
+    Ok(all)
 }
 
 #[cycle(body)]

@@ -9,9 +9,9 @@ abbrev pub invariant-body-loop-comp : goal.invariant-body-loop-comp
 invariant-body-loop-comp l =
     raw_comps l.all ≡ each_comp (raw_comps l.yielded) (λ gs e. raw_comps_in (raw_form l.schema.tables (term_tree l.rest.value) (e ∷ map (up_body (length gs) 0) (bodies l.scope))))
 
-abbrev pub invariant-tests-loop-comp : goal.invariant-tests-loop-comp
-invariant-tests-loop-comp l =
-    raw_tests l.all ≡ raw_tests_of (each_comp (raw_comps l.yielded) (λ gs e. raw_comps_in (raw_form l.schema.tables (term_tree l.rest.value) (e ∷ map (up_body (length gs) 0) (bodies l.scope)))))
+abbrev pub invariant-for_tests-loop-comp : goal.invariant-for_tests-loop-comp
+invariant-for_tests-loop-comp l =
+    raw_tests l.all ≡ raw_tests_of (each_comp (raw_comps l.yielded) (λ gs e. raw_comps_in (raw_form l.schema.tables (term_tree l.rest) (e ∷ map (up_body (length gs) 0) (bodies l.scope)))))
 
 abbrev pub invariant-fields_of-loop-field : goal.invariant-fields_of-loop-field
 invariant-fields_of-loop-field l =
