@@ -1,10 +1,7 @@
 // Whole runs over generated tables.
-use crate::runs::{Wanted, check_run_over};
-use fast_engine::FastServer;
+use crate::runs::{Engine, Wanted, check_run};
 use nq_edge::HeldInputs;
 use nq_model::List;
-use plain_engine::CrookedServer;
-use sql_profile::SqlServer;
 use std::alloc::Global;
 use std::process::Abort;
 use std::test::Fail;
@@ -76,29 +73,22 @@ const OTHERS: [Wanted; 6] = [
     },
 ];
 
-// Runs over a server that joins by hash tables. There are no inputs, since none is fetched.
-fn check_fast(rt: &impl Abort, alloc: Global, wanted: &Wanted) -> Result<(), Fail> {
-    let server: Box<dyn SqlServer> = Box::new(alloc, FastServer::new(alloc))?;
+// Runs without inputs, since none is fetched.
+fn check(rt: &impl Abort, alloc: Global, engine: Engine, wanted: &Wanted) -> Result<(), Fail> {
     let inputs = HeldInputs::new(alloc, List::new(alloc), List::new(alloc))?;
-    check_run_over(rt, alloc, server, inputs, wanted)
-}
-
-fn check_crooked(rt: &impl Abort, alloc: Global, wanted: &Wanted) -> Result<(), Fail> {
-    let server: Box<dyn SqlServer> = Box::new(alloc, CrookedServer::new(alloc))?;
-    let inputs = HeldInputs::new(alloc, List::new(alloc), List::new(alloc))?;
-    check_run_over(rt, alloc, server, inputs, wanted)
+    check_run(rt, alloc, engine, inputs, wanted)
 }
 
 #[test]
 fn sums_generated_tables_up(rt: HostRuntime) -> Result<(), Fail> {
     let alloc = rt.alloc();
     for wanted in &SMALL {
-        check_fast(&rt, alloc, wanted)?;
-        check_crooked(&rt, alloc, wanted)?;
+        check(&rt, alloc, Engine::Fast, wanted)?;
+        check(&rt, alloc, Engine::Crooked, wanted)?;
     }
-    check_fast(&rt, alloc, &GREATEST)?;
+    check(&rt, alloc, Engine::Fast, &GREATEST)?;
     for wanted in &OTHERS {
-        check_fast(&rt, alloc, wanted)?;
+        check(&rt, alloc, Engine::Fast, wanted)?;
     }
     Ok(())
 }

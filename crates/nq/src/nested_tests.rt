@@ -1,10 +1,6 @@
 // Whole runs of nested queries, over each server.
-use crate::runs::{Wanted, check_run, check_run_over, padded};
-use fast_engine::FastServer;
+use crate::runs::{self, Engine, Wanted, check_run};
 use nq_edge::HeldInputs;
-use nq_model::{List, Text};
-use plain_engine::CrookedServer;
-use sql_profile::SqlServer;
 use std::alloc::Global;
 use std::process::Abort;
 use std::test::Fail;
@@ -158,20 +154,15 @@ pub fn inputs_of(alloc: Global, nested: &Nested) -> Result<HeldInputs, Fail> {
 
 /// The inputs of a query, of which the fetches with these numbers fail.
 pub fn inputs_failing(alloc: Global, nested: &Nested, failing: &[u64]) -> Result<HeldInputs, Fail> {
-    let mut files = List::new(alloc);
-    files.push((Text::from_str(alloc, "org")?, padded(alloc, 0, ORG)?))?;
-    let query = padded(alloc, 0, nested.query)?;
-    files.push((Text::from_str(alloc, "q")?, query))?;
-    let departments = padded(alloc, 0, nested.departments)?;
-    files.push((Text::from_str(alloc, "data/departments.csv")?, departments))?;
-    let employees = padded(alloc, 0, nested.employees)?;
-    files.push((Text::from_str(alloc, "data/employees.csv")?, employees))?;
-    let tasks = padded(alloc, 0, nested.tasks)?;
-    files.push((Text::from_str(alloc, "data/tasks.csv")?, tasks))?;
-    let contacts = padded(alloc, 0, CONTACTS)?;
-    files.push((Text::from_str(alloc, "data/contacts.csv")?, contacts))?;
-    let failing = List::from_slice(alloc, failing)?;
-    Ok(HeldInputs::new(alloc, files, failing)?)
+    let texts: [(&str, &[u8]); 6] = [
+        ("org", ORG.as_bytes()),
+        ("q", nested.query.as_bytes()),
+        ("data/departments.csv", nested.departments.as_bytes()),
+        ("data/employees.csv", nested.employees.as_bytes()),
+        ("data/tasks.csv", nested.tasks.as_bytes()),
+        ("data/contacts.csv", CONTACTS.as_bytes()),
+    ];
+    runs::inputs_of(alloc, &texts, failing)
 }
 
 // What is wanted of a run of it.
@@ -185,43 +176,30 @@ fn wanted(nested: &Nested) -> Wanted {
     }
 }
 
-#[test]
-fn writes_what_each_query_means(rt: HostRuntime) -> Result<(), Fail> {
-    let alloc = rt.alloc();
+fn check_each(rt: &impl Abort, alloc: Global, engine: Engine) -> Result<(), Fail> {
     for nested in &NESTED {
-        check_run(&rt, alloc, inputs_of(alloc, nested)?, &wanted(nested))?;
+        check_run(
+            rt,
+            alloc,
+            engine,
+            inputs_of(alloc, nested)?,
+            &wanted(nested),
+        )?;
     }
     Ok(())
+}
+
+#[test]
+fn writes_what_each_query_means(rt: HostRuntime) -> Result<(), Fail> {
+    check_each(&rt, rt.alloc(), Engine::Plain)
 }
 
 #[test]
 fn writes_the_same_where_ties_and_rows_come_in_reverse(rt: HostRuntime) -> Result<(), Fail> {
-    let alloc = rt.alloc();
-    for nested in &NESTED {
-        let server: Box<dyn SqlServer> = Box::new(alloc, CrookedServer::new(alloc))?;
-        check_run_over(
-            &rt,
-            alloc,
-            server,
-            inputs_of(alloc, nested)?,
-            &wanted(nested),
-        )?;
-    }
-    Ok(())
+    check_each(&rt, rt.alloc(), Engine::Crooked)
 }
 
 #[test]
 fn writes_the_same_where_sources_are_joined_by_hash_tables(rt: HostRuntime) -> Result<(), Fail> {
-    let alloc = rt.alloc();
-    for nested in &NESTED {
-        let server: Box<dyn SqlServer> = Box::new(alloc, FastServer::new(alloc))?;
-        check_run_over(
-            &rt,
-            alloc,
-            server,
-            inputs_of(alloc, nested)?,
-            &wanted(nested),
-        )?;
-    }
-    Ok(())
+    check_each(&rt, rt.alloc(), Engine::Fast)
 }

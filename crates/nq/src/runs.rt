@@ -1,10 +1,11 @@
 // Whole runs over inputs and outputs in memory, and what is wanted of them.
-ghost use Rattle.std.specs.Prelude.{◌≡◌, []};
+ghost use Rattle.std.specs.Prelude.{◌≡◌, [], IfOk};
 
+use fast_engine::FastServer;
 use nq_edge::{HeldInputs, HeldSink};
-use nq_model::List;
+use nq_model::{List, Text};
 use nq_top::{nq_lent, nq_main};
-use plain_engine::PlainServer;
+use plain_engine::{CrookedServer, PlainServer};
 use sql_profile::SqlServer;
 use std::alloc::Global;
 use std::process::Abort;
@@ -32,6 +33,20 @@ pub fn padded(alloc: Global, blanks: usize, text: &str) -> Result<List<u8>, Fail
     Ok(bytes)
 }
 
+/// Inputs that are these texts under these names, of which the fetches with these numbers fail.
+pub fn inputs_of(
+    alloc: Global,
+    texts: &[(&str, &[u8])],
+    failing: &[u64],
+) -> Result<HeldInputs, Fail> {
+    let mut files = List::new(alloc);
+    for (name, text) in texts {
+        files.push((Text::from_str(alloc, name)?, List::from_slice(alloc, text)?))?;
+    }
+    let failing = List::from_slice(alloc, failing)?;
+    Ok(HeldInputs::new(alloc, files, failing)?)
+}
+
 // The words of a run.
 fn words_of(alloc: Global, listed: &[&str]) -> Result<Vec<String>, Fail> {
     let mut words = Vec::new(alloc);
@@ -41,59 +56,25 @@ fn words_of(alloc: Global, listed: &[&str]) -> Result<Vec<String>, Fail> {
     Ok(words)
 }
 
-// Compares what came of a run with what is wanted.
-fn compare(rt: &impl Abort, status: u8, out: &HeldSink, notes: &HeldSink, wanted: &Wanted) {
-    assert_eq!(rt; status, wanted.status, "{} {}", wanted.out, wanted.note);
-    assert_eq!(rt; out.bytes(), wanted.out.as_bytes());
-    assert_eq!(rt; notes.bytes(), wanted.note.as_bytes());
+// What came of a run.
+#[derive(Drop)]
+struct Ran {
+    status: u8,
+    out: HeldSink,
+    notes: HeldSink,
 }
 
-/// Runs the program over these inputs and the plain server.
-pub fn check_run(
-    rt: &impl Abort,
-    alloc: Global,
-    inputs: HeldInputs,
-    wanted: &Wanted,
-) -> Result<(), Fail> {
-    let server: Box<dyn SqlServer> = Box::new(alloc, PlainServer::new(alloc))?;
-    check_run_over(rt, alloc, server, inputs, wanted)
-}
-
-/// Runs the program over these inputs and a server that holds no table.
-pub fn check_run_over(
-    rt: &impl Abort,
+// Runs the program over these inputs and a server that holds no table.
+fn run_over(
     alloc: Global,
     server: Box<dyn SqlServer>,
     mut inputs: HeldInputs,
-    wanted: &Wanted,
-) -> Result<(), Fail>
-    requires { loaded server ≡ [] }
-{
-    let words = words_of(alloc, wanted.words)?;
-    let mut out = HeldSink::new(alloc, wanted.room)?;
-    let mut notes = HeldSink::new(alloc, 200)?;
-    let status = nq_main(
-        alloc,
-        words.as_slice(),
-        &mut inputs,
-        &mut out,
-        &mut notes,
-        server,
-    );
-    compare(rt, status, &out, &notes, wanted);
-    Ok(())
-}
-
-/// What the program writes over these inputs and the plain server. It ends with status 0 and writes no note.
-pub fn written(
-    rt: &impl Abort,
-    alloc: Global,
-    mut inputs: HeldInputs,
     words: &[&str],
     room: u64,
-) -> Result<HeldSink, Fail> {
+) -> Result<Ran, Fail>
+    requires { loaded server ≡ [] }
+{
     let words = words_of(alloc, words)?;
-    let server: Box<dyn SqlServer> = Box::new(alloc, PlainServer::new(alloc))?;
     let mut out = HeldSink::new(alloc, room)?;
     let mut notes = HeldSink::new(alloc, 200)?;
     let status = nq_main(
@@ -104,6 +85,72 @@ pub fn written(
         &mut notes,
         server,
     );
+    Ok(Ran { status, out, notes })
+}
+
+// Compares what came of a run with what is wanted.
+fn compare(rt: &impl Abort, ran: &Ran, wanted: &Wanted) {
+    assert_eq!(rt; ran.status, wanted.status, "{} {}", wanted.out, wanted.note);
+    assert_eq!(rt; ran.out.bytes(), wanted.out.as_bytes());
+    assert_eq!(rt; ran.notes.bytes(), wanted.note.as_bytes());
+}
+
+/// The servers that a run may ask.
+#[derive(Clone, Copy)]
+pub enum Engine {
+    Plain,
+    Crooked,
+    Fast,
+}
+
+/// A server that holds no table.
+pub fn server_of(alloc: Global, engine: Engine) -> Result<Box<dyn SqlServer>, Fail>
+    ensures { IfOk result (λ server. loaded server ≡ []) }
+{
+    let server: Box<dyn SqlServer> = match engine {
+        Engine::Plain => Box::new(alloc, PlainServer::new(alloc))?,
+        Engine::Crooked => Box::new(alloc, CrookedServer::new(alloc))?,
+        Engine::Fast => Box::new(alloc, FastServer::new(alloc))?,
+    };
+    Ok(server)
+}
+
+/// Runs the program over these inputs and a server of its own.
+pub fn check_run(
+    rt: &impl Abort,
+    alloc: Global,
+    engine: Engine,
+    inputs: HeldInputs,
+    wanted: &Wanted,
+) -> Result<(), Fail> {
+    check_run_over(rt, alloc, server_of(alloc, engine)?, inputs, wanted)
+}
+
+/// Runs the program over these inputs and a server that holds no table.
+pub fn check_run_over(
+    rt: &impl Abort,
+    alloc: Global,
+    server: Box<dyn SqlServer>,
+    inputs: HeldInputs,
+    wanted: &Wanted,
+) -> Result<(), Fail>
+    requires { loaded server ≡ [] }
+{
+    let ran = run_over(alloc, server, inputs, wanted.words, wanted.room)?;
+    compare(rt, &ran, wanted);
+    Ok(())
+}
+
+/// What the program writes over these inputs and the plain server. It ends with status 0 and writes no note.
+pub fn written(
+    rt: &impl Abort,
+    alloc: Global,
+    inputs: HeldInputs,
+    words: &[&str],
+    room: u64,
+) -> Result<HeldSink, Fail> {
+    let server = server_of(alloc, Engine::Plain)?;
+    let Ran { status, out, notes } = run_over(alloc, server, inputs, words, room)?;
     assert_eq!(rt; status, 0);
     assert_eq!(rt; notes.bytes().len(), 0);
     Ok(out)
@@ -130,6 +177,6 @@ pub fn check_run_lent(
         &mut notes,
         server,
     );
-    compare(rt, status, &out, &notes, wanted);
+    compare(rt, &Ran { status, out, notes }, wanted);
     Ok(())
 }

@@ -2,7 +2,7 @@
 ghost use Rattle.std.specs.Prelude.{◌≡◌, [], IfOk};
 
 use crate::nested_tests::{Nested, TWICE, WHOLE, inputs_failing, inputs_of};
-use crate::runs::{Wanted, check_run, check_run_lent, check_run_over};
+use crate::runs::{Engine, Wanted, check_run, check_run_lent, check_run_over};
 use nq_model::{Cell, List, Text};
 use plain_engine::{FailingServer, ScriptedServer};
 use rows::Rows;
@@ -68,7 +68,7 @@ fn names_the_input_that_failed(rt: HostRuntime) -> Result<(), Fail> {
             ..FAILED
         };
         let inputs = inputs_failing(alloc, &WHOLE, &[*number])?;
-        check_run(&rt, alloc, inputs, &wanted)?;
+        check_run(&rt, alloc, Engine::Plain, inputs, &wanted)?;
     }
     Ok(())
 }
