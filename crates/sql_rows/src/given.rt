@@ -5,6 +5,7 @@ use crate::told::{line, listed};
 use nq_model::{Cell, List, Memory};
 use sql_eval::{Arrangement, Joining, evaluate};
 use sql_plain::{Ties, evaluate_text};
+use sql_profile::{Loaded, SqlText};
 use std::alloc::Global;
 use std::process::Abort;
 
@@ -249,39 +250,53 @@ fn shown(alloc: Global, rows: &[List<Cell>]) -> Result<String, Memory> {
     Ok(text)
 }
 
-#[test]
-fn gives(rt: HostRuntime) -> Result<(), Memory> {
-    let alloc = rt.alloc();
-    let held = organisation(alloc)?;
-    for row in &ROWS {
-        let text = text_of(alloc, row.with.as_ref(), row.main)?;
-        for (ties, want) in [Ties::AsTheyArise, Ties::Reversed]
-            .iter()
-            .zip(row.rows.iter())
-        {
-            let rows = evaluate_text(alloc, held.as_slice(), &text, *ties)?;
-            assert_eq!(&rt; shown(alloc, rows.as_slice())?.as_str(), *want);
+// Compares the rows with those of the plain evaluator, for each way to number ties.
+fn check_plain(
+    rt: &impl Abort,
+    alloc: Global,
+    held: &[Loaded],
+    text: &SqlText,
+    row: &Row,
+) -> Result<(), Memory> {
+    for (ties, want) in [Ties::AsTheyArise, Ties::Reversed]
+        .iter()
+        .zip(row.rows.iter())
+    {
+        let rows = evaluate_text(alloc, held, text, *ties)?;
+        assert_eq!(rt; shown(alloc, rows.as_slice())?.as_str(), *want);
+    }
+    Ok(())
+}
+
+// Compares the rows with those of the evaluator, for each arrangement and each way to join.
+fn check_evaluator(
+    rt: &impl Abort,
+    alloc: Global,
+    held: &[Loaded],
+    text: &SqlText,
+    row: &Row,
+) -> Result<(), Memory> {
+    for (arrangement, want) in [Arrangement::AsTheyArise, Arrangement::Reversed]
+        .iter()
+        .zip([row.rows[0], row.rows[2]].iter())
+    {
+        for joining in &[Joining::NestedLoops, Joining::HashTables] {
+            let rows = evaluate(alloc, held, text, *joining, *arrangement)?;
+            let list = listed(alloc, &rows)?;
+            assert_eq!(rt; shown(alloc, list.as_slice())?.as_str(), *want);
         }
     }
     Ok(())
 }
 
 #[test]
-fn is_evaluated(rt: HostRuntime) -> Result<(), Memory> {
+fn gives(rt: HostRuntime) -> Result<(), Memory> {
     let alloc = rt.alloc();
     let held = organisation(alloc)?;
     for row in &ROWS {
         let text = text_of(alloc, row.with.as_ref(), row.main)?;
-        for (arrangement, want) in [Arrangement::AsTheyArise, Arrangement::Reversed]
-            .iter()
-            .zip([row.rows[0], row.rows[2]].iter())
-        {
-            for joining in &[Joining::NestedLoops, Joining::HashTables] {
-                let rows = evaluate(alloc, held.as_slice(), &text, *joining, *arrangement)?;
-                let list = listed(alloc, &rows)?;
-                assert_eq!(&rt; shown(alloc, list.as_slice())?.as_str(), *want);
-            }
-        }
+        check_plain(&rt, alloc, held.as_slice(), &text, row)?;
+        check_evaluator(&rt, alloc, held.as_slice(), &text, row)?;
     }
     Ok(())
 }
