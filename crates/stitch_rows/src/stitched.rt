@@ -6,6 +6,7 @@ use nq_model::{CellRef, List, Memory, Ty, Value, boxed};
 use rows::Rows;
 use sql_profile::Answer;
 use std::alloc::Global;
+use std::process::Abort;
 use std::test::Fail;
 use stitch_plain::{are_answers, stitch_by_search};
 use stitcher::{FlatNumbers, stitch};
@@ -286,28 +287,23 @@ fn text_in_order(alloc: Global, value: &Option<Value>) -> Result<List<u8>, Memor
     }
 }
 
-#[test]
-fn gives_the_nested_value(rt: HostRuntime) -> Result<(), Fail> {
-    let alloc = rt.alloc();
-    for case in &CASES {
-        let of = Ty::Bag(boxed(alloc, type_of(alloc, case.element)?)?);
-        let answers = answers_of(alloc, case.answers)?;
-        let text = text_of(alloc, stitched(alloc, &of, &answers)?)?;
-        assert!(rt; text.as_slice() == case.text.as_bytes());
-    }
+// Compares the value with the text, and its lists with those of the plain program.
+fn check(rt: &impl Abort, alloc: Global, case: &Case) -> Result<(), Memory> {
+    let of = Ty::Bag(boxed(alloc, type_of(alloc, case.element)?)?);
+    let answers = answers_of(alloc, case.answers)?;
+    let value = stitched(alloc, &of, &answers)?;
+    let by_groups = text_in_order(alloc, &value)?;
+    let by_search = text_in_order(alloc, &searched(alloc, &of, &answers)?)?;
+    assert!(rt; by_groups.as_slice() == by_search.as_slice());
+    let text = text_of(alloc, value)?;
+    assert!(rt; text.as_slice() == case.text.as_bytes());
     Ok(())
 }
 
 #[test]
-fn gives_the_list_of_the_plain_program(rt: HostRuntime) -> Result<(), Fail> {
-    let alloc = rt.alloc();
+fn gives_the_nested_value(rt: HostRuntime) -> Result<(), Memory> {
     for case in &CASES {
-        let of = Ty::Bag(boxed(alloc, type_of(alloc, case.element)?)?);
-        let answers = answers_of(alloc, case.answers)?;
-        let by_groups = text_in_order(alloc, &stitched(alloc, &of, &answers)?)?;
-        let by_search = text_in_order(alloc, &searched(alloc, &of, &answers)?)?;
-        assert!(rt; by_search.len() == case.text.len());
-        assert!(rt; by_groups.as_slice() == by_search.as_slice());
+        check(&rt, rt.alloc(), case)?;
     }
     Ok(())
 }
