@@ -46,7 +46,13 @@ Steps (Ok (Some s)) o = o ≡ Some (state_view s)
 Steps (Ok None) o = o ≡ None
 Steps (Err e) o = ⊤
 
+-- the same of the position behind the token, inside these forms
+abbrev pub Leads : Result (Option Position) Memory → List Frame → Option State → Type 0
+Leads (Ok (Some at)) k o = o ≡ Some (position_view at k)
+Leads (Ok None) k o = o ≡ None
+Leads (Err e) k o = ⊤
+
 -- the same of a step that takes no memory
-abbrev pub Stays : Option CodeState → Option State → Type 0
-Stays (Some s) o = o ≡ Some (state_view s)
-Stays None o = o ≡ None
+abbrev pub Stands : Option Position → List Frame → Option State → Type 0
+Stands (Some at) k o = o ≡ Some (position_view at k)
+Stands None k o = o ≡ None

@@ -5,15 +5,15 @@ ghost use Rattle.nq_model.specs.QueryTokens.{Closing, Colon, Sign};
 ghost use Rattle.nq_parser.specs.Machine.{asks, asks_of, begin_word, start, start_prefix, start_word};
 ghost use Rattle.nq_parser.specs.Stacks.{frames};
 ghost use Rattle.nq_parser.specs.Forms.{form_view};
-ghost use Rattle.nq_parser.specs.States.{position_view, Stays, Steps};
+ghost use Rattle.nq_parser.specs.States.{position_view, Leads, Stands};
 ghost use Rattle.query_syntax.specs.Symbols.{token_view};
 ghost use Rattle.nq_parser.specs.Words.{kind_view};
 
 use crate::form::{Around, Form};
-use crate::leaf::leaf;
+use crate::have::have;
 use crate::levels::level;
 use crate::stack::Stack;
-use crate::state::{Position, State, TypeState};
+use crate::state::{Position, TypeState};
 use crate::type_stack::TypeStack;
 use crate::wants::wants;
 use crate::words::{WordKind, kind_of};
@@ -22,15 +22,15 @@ use query_syntax::{Operator, Symbol, Syntax, Token, Variable};
 use std::alloc::Global;
 
 /// A token where an expression begins.
-pub fn start(alloc: Global, stack: Stack, token: Token<'_>) -> Result<Option<State>, Memory>
-    ensures { Steps result (start First (frames stack.levels) (token_view token.entry)) }
+pub fn start(alloc: Global, stack: &mut Stack, token: Token<'_>) -> Result<Option<Position>, Memory>
+    ensures { Leads result (frames stack.new.levels) (start First (frames stack.old.levels) (token_view token.entry)) }
 {
     let place = token.place;
     match token.symbol {
-        Symbol::Number(number) => leaf(alloc, stack, Syntax::Number { place, number }),
+        Symbol::Number(number) => have(alloc, Syntax::Number { place, number }, 1, 0),
         Symbol::Literal(spelled) => {
             let spelled = Text::from_str(alloc, spelled)?;
-            leaf(alloc, stack, Syntax::Literal { place, spelled })
+            have(alloc, Syntax::Literal { place, spelled }, 1, 0)
         }
         Symbol::Word(word) => start_word(alloc, stack, place, word),
         Symbol::Operator(Operator::Of(Binary::Sub)) => start_prefix(stack, place, Unary::Minus),
@@ -67,40 +67,37 @@ pub fn start(alloc: Global, stack: Stack, token: Token<'_>) -> Result<Option<Sta
 
 // `(` and `)` are the record with no fields.
 #[tactic(auto, using(crate::proofs::Stepping::no_paren_closing))]
-fn no_fields(alloc: Global, stack: Stack, closing: u64) -> Result<Option<State>, Memory>
-    ensures { Steps result (start First (frames stack.levels) (Sign closing Closing)) }
+fn no_fields(alloc: Global, stack: &mut Stack, closing: u64) -> Result<Option<Position>, Memory>
+    ensures { Leads result (frames stack.new.levels) (start First (frames stack.old.levels) (Sign closing Closing)) }
 {
-    let mut stack = stack;
     match stack.take_paren() {
-        Some(opening) => leaf(alloc, stack, Syntax::NoFields { opening, closing }),
+        Some(opening) => have(alloc, Syntax::NoFields { opening, closing }, 1, 0),
         None => Ok(None),
     }
 }
 
 // `[` and `:` begin an empty bag.
 #[tactic(auto, using(crate::proofs::Stepping::no_bag_colon))]
-fn nil_type(alloc: Global, stack: Stack, colon: u64) -> Result<Option<State>, Memory>
-    ensures { Steps result (start First (frames stack.levels) (Sign colon Colon)) }
+fn nil_type(alloc: Global, stack: &mut Stack, colon: u64) -> Result<Option<Position>, Memory>
+    ensures { Leads result (frames stack.new.levels) (start First (frames stack.old.levels) (Sign colon Colon)) }
 {
-    let mut stack = stack;
     match stack.take_bag() {
         Some(opening) => {
             let ty = TypeState {
                 forms: TypeStack::new(alloc),
                 around: Around::Nil { opening, colon },
             };
-            let at = Position::WantType { ty };
-            Ok(Some(State { stack, at }))
+            Ok(Some(Position::WantType { ty }))
         }
         None => Ok(None),
     }
 }
 
 // `-` or `!`, where one may begin an expression.
-fn start_prefix(stack: Stack, place: u64, op: Unary) -> Result<Option<State>, Memory>
-    ensures { Steps result (start_prefix (frames stack.levels) place op) }
+fn start_prefix(stack: &mut Stack, place: u64, op: Unary) -> Result<Option<Position>, Memory>
+    ensures { Leads result (frames stack.new.levels) (start_prefix (frames stack.old.levels) place op) }
 {
-    if asks(&stack) <= 8 {
+    if asks(stack) <= 8 {
         wants(stack, Form::Prefix { place, op })
     } else {
         Ok(None)
@@ -109,16 +106,19 @@ fn start_prefix(stack: Stack, place: u64, op: Unary) -> Result<Option<State>, Me
 
 // A word where an expression begins; behind `(` it may be a label.
 #[tactic(auto, using(crate::proofs::Stepping::no_paren_word))]
-fn start_word(alloc: Global, stack: Stack, place: u64, word: &str) -> Result<Option<State>, Memory>
-    ensures { Steps result (start_word First (frames stack.levels) place word.now) }
+fn start_word(
+    alloc: Global,
+    stack: &mut Stack,
+    place: u64,
+    word: &str,
+) -> Result<Option<Position>, Memory>
+    ensures { Leads result (frames stack.new.levels) (start_word First (frames stack.old.levels) place word.now) }
 {
-    let mut stack = stack;
     match stack.take_paren() {
         Some(opening) => {
             let name = Label::from_str(alloc, word)?;
             let word = Variable { place, name };
-            let at = Position::AtWord { opening, word };
-            Ok(Some(State { stack, at }))
+            Ok(Some(Position::AtWord { opening, word }))
         }
         None => begin_word(alloc, stack, kind_of(word), place, word),
     }
@@ -127,30 +127,24 @@ fn start_word(alloc: Global, stack: Stack, place: u64, word: &str) -> Result<Opt
 // A word of this kind where an expression begins.
 fn begin_word(
     alloc: Global,
-    stack: Stack,
+    stack: &mut Stack,
     kind: WordKind,
     place: u64,
     word: &str,
-) -> Result<Option<State>, Memory>
-    ensures { Steps result (begin_word (kind_view kind) (frames stack.levels) place word.now) }
+) -> Result<Option<Position>, Memory>
+    ensures { Leads result (frames stack.new.levels) (begin_word (kind_view kind) (frames stack.old.levels) place word.now) }
 {
     match kind {
         WordKind::Name => {
             let name = Label::from_str(alloc, word)?;
-            leaf(alloc, stack, Syntax::Var { place, name })
+            have(alloc, Syntax::Var { place, name }, 1, 0)
         }
-        WordKind::Truth(truth) => leaf(alloc, stack, Syntax::Truth { place, truth }),
-        WordKind::Table => Ok(Some(State {
-            stack,
-            at: Position::AtTable { place },
-        })),
-        WordKind::Empty => Ok(Some(State {
-            stack,
-            at: Position::AtEmpty { place },
-        })),
+        WordKind::Truth(truth) => have(alloc, Syntax::Truth { place, truth }, 1, 0),
+        WordKind::Table => Ok(Some(Position::AtTable { place })),
+        WordKind::Empty => Ok(Some(Position::AtEmpty { place })),
+        WordKind::If => begin_if(stack, place),
         WordKind::For => Ok(begin_form(stack, 1, Position::AtFor { place })),
         WordKind::Where => Ok(begin_form(stack, 1, Position::AtWhere { place })),
-        WordKind::If => begin_if(stack, place),
         WordKind::Fun => Ok(begin_form(stack, 1, Position::AtFun { place })),
         WordKind::Let => Ok(begin_form(stack, 0, Position::AtLet { place })),
         WordKind::Then | WordKind::Else | WordKind::Base(_) => Ok(None),
@@ -158,20 +152,17 @@ fn begin_word(
 }
 
 // A form of this level begins, where no higher one is asked for.
-fn begin_form(stack: Stack, level: u64, at: Position) -> Option<State>
-    ensures { Stays result (cond (leb (asks (frames stack.levels)) level) (Some (position_view at (frames stack.levels))) None) }
+fn begin_form(stack: &Stack, level: u64, at: Position) -> Option<Position>
+    ensures { Stands result (frames stack.now.levels) (cond (leb (asks (frames stack.now.levels)) level) (Some (position_view at (frames stack.now.levels))) None) }
 {
-    if asks(&stack) <= level {
-        Some(State { stack, at })
-    } else {
-        None
-    }
+    let begins = asks(stack) <= level;
+    begins.then_some(at)
 }
 
-fn begin_if(stack: Stack, place: u64) -> Result<Option<State>, Memory>
-    ensures { Steps result (begin_word IsIf (frames stack.levels) place []) }
+fn begin_if(stack: &mut Stack, place: u64) -> Result<Option<Position>, Memory>
+    ensures { Leads result (frames stack.new.levels) (begin_word IsIf (frames stack.old.levels) place []) }
 {
-    if asks(&stack) <= 1 {
+    if asks(stack) <= 1 {
         wants(stack, Form::If { place })
     } else {
         Ok(None)

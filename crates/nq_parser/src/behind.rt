@@ -1,10 +1,11 @@
 // A token behind a whole expression.
+ghost use Rattle.std.specs.Prelude.{List};
 ghost use Rattle.nq_model.specs.QueryGrammar.{First};
 ghost use Rattle.nq_model.specs.QueryTokens.{Dot, End, Opening, Oper, Sign};
 ghost use Rattle.nq_parser.specs.Forms.{part_view};
-ghost use Rattle.nq_parser.specs.Machine.{after, shift};
+ghost use Rattle.nq_parser.specs.Machine.{Frame, after, shift};
 ghost use Rattle.nq_parser.specs.Stacks.{frames};
-ghost use Rattle.nq_parser.specs.States.{Stays, Steps};
+ghost use Rattle.nq_parser.specs.States.{Leads, Stands};
 ghost use Rattle.query_syntax.specs.Symbols.{operator_view, token_view};
 
 use crate::form::Form;
@@ -13,7 +14,7 @@ use crate::levels::{left_level, level_of};
 use crate::part::Part;
 use crate::settle::settle;
 use crate::stack::Stack;
-use crate::state::{Position, State};
+use crate::state::Position;
 use crate::wants::wants;
 use nq_model::Memory;
 use query_syntax::{Operator, Symbol, Token};
@@ -22,26 +23,30 @@ use std::alloc::Global;
 /// A token behind an expression: forms that are open to the right end before it, and another goes on.
 pub fn after(
     alloc: Global,
-    stack: Stack,
+    stack: &mut Stack,
     part: Part,
     token: Token<'_>,
-) -> Result<Option<State>, Memory>
-    ensures { Steps result (after First (frames stack.levels) (part_view part) (token_view token.entry)) }
+) -> Result<Option<Position>, Memory>
+    ensures { Leads result (frames stack.new.levels) (after First (frames stack.old.levels) (part_view part) (token_view token.entry)) }
 {
-    let mut stack = stack;
-    let part = settle(alloc, &mut stack, part, token)?;
+    let part = settle(alloc, stack, part, token)?;
     shift(alloc, stack, part, token)
 }
 
 // A token behind an expression that no form around takes for whole.
-fn shift(alloc: Global, stack: Stack, part: Part, token: Token<'_>) -> Result<Option<State>, Memory>
-    ensures { Steps result (shift First (frames stack.levels) (part_view part) (token_view token.entry)) }
+fn shift(
+    alloc: Global,
+    stack: &mut Stack,
+    part: Part,
+    token: Token<'_>,
+) -> Result<Option<Position>, Memory>
+    ensures { Leads result (frames stack.new.levels) (shift First (frames stack.old.levels) (part_view part) (token_view token.entry)) }
 {
     let place = token.place;
     match token.symbol {
         Symbol::Operator(op) => shift_operator(stack, part, place, op),
         Symbol::Opening => shift_opening(stack, part, place),
-        Symbol::Dot => Ok(shift_dot(stack, part, place)),
+        Symbol::Dot => Ok(shift_dot(part, place)),
         Symbol::Closing => close(alloc, stack, part, place),
         Symbol::ClosingBag => close_bag(alloc, stack, part, place),
         Symbol::Word(word) => word_behind(stack, part, place, word),
@@ -61,12 +66,12 @@ fn shift(alloc: Global, stack: Stack, part: Part, token: Token<'_>) -> Result<Op
 
 // An operator takes the expression, where it may stand on its left.
 fn shift_operator(
-    stack: Stack,
+    stack: &mut Stack,
     left: Part,
     place: u64,
     op: Operator,
-) -> Result<Option<State>, Memory>
-    ensures { Steps result (shift First (frames stack.levels) (part_view left) (Oper place (operator_view op))) }
+) -> Result<Option<Position>, Memory>
+    ensures { Leads result (frames stack.new.levels) (shift First (frames stack.old.levels) (part_view left) (Oper place (operator_view op))) }
 {
     if left_level(op) <= level_of(&left.syntax) {
         wants(stack, Form::Right { left, place, op })
@@ -76,8 +81,8 @@ fn shift_operator(
 }
 
 // A `(` applies the expression, where it may be a function.
-fn shift_opening(stack: Stack, func: Part, opening: u64) -> Result<Option<State>, Memory>
-    ensures { Steps result (shift First (frames stack.levels) (part_view func) (Sign opening Opening)) }
+fn shift_opening(stack: &mut Stack, func: Part, opening: u64) -> Result<Option<Position>, Memory>
+    ensures { Leads result (frames stack.new.levels) (shift First (frames stack.old.levels) (part_view func) (Sign opening Opening)) }
 {
     if 9 <= level_of(&func.syntax) {
         wants(stack, Form::Argument { func, opening })
@@ -87,24 +92,22 @@ fn shift_opening(stack: Stack, func: Part, opening: u64) -> Result<Option<State>
 }
 
 // A `.` takes a field of the expression, where it may have one.
-fn shift_dot(stack: Stack, of: Part, dot: u64) -> Option<State>
-    ensures { Stays result (shift First (frames stack.levels) (part_view of) (Sign dot Dot)) }
+fn shift_dot(of: Part, dot: u64) -> Option<Position>
+    ensures { (k : List Frame) → Stands result k (shift First k (part_view of) (Sign dot Dot)) }
 {
     if 9 <= level_of(&of.syntax) {
-        let at = Position::AtDot { of, dot };
-        Some(State { stack, at })
+        Some(Position::AtDot { of, dot })
     } else {
         None
     }
 }
 
 // The end of the text behind a whole program.
-fn shift_end(stack: Stack, part: Part, end: u64) -> Option<State>
-    ensures { Stays result (shift First (frames stack.levels) (part_view part) (End end)) }
+fn shift_end(stack: &Stack, part: Part, end: u64) -> Option<Position>
+    ensures { Stands result (frames stack.now.levels) (shift First (frames stack.now.levels) (part_view part) (End end)) }
 {
     if stack.height() == 0 {
-        let at = Position::Ready { part, end };
-        Some(State { stack, at })
+        Some(Position::Ready { part, end })
     } else {
         None
     }

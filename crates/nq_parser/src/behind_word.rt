@@ -2,7 +2,7 @@
 ghost use Rattle.nq_model.specs.QueryGrammar.{First, kind};
 ghost use Rattle.nq_parser.specs.Machine.{at_word, no_label};
 ghost use Rattle.nq_parser.specs.Stacks.{frames};
-ghost use Rattle.nq_parser.specs.States.{Steps};
+ghost use Rattle.nq_parser.specs.States.{Leads};
 ghost use Rattle.query_syntax.specs.Symbols.{token_view};
 
 use crate::begin::start;
@@ -11,7 +11,7 @@ use crate::between::{at_empty, at_for, at_fun, at_table, at_where};
 use crate::form::{FieldHead, Form};
 use crate::part::Part;
 use crate::stack::Stack;
-use crate::state::{Position, State};
+use crate::state::Position;
 use crate::wants::wants;
 use crate::words::{WordKind, kind_of};
 use nq_model::Memory;
@@ -21,12 +21,12 @@ use std::alloc::Global;
 /// A token behind `(` and a word: an `=`, or the word is no label.
 pub fn at_word(
     alloc: Global,
-    stack: Stack,
+    stack: &mut Stack,
     opening: u64,
     word: Variable,
     token: Token<'_>,
-) -> Result<Option<State>, Memory>
-    ensures { Steps result (at_word First opening word.place word.name (frames stack.levels) (token_view token.entry)) }
+) -> Result<Option<Position>, Memory>
+    ensures { Leads result (frames stack.new.levels) (at_word First opening word.place word.name (frames stack.old.levels) (token_view token.entry)) }
 {
     match token.symbol {
         Symbol::Assign => wants(
@@ -45,14 +45,13 @@ pub fn at_word(
 // The word is no label, and this token stands behind it.
 fn no_label(
     alloc: Global,
-    stack: Stack,
+    stack: &mut Stack,
     opening: u64,
     word: Variable,
     token: Token<'_>,
-) -> Result<Option<State>, Memory>
-    ensures { Steps result (no_label First (kind First word.name) opening word.place word.name (frames stack.levels) (token_view token.entry)) }
+) -> Result<Option<Position>, Memory>
+    ensures { Leads result (frames stack.new.levels) (no_label First (kind First word.name) opening word.place word.name (frames stack.old.levels) (token_view token.entry)) }
 {
-    let mut stack = stack;
     stack.push(Form::Paren { opening })?;
     let Variable { place, name } = word;
     match kind_of(name.as_str()) {
@@ -64,15 +63,15 @@ fn no_label(
             let part = Part::new(alloc, Syntax::Truth { place, truth }, 1, 0)?;
             after(alloc, stack, part, token)
         }
-        WordKind::Table => at_table(alloc, stack, place, token),
+        WordKind::Table => at_table(alloc, place, token),
         WordKind::Empty => at_empty(stack, place, token),
-        WordKind::For => Ok(at_for(stack, place, token)),
+        WordKind::For => Ok(at_for(place, token)),
         WordKind::Where => at_where(stack, place, token),
         WordKind::If => {
             stack.push(Form::If { place })?;
             start(alloc, stack, token)
         }
-        WordKind::Fun => Ok(at_fun(stack, place, token)),
+        WordKind::Fun => Ok(at_fun(place, token)),
         WordKind::Then | WordKind::Else | WordKind::Let | WordKind::Base(_) => Ok(None),
     }
 }

@@ -1,18 +1,19 @@
 // A token where one certain token has to come.
+ghost use Rattle.std.specs.Prelude.{◌≡◌, cond, List, None, Some};
 ghost use Rattle.nq_model.specs.QueryGrammar.{First};
 ghost use Rattle.nq_parser.specs.Forms.{fields_view, part_view};
-ghost use Rattle.nq_parser.specs.Machine.{at_comma, at_dot, at_empty, at_for, at_for_name, at_for_open, at_fun, at_fun_close, at_fun_name, at_fun_open, at_label, at_let, at_let_name, at_table, at_where, if_name};
+ghost use Rattle.nq_parser.specs.Machine.{Frame, State as MachineState, at_comma, at_dot, at_empty, at_for, at_for_name, at_for_open, at_fun, at_fun_close, at_fun_name, at_fun_open, at_label, at_let, at_let_name, at_table, at_where, if_name};
 ghost use Rattle.nq_parser.specs.Stacks.{frames};
-ghost use Rattle.nq_parser.specs.States.{state_view, Stays, Steps};
+ghost use Rattle.nq_parser.specs.States.{Leads, Stands};
 ghost use Rattle.query_syntax.specs.Symbols.{token_view};
 ghost use Rattle.query_syntax.specs.Trees.{type_view};
 ghost use Rattle.nq_parser.specs.Words.{kind_view};
 
 use crate::form::{Around, FieldHead, Form};
-use crate::leaf::leaf;
+use crate::have::have;
 use crate::part::{Fields, Part, TypePart, deeper};
 use crate::stack::Stack;
-use crate::state::{Position, State, TypeState};
+use crate::state::{Position, TypeState};
 use crate::type_stack::TypeStack;
 use crate::wants::wants;
 use crate::words::{WordKind, kind_of};
@@ -21,13 +22,8 @@ use query_syntax::{Symbol, Syntax, Token, Variable};
 use std::alloc::Global;
 
 /// The name of a table.
-pub fn at_table(
-    alloc: Global,
-    stack: Stack,
-    place: u64,
-    token: Token<'_>,
-) -> Result<Option<State>, Memory>
-    ensures { Steps result (at_table place (frames stack.levels) (token_view token.entry)) }
+pub fn at_table(alloc: Global, place: u64, token: Token<'_>) -> Result<Option<Position>, Memory>
+    ensures { (k : List Frame) → Leads result k (at_table place k (token_view token.entry)) }
 {
     match token.symbol {
         Symbol::Word(name) => {
@@ -36,15 +32,15 @@ pub fn at_table(
                 word: token.place,
                 name: Label::from_str(alloc, name)?,
             };
-            leaf(alloc, stack, syntax)
+            have(alloc, syntax, 1, 0)
         }
         _ => Ok(None),
     }
 }
 
 /// The `(` behind `empty`.
-pub fn at_empty(stack: Stack, place: u64, token: Token<'_>) -> Result<Option<State>, Memory>
-    ensures { Steps result (at_empty place (frames stack.levels) (token_view token.entry)) }
+pub fn at_empty(stack: &mut Stack, place: u64, token: Token<'_>) -> Result<Option<Position>, Memory>
+    ensures { Leads result (frames stack.new.levels) (at_empty place (frames stack.old.levels) (token_view token.entry)) }
 {
     match token.symbol {
         Symbol::Opening => wants(
@@ -59,24 +55,21 @@ pub fn at_empty(stack: Stack, place: u64, token: Token<'_>) -> Result<Option<Sta
 }
 
 /// The `(` behind `for`.
-pub fn at_for(stack: Stack, place: u64, token: Token<'_>) -> Option<State>
-    ensures { Stays result (at_for place (frames stack.levels) (token_view token.entry)) }
+pub fn at_for(place: u64, token: Token<'_>) -> Option<Position>
+    ensures { (k : List Frame) → Stands result k (at_for place k (token_view token.entry)) }
 {
     match token.symbol {
-        Symbol::Opening => Some(State {
-            stack,
-            at: Position::AtForOpen {
-                place,
-                opening: token.place,
-            },
+        Symbol::Opening => Some(Position::AtForOpen {
+            place,
+            opening: token.place,
         }),
         _ => None,
     }
 }
 
 /// The `(` behind `where`.
-pub fn at_where(stack: Stack, place: u64, token: Token<'_>) -> Result<Option<State>, Memory>
-    ensures { Steps result (at_where place (frames stack.levels) (token_view token.entry)) }
+pub fn at_where(stack: &mut Stack, place: u64, token: Token<'_>) -> Result<Option<Position>, Memory>
+    ensures { Leads result (frames stack.new.levels) (at_where place (frames stack.old.levels) (token_view token.entry)) }
 {
     match token.symbol {
         Symbol::Opening => wants(
@@ -91,16 +84,13 @@ pub fn at_where(stack: Stack, place: u64, token: Token<'_>) -> Result<Option<Sta
 }
 
 /// The `(` behind `fun`.
-pub fn at_fun(stack: Stack, place: u64, token: Token<'_>) -> Option<State>
-    ensures { Stays result (at_fun place (frames stack.levels) (token_view token.entry)) }
+pub fn at_fun(place: u64, token: Token<'_>) -> Option<Position>
+    ensures { (k : List Frame) → Stands result k (at_fun place k (token_view token.entry)) }
 {
     match token.symbol {
-        Symbol::Opening => Some(State {
-            stack,
-            at: Position::AtFunOpen {
-                place,
-                opening: token.place,
-            },
+        Symbol::Opening => Some(Position::AtFunOpen {
+            place,
+            opening: token.place,
         }),
         _ => None,
     }
@@ -109,12 +99,11 @@ pub fn at_fun(stack: Stack, place: u64, token: Token<'_>) -> Option<State>
 /// The variable of a `for`.
 pub fn at_for_open(
     alloc: Global,
-    stack: Stack,
     place: u64,
     opening: u64,
     token: Token<'_>,
-) -> Result<Option<State>, Memory>
-    ensures { Steps result (at_for_open First place opening (frames stack.levels) (token_view token.entry)) }
+) -> Result<Option<Position>, Memory>
+    ensures { (k : List Frame) → Leads result k (at_for_open First place opening k (token_view token.entry)) }
 {
     match token.symbol {
         Symbol::Word(word) => {
@@ -122,12 +111,15 @@ pub fn at_for_open(
                 place: token.place,
                 name: Label::from_str(alloc, word)?,
             };
-            let at = Position::AtForName {
-                place,
-                opening,
-                variable,
-            };
-            Ok(if_name(kind_of(word), State { stack, at }))
+            if is_name(kind_of(word)) {
+                Ok(Some(Position::AtForName {
+                    place,
+                    opening,
+                    variable,
+                }))
+            } else {
+                Ok(None)
+            }
         }
         _ => Ok(None),
     }
@@ -136,12 +128,11 @@ pub fn at_for_open(
 /// The variable of a function.
 pub fn at_fun_open(
     alloc: Global,
-    stack: Stack,
     place: u64,
     opening: u64,
     token: Token<'_>,
-) -> Result<Option<State>, Memory>
-    ensures { Steps result (at_fun_open First place opening (frames stack.levels) (token_view token.entry)) }
+) -> Result<Option<Position>, Memory>
+    ensures { (k : List Frame) → Leads result k (at_fun_open First place opening k (token_view token.entry)) }
 {
     match token.symbol {
         Symbol::Word(word) => {
@@ -149,25 +140,23 @@ pub fn at_fun_open(
                 place: token.place,
                 name: Label::from_str(alloc, word)?,
             };
-            let at = Position::AtFunName {
-                place,
-                opening,
-                variable,
-            };
-            Ok(if_name(kind_of(word), State { stack, at }))
+            if is_name(kind_of(word)) {
+                Ok(Some(Position::AtFunName {
+                    place,
+                    opening,
+                    variable,
+                }))
+            } else {
+                Ok(None)
+            }
         }
         _ => Ok(None),
     }
 }
 
 /// The variable of a `let`.
-pub fn at_let(
-    alloc: Global,
-    stack: Stack,
-    place: u64,
-    token: Token<'_>,
-) -> Result<Option<State>, Memory>
-    ensures { Steps result (at_let First place (frames stack.levels) (token_view token.entry)) }
+pub fn at_let(alloc: Global, place: u64, token: Token<'_>) -> Result<Option<Position>, Memory>
+    ensures { (k : List Frame) → Leads result k (at_let First place k (token_view token.entry)) }
 {
     match token.symbol {
         Symbol::Word(word) => {
@@ -175,19 +164,22 @@ pub fn at_let(
                 place: token.place,
                 name: Label::from_str(alloc, word)?,
             };
-            let at = Position::AtLetName { place, variable };
-            Ok(if_name(kind_of(word), State { stack, at }))
+            if is_name(kind_of(word)) {
+                Ok(Some(Position::AtLetName { place, variable }))
+            } else {
+                Ok(None)
+            }
         }
         _ => Ok(None),
     }
 }
 
-// The state, where the word may be a variable.
-fn if_name(kind: WordKind, state: State) -> Option<State>
-    ensures { Stays result (if_name (kind_view kind) (state_view state)) }
+// Whether the word may be a variable.
+fn is_name(kind: WordKind) -> bool
+    ensures { (st : MachineState) → if_name (kind_view kind) st ≡ cond result (Some st) None }
 {
     match kind {
-        WordKind::Name => Some(state),
+        WordKind::Name => true,
         WordKind::For
         | WordKind::Where
         | WordKind::If
@@ -198,19 +190,19 @@ fn if_name(kind: WordKind, state: State) -> Option<State>
         | WordKind::Table
         | WordKind::Empty
         | WordKind::Truth(_)
-        | WordKind::Base(_) => None,
+        | WordKind::Base(_) => false,
     }
 }
 
 /// The `<-` of a `for`.
 pub fn at_for_name(
-    stack: Stack,
+    stack: &mut Stack,
     place: u64,
     opening: u64,
     variable: Variable,
     token: Token<'_>,
-) -> Result<Option<State>, Memory>
-    ensures { Steps result (at_for_name place opening variable.place variable.name (frames stack.levels) (token_view token.entry)) }
+) -> Result<Option<Position>, Memory>
+    ensures { Leads result (frames stack.new.levels) (at_for_name place opening variable.place variable.name (frames stack.old.levels) (token_view token.entry)) }
 {
     match token.symbol {
         Symbol::From => wants(
@@ -229,13 +221,12 @@ pub fn at_for_name(
 /// The `:` behind the variable of a function.
 pub fn at_fun_name(
     alloc: Global,
-    stack: Stack,
     place: u64,
     opening: u64,
     variable: Variable,
     token: Token<'_>,
-) -> Option<State>
-    ensures { Stays result (at_fun_name place opening variable.place variable.name (frames stack.levels) (token_view token.entry)) }
+) -> Option<Position>
+    ensures { (k : List Frame) → Stands result k (at_fun_name place opening variable.place variable.name k (token_view token.entry)) }
 {
     match token.symbol {
         Symbol::Colon => {
@@ -248,10 +239,7 @@ pub fn at_fun_name(
                     colon: token.place,
                 },
             };
-            Some(State {
-                stack,
-                at: Position::WantType { ty },
-            })
+            Some(Position::WantType { ty })
         }
         _ => None,
     }
@@ -259,7 +247,7 @@ pub fn at_fun_name(
 
 /// The `->` behind the variable of a function and its type.
 pub fn at_fun_close(
-    stack: Stack,
+    stack: &mut Stack,
     place: u64,
     opening: u64,
     variable: Variable,
@@ -267,8 +255,8 @@ pub fn at_fun_close(
     taken: TypePart,
     closing: u64,
     token: Token<'_>,
-) -> Result<Option<State>, Memory>
-    ensures { Steps result (at_fun_close place opening variable.place variable.name colon (type_view taken.ty) closing (frames stack.levels) (token_view token.entry)) }
+) -> Result<Option<Position>, Memory>
+    ensures { Leads result (frames stack.new.levels) (at_fun_close place opening variable.place variable.name colon (type_view taken.ty) closing (frames stack.old.levels) (token_view token.entry)) }
 {
     match token.symbol {
         Symbol::Arrow => wants(
@@ -289,12 +277,12 @@ pub fn at_fun_close(
 
 /// The `=` behind the variable of a `let`.
 pub fn at_let_name(
-    stack: Stack,
+    stack: &mut Stack,
     place: u64,
     variable: Variable,
     token: Token<'_>,
-) -> Result<Option<State>, Memory>
-    ensures { Steps result (at_let_name place variable.place variable.name (frames stack.levels) (token_view token.entry)) }
+) -> Result<Option<Position>, Memory>
+    ensures { Leads result (frames stack.new.levels) (at_let_name place variable.place variable.name (frames stack.old.levels) (token_view token.entry)) }
 {
     match token.symbol {
         Symbol::Assign => wants(
@@ -312,12 +300,11 @@ pub fn at_let_name(
 /// The label behind a comma in a record.
 pub fn at_comma(
     alloc: Global,
-    stack: Stack,
     fields: Fields,
     comma: u64,
     token: Token<'_>,
-) -> Result<Option<State>, Memory>
-    ensures { Steps result (at_comma (fields_view fields) comma (frames stack.levels) (token_view token.entry)) }
+) -> Result<Option<Position>, Memory>
+    ensures { (k : List Frame) → Leads result k (at_comma (fields_view fields) comma k (token_view token.entry)) }
 {
     match token.symbol {
         Symbol::Word(word) => {
@@ -325,12 +312,11 @@ pub fn at_comma(
                 place: token.place,
                 name: Label::from_str(alloc, word)?,
             };
-            let at = Position::AtLabel {
+            Ok(Some(Position::AtLabel {
                 fields,
                 comma,
                 label,
-            };
-            Ok(Some(State { stack, at }))
+            }))
         }
         _ => Ok(None),
     }
@@ -338,13 +324,13 @@ pub fn at_comma(
 
 /// The `=` behind a label in a record.
 pub fn at_label(
-    stack: Stack,
+    stack: &mut Stack,
     fields: Fields,
     comma: u64,
     label: Variable,
     token: Token<'_>,
-) -> Result<Option<State>, Memory>
-    ensures { Steps result (at_label (fields_view fields) comma label.place label.name (frames stack.levels) (token_view token.entry)) }
+) -> Result<Option<Position>, Memory>
+    ensures { Leads result (frames stack.new.levels) (at_label (fields_view fields) comma label.place label.name (frames stack.old.levels) (token_view token.entry)) }
 {
     match token.symbol {
         Symbol::Assign => wants(
@@ -363,12 +349,11 @@ pub fn at_label(
 /// The label behind a `.`.
 pub fn at_dot(
     alloc: Global,
-    stack: Stack,
     of: Part,
     dot: u64,
     token: Token<'_>,
-) -> Result<Option<State>, Memory>
-    ensures { Steps result (at_dot (part_view of) dot (frames stack.levels) (token_view token.entry)) }
+) -> Result<Option<Position>, Memory>
+    ensures { (k : List Frame) → Leads result k (at_dot (part_view of) dot k (token_view token.entry)) }
 {
     match token.symbol {
         Symbol::Word(word) => {
@@ -381,8 +366,7 @@ pub fn at_dot(
                 label: Label::from_str(alloc, word)?,
             };
             let part = Part::new(alloc, syntax, depth, types)?;
-            let at = Position::Have { part };
-            Ok(Some(State { stack, at }))
+            Ok(Some(Position::Have { part }))
         }
         _ => Ok(None),
     }

@@ -5,14 +5,14 @@ ghost use Rattle.nq_model.specs.QueryTokens.{Closing, ClosingBag, Comma, Semicol
 ghost use Rattle.nq_parser.specs.Forms.{form_view, head_view, part_view};
 ghost use Rattle.nq_parser.specs.Machine.{else_word, put_field, shift, then_word};
 ghost use Rattle.nq_parser.specs.Stacks.{frames};
-ghost use Rattle.nq_parser.specs.States.{Steps};
+ghost use Rattle.nq_parser.specs.States.{Leads};
 ghost use Rattle.nq_parser.specs.Words.{kind_view};
 
 use crate::form::{FieldHead, Form};
 use crate::join::put_field;
 use crate::part::{Part, deeper};
 use crate::stack::Stack;
-use crate::state::{Position, State};
+use crate::state::Position;
 use crate::wants::wants;
 use crate::words::{WordKind, kind_of};
 use nq_model::{Label, Memory};
@@ -20,10 +20,14 @@ use query_syntax::Syntax;
 use std::alloc::Global;
 
 /// A `)` behind the expression that the innermost form waited for.
-pub fn close(alloc: Global, stack: Stack, part: Part, closing: u64) -> Result<Option<State>, Memory>
-    ensures { Steps result (shift First (frames stack.levels) (part_view part) (Sign closing Closing)) }
+pub fn close(
+    alloc: Global,
+    stack: &mut Stack,
+    part: Part,
+    closing: u64,
+) -> Result<Option<Position>, Memory>
+    ensures { Leads result (frames stack.new.levels) (shift First (frames stack.old.levels) (part_view part) (Sign closing Closing)) }
 {
-    let mut stack = stack;
     match stack.pop() {
         Some(form) => close_form(alloc, stack, form, part, closing),
         None => Ok(None),
@@ -32,12 +36,12 @@ pub fn close(alloc: Global, stack: Stack, part: Part, closing: u64) -> Result<Op
 
 fn close_form(
     alloc: Global,
-    stack: Stack,
+    stack: &mut Stack,
     form: Form,
     part: Part,
     closing: u64,
-) -> Result<Option<State>, Memory>
-    ensures { Steps result (shift First (form_view form ∷ frames stack.levels) (part_view part) (Sign closing Closing)) }
+) -> Result<Option<Position>, Memory>
+    ensures { Leads result (frames stack.new.levels) (shift First (form_view form ∷ frames stack.old.levels) (part_view part) (Sign closing Closing)) }
 {
     match form {
         Form::Source {
@@ -67,18 +71,15 @@ fn close_form(
         ),
         Form::Paren { opening } => {
             let part = paren(alloc, opening, part, closing)?;
-            let at = Position::Have { part };
-            Ok(Some(State { stack, at }))
+            Ok(Some(Position::Have { part }))
         }
         Form::Empty { place, opening } => {
             let part = empty(alloc, place, opening, part, closing)?;
-            let at = Position::Have { part };
-            Ok(Some(State { stack, at }))
+            Ok(Some(Position::Have { part }))
         }
         Form::Argument { func, opening } => {
             let part = apply(alloc, func, opening, part, closing)?;
-            let at = Position::Have { part };
-            Ok(Some(State { stack, at }))
+            Ok(Some(Position::Have { part }))
         }
         Form::Field {
             head,
@@ -87,8 +88,7 @@ fn close_form(
             mark,
         } => {
             let part = record(alloc, head, place, label, mark, part, closing)?;
-            let at = Position::Have { part };
-            Ok(Some(State { stack, at }))
+            Ok(Some(Position::Have { part }))
         }
         Form::Bag { .. }
         | Form::ForBody { .. }
@@ -100,7 +100,10 @@ fn close_form(
         | Form::LetValue { .. }
         | Form::LetBody { .. }
         | Form::Prefix { .. }
-        | Form::Right { .. } => Ok(None),
+        | Form::Right { .. } => {
+            drop(form);
+            Ok(None)
+        }
     }
 }
 
@@ -171,13 +174,12 @@ fn record(
 /// A `]` behind the expression that the innermost form waited for.
 pub fn close_bag(
     alloc: Global,
-    stack: Stack,
+    stack: &mut Stack,
     part: Part,
     closing: u64,
-) -> Result<Option<State>, Memory>
-    ensures { Steps result (shift First (frames stack.levels) (part_view part) (Sign closing ClosingBag)) }
+) -> Result<Option<Position>, Memory>
+    ensures { Leads result (frames stack.new.levels) (shift First (frames stack.old.levels) (part_view part) (Sign closing ClosingBag)) }
 {
-    let mut stack = stack;
     match stack.pop() {
         Some(form) => close_bag_form(alloc, stack, form, part, closing),
         None => Ok(None),
@@ -186,18 +188,17 @@ pub fn close_bag(
 
 fn close_bag_form(
     alloc: Global,
-    stack: Stack,
+    stack: &mut Stack,
     form: Form,
     part: Part,
     closing: u64,
-) -> Result<Option<State>, Memory>
-    ensures { Steps result (shift First (form_view form ∷ frames stack.levels) (part_view part) (Sign closing ClosingBag)) }
+) -> Result<Option<Position>, Memory>
+    ensures { Leads result (frames stack.new.levels) (shift First (form_view form ∷ frames stack.old.levels) (part_view part) (Sign closing ClosingBag)) }
 {
     match form {
         Form::Bag { opening } => {
             let part = bag(alloc, opening, part, closing)?;
-            let at = Position::Have { part };
-            Ok(Some(State { stack, at }))
+            Ok(Some(Position::Have { part }))
         }
         Form::Paren { .. }
         | Form::Empty { .. }
@@ -214,7 +215,10 @@ fn close_bag_form(
         | Form::Prefix { .. }
         | Form::Right { .. }
         | Form::Argument { .. }
-        | Form::Field { .. } => Ok(None),
+        | Form::Field { .. } => {
+            drop(form);
+            Ok(None)
+        }
     }
 }
 
@@ -233,14 +237,13 @@ fn bag(alloc: Global, opening: u64, element: Part, closing: u64) -> Result<Part,
 
 /// `then` or `else` behind the expression that the innermost form waited for.
 pub fn word_behind(
-    stack: Stack,
+    stack: &mut Stack,
     part: Part,
     place: u64,
     word: &str,
-) -> Result<Option<State>, Memory>
-    ensures { Steps result (shift First (frames stack.levels) (part_view part) (Word place word.now)) }
+) -> Result<Option<Position>, Memory>
+    ensures { Leads result (frames stack.new.levels) (shift First (frames stack.old.levels) (part_view part) (Word place word.now)) }
 {
-    let mut stack = stack;
     match stack.pop() {
         Some(form) => word_form(stack, form, part, place, word),
         None => Ok(None),
@@ -248,13 +251,13 @@ pub fn word_behind(
 }
 
 fn word_form(
-    stack: Stack,
+    stack: &mut Stack,
     form: Form,
     part: Part,
     behind: u64,
     word: &str,
-) -> Result<Option<State>, Memory>
-    ensures { Steps result (shift First (form_view form ∷ frames stack.levels) (part_view part) (Word behind word.now)) }
+) -> Result<Option<Position>, Memory>
+    ensures { Leads result (frames stack.new.levels) (shift First (form_view form ∷ frames stack.old.levels) (part_view part) (Word behind word.now)) }
 {
     match form {
         Form::If { place } => then_behind(stack, place, part, behind, kind_of(word)),
@@ -277,18 +280,21 @@ fn word_form(
         | Form::Prefix { .. }
         | Form::Right { .. }
         | Form::Argument { .. }
-        | Form::Field { .. } => Ok(None),
+        | Form::Field { .. } => {
+            drop(form);
+            Ok(None)
+        }
     }
 }
 
 fn then_behind(
-    stack: Stack,
+    stack: &mut Stack,
     place: u64,
     test: Part,
     then_place: u64,
     kind: WordKind,
-) -> Result<Option<State>, Memory>
-    ensures { Steps result (then_word (kind_view kind) place (part_view test) then_place (frames stack.levels)) }
+) -> Result<Option<Position>, Memory>
+    ensures { Leads result (frames stack.new.levels) (then_word (kind_view kind) place (part_view test) then_place (frames stack.old.levels)) }
 {
     match kind {
         WordKind::Then => wants(
@@ -314,15 +320,15 @@ fn then_behind(
 }
 
 fn else_behind(
-    stack: Stack,
+    stack: &mut Stack,
     place: u64,
     test: Part,
     then_place: u64,
     yes: Part,
     else_place: u64,
     kind: WordKind,
-) -> Result<Option<State>, Memory>
-    ensures { Steps result (else_word (kind_view kind) place (part_view test) then_place (part_view yes) else_place (frames stack.levels)) }
+) -> Result<Option<Position>, Memory>
+    ensures { Leads result (frames stack.new.levels) (else_word (kind_view kind) place (part_view test) then_place (part_view yes) else_place (frames stack.old.levels)) }
 {
     match kind {
         WordKind::Else => wants(
@@ -350,10 +356,13 @@ fn else_behind(
 }
 
 /// A `;` behind the expression that the innermost form waited for.
-pub fn semicolon_behind(stack: Stack, value: Part, semicolon: u64) -> Result<Option<State>, Memory>
-    ensures { Steps result (shift First (frames stack.levels) (part_view value) (Sign semicolon Semicolon)) }
+pub fn semicolon_behind(
+    stack: &mut Stack,
+    value: Part,
+    semicolon: u64,
+) -> Result<Option<Position>, Memory>
+    ensures { Leads result (frames stack.new.levels) (shift First (frames stack.old.levels) (part_view value) (Sign semicolon Semicolon)) }
 {
-    let mut stack = stack;
     match stack.pop() {
         Some(form) => semicolon_form(stack, form, value, semicolon),
         None => Ok(None),
@@ -361,12 +370,12 @@ pub fn semicolon_behind(stack: Stack, value: Part, semicolon: u64) -> Result<Opt
 }
 
 fn semicolon_form(
-    stack: Stack,
+    stack: &mut Stack,
     form: Form,
     value: Part,
     semicolon: u64,
-) -> Result<Option<State>, Memory>
-    ensures { Steps result (shift First (form_view form ∷ frames stack.levels) (part_view value) (Sign semicolon Semicolon)) }
+) -> Result<Option<Position>, Memory>
+    ensures { Leads result (frames stack.new.levels) (shift First (form_view form ∷ frames stack.old.levels) (part_view value) (Sign semicolon Semicolon)) }
 {
     match form {
         Form::LetValue {
@@ -398,20 +407,22 @@ fn semicolon_form(
         | Form::Prefix { .. }
         | Form::Right { .. }
         | Form::Argument { .. }
-        | Form::Field { .. } => Ok(None),
+        | Form::Field { .. } => {
+            drop(form);
+            Ok(None)
+        }
     }
 }
 
 /// A comma behind the expression that the innermost form waited for.
 pub fn comma_behind(
     alloc: Global,
-    stack: Stack,
+    stack: &mut Stack,
     part: Part,
     comma: u64,
-) -> Result<Option<State>, Memory>
-    ensures { Steps result (shift First (frames stack.levels) (part_view part) (Sign comma Comma)) }
+) -> Result<Option<Position>, Memory>
+    ensures { Leads result (frames stack.new.levels) (shift First (frames stack.old.levels) (part_view part) (Sign comma Comma)) }
 {
-    let mut stack = stack;
     match stack.pop() {
         Some(form) => comma_form(alloc, stack, form, part, comma),
         None => Ok(None),
@@ -420,12 +431,12 @@ pub fn comma_behind(
 
 fn comma_form(
     alloc: Global,
-    stack: Stack,
+    stack: &mut Stack,
     form: Form,
     part: Part,
     comma: u64,
-) -> Result<Option<State>, Memory>
-    ensures { Steps result (shift First (form_view form ∷ frames stack.levels) (part_view part) (Sign comma Comma)) }
+) -> Result<Option<Position>, Memory>
+    ensures { Leads result (frames stack.new.levels) (shift First (form_view form ∷ frames stack.old.levels) (part_view part) (Sign comma Comma)) }
 {
     match form {
         Form::Field {
@@ -435,8 +446,7 @@ fn comma_form(
             mark,
         } => {
             let fields = put_field(alloc, head, place, label, mark, part)?;
-            let at = Position::AtComma { fields, comma };
-            Ok(Some(State { stack, at }))
+            Ok(Some(Position::AtComma { fields, comma }))
         }
         Form::Paren { .. }
         | Form::Bag { .. }
@@ -453,6 +463,9 @@ fn comma_form(
         | Form::LetBody { .. }
         | Form::Prefix { .. }
         | Form::Right { .. }
-        | Form::Argument { .. } => Ok(None),
+        | Form::Argument { .. } => {
+            drop(form);
+            Ok(None)
+        }
     }
 }

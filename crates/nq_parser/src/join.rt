@@ -6,6 +6,7 @@ ghost use Rattle.query_syntax.specs.Trees.{type_view};
 
 use crate::form::{FieldHead, Form, TypeHead};
 use crate::part::{Fields, Part, TypeFields, TypePart, deeper};
+use crate::stack::{held, held_types};
 use nq_model::{Label, List, Memory, boxed};
 use query_syntax::{FieldName, Syntax};
 use std::alloc::Global;
@@ -14,6 +15,15 @@ use std::alloc::Global;
 pub fn joined(alloc: Global, form: Form, last: Part) -> Result<Part, Memory>
     ensures { IfOk result (λ whole. part_view whole ≡ joined (form_view form) (part_view last)) }
 {
+    let types = held_types(&form).max(last.types);
+    let depth = match deeper(held(&form).max(last.depth)) {
+        Ok(depth) => depth,
+        Err(fault) => {
+            drop(form);
+            return Err(fault);
+        }
+    };
+    let form = form;
     match form {
         Form::ForBody {
             place,
@@ -23,8 +33,6 @@ pub fn joined(alloc: Global, form: Form, last: Part) -> Result<Part, Memory>
             source,
             closing,
         } => {
-            let depth = deeper(source.depth.max(last.depth))?;
-            let types = source.types.max(last.types);
             let syntax = Syntax::For {
                 place,
                 opening,
@@ -42,8 +50,6 @@ pub fn joined(alloc: Global, form: Form, last: Part) -> Result<Part, Memory>
             test,
             closing,
         } => {
-            let depth = deeper(test.depth.max(last.depth))?;
-            let types = test.types.max(last.types);
             let syntax = Syntax::Where {
                 place,
                 opening,
@@ -60,8 +66,6 @@ pub fn joined(alloc: Global, form: Form, last: Part) -> Result<Part, Memory>
             yes,
             else_place,
         } => {
-            let depth = deeper(test.depth.max(yes.depth.max(last.depth)))?;
-            let types = test.types.max(yes.types.max(last.types));
             let syntax = Syntax::If {
                 place,
                 test: test.syntax,
@@ -81,8 +85,6 @@ pub fn joined(alloc: Global, form: Form, last: Part) -> Result<Part, Memory>
             closing,
             arrow,
         } => {
-            let depth = deeper(last.depth)?;
-            let types = taken.depth.max(last.types);
             let syntax = Syntax::Fun {
                 place,
                 opening,
@@ -102,8 +104,6 @@ pub fn joined(alloc: Global, form: Form, last: Part) -> Result<Part, Memory>
             value,
             semicolon,
         } => {
-            let depth = deeper(value.depth.max(last.depth))?;
-            let types = value.types.max(last.types);
             let syntax = Syntax::Let {
                 place,
                 variable,
@@ -115,8 +115,6 @@ pub fn joined(alloc: Global, form: Form, last: Part) -> Result<Part, Memory>
             Part::new(alloc, syntax, depth, types)
         }
         Form::Prefix { place, op } => {
-            let depth = deeper(last.depth)?;
-            let types = last.types;
             let syntax = Syntax::Prefix {
                 place,
                 op,
@@ -125,8 +123,6 @@ pub fn joined(alloc: Global, form: Form, last: Part) -> Result<Part, Memory>
             Part::new(alloc, syntax, depth, types)
         }
         Form::Right { left, place, op } => {
-            let depth = deeper(left.depth.max(last.depth))?;
-            let types = left.types.max(last.types);
             let syntax = Syntax::Infix {
                 left: left.syntax,
                 place,

@@ -40,13 +40,17 @@ fn advance(alloc: Global, state: State, token: Token<'_>, depth: u64) -> Result<
 {
     let place = token.place;
     match step(alloc, state, token)? {
-        Some(next) => {
-            if fits(&next, depth)? {
-                Ok(next)
-            } else {
+        Some(next) => match fits(&next, depth) {
+            Ok(true) => Ok(next),
+            Ok(false) => {
+                drop(next);
                 Err(SyntaxFault::Deep { place })
             }
-        }
+            Err(_) => {
+                drop(next);
+                Err(SyntaxFault::Memory)
+            }
+        },
         None => Err(SyntaxFault::Unexpected { place }),
     }
 }
@@ -58,6 +62,9 @@ fn program(state: State) -> Option<Syntax>
     let State { stack: _, at } = state;
     match at {
         Position::Ready { part, .. } => Some(Box::into_inner(part.syntax)),
-        _ => None,
+        unfinished => {
+            drop(unfinished);
+            None
+        }
     }
 }

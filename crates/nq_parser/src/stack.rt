@@ -23,8 +23,8 @@ pub struct Stack {
     ghost kept: { marks levels ≡ needed (frames levels) },
 }
 
-// How deep the deepest expression is that the form holds.
-fn held(form: &Form) -> u64
+/// How deep the deepest expression is that the form holds.
+pub fn held(form: &Form) -> u64
     ensures { result ≡ held (form_view form.now) }
 {
     match form {
@@ -55,8 +55,8 @@ fn held(form: &Form) -> u64
     }
 }
 
-// How deep the deepest type is that the form holds.
-fn held_types(form: &Form) -> u64
+/// How deep the deepest type is that the form holds.
+pub fn held_types(form: &Form) -> u64
     ensures { result ≡ held_types (form_view form.now) }
 {
     match form {
@@ -134,18 +134,30 @@ impl Stack {
         }
     }
 
+    // How deep the program is at least with this form inside the others.
+    fn needs_with(&self, form: &Form) -> Result<u64, Memory>
+        ensures { IfOk result (λ deep. deep ≡ needs (form_view form.now ∷ frames self.now.levels)) }
+    {
+        match held(form).checked_add(self.height() as u64) {
+            Some(deep) => Ok(self.needs().max(deeper(deep)?)),
+            None => Err(Memory),
+        }
+    }
+
     /// With one more form, inside the others.
     pub fn push(&mut self, form: Form) -> Result<(), Memory>
         ensures { IfOk result (λ u. frames self.new.levels ≡ form_view form ∷ frames self.old.levels) }
     {
-        let height = self.levels.len() as u64;
-        let deep = match held(&form).checked_add(height) {
-            Some(deep) => deeper(deep)?,
-            None => return Err(Memory),
-        };
-        let needs = self.needs().max(deep);
-        let types = self.types().max(held_types(&form));
-        self.levels.push(Level { form, needs, types })
+        match self.needs_with(&form) {
+            Ok(needs) => {
+                let types = self.types().max(held_types(&form));
+                self.levels.push(Level { form, needs, types })
+            }
+            Err(fault) => {
+                drop(form);
+                Err(fault)
+            }
+        }
     }
 
     /// The innermost form, taken off.
@@ -165,7 +177,7 @@ impl Stack {
         match self.top() {
             Some(Form::Paren { opening }) => {
                 let opening = *opening;
-                self.pop();
+                drop(self.pop());
                 Some(opening)
             }
             _ => None,
@@ -179,7 +191,7 @@ impl Stack {
         match self.top() {
             Some(Form::Bag { opening }) => {
                 let opening = *opening;
-                self.pop();
+                drop(self.pop());
                 Some(opening)
             }
             _ => None,

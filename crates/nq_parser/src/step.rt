@@ -1,7 +1,8 @@
 // One token more.
 ghost use Rattle.nq_model.specs.QueryGrammar.{First};
 ghost use Rattle.nq_parser.specs.Machine.{step};
-ghost use Rattle.nq_parser.specs.States.{state_view, Steps};
+ghost use Rattle.nq_parser.specs.Stacks.{frames};
+ghost use Rattle.nq_parser.specs.States.{Leads, position_view, state_view, Steps};
 ghost use Rattle.query_syntax.specs.Symbols.{token_view};
 
 use crate::begin::start;
@@ -25,26 +26,42 @@ pub fn step(alloc: Global, state: State, token: Token<'_>) -> Result<Option<Stat
     ensures { Steps result (step First (state_view state) (token_view token.entry)) }
 {
     let State { stack, at } = state;
+    let mut stack = stack;
+    match step_at(alloc, &mut stack, at, token)? {
+        Some(at) => Ok(Some(State { stack, at })),
+        None => Ok(None),
+    }
+}
+
+// The position behind the token; none where the token may not stand there.
+fn step_at(
+    alloc: Global,
+    stack: &mut Stack,
+    at: Position,
+    token: Token<'_>,
+) -> Result<Option<Position>, Memory>
+    ensures { Leads result (frames stack.new.levels) (step First (position_view at (frames stack.old.levels)) (token_view token.entry)) }
+{
     match at {
         Position::Want => start(alloc, stack, token),
         Position::AtWord { opening, word } => at_word(alloc, stack, opening, word, token),
-        Position::AtTable { place } => at_table(alloc, stack, place, token),
+        Position::AtTable { place } => at_table(alloc, place, token),
         Position::AtEmpty { place } => at_empty(stack, place, token),
-        Position::AtFor { place } => Ok(at_for(stack, place, token)),
-        Position::AtForOpen { place, opening } => at_for_open(alloc, stack, place, opening, token),
+        Position::AtFor { place } => Ok(at_for(place, token)),
+        Position::AtForOpen { place, opening } => at_for_open(alloc, place, opening, token),
         Position::AtForName {
             place,
             opening,
             variable,
         } => at_for_name(stack, place, opening, variable, token),
         Position::AtWhere { place } => at_where(stack, place, token),
-        Position::AtFun { place } => Ok(at_fun(stack, place, token)),
-        Position::AtFunOpen { place, opening } => at_fun_open(alloc, stack, place, opening, token),
+        Position::AtFun { place } => Ok(at_fun(place, token)),
+        Position::AtFunOpen { place, opening } => at_fun_open(alloc, place, opening, token),
         Position::AtFunName {
             place,
             opening,
             variable,
-        } => Ok(at_fun_name(alloc, stack, place, opening, variable, token)),
+        } => Ok(at_fun_name(alloc, place, opening, variable, token)),
         Position::AtFunClose {
             place,
             opening,
@@ -55,29 +72,27 @@ pub fn step(alloc: Global, state: State, token: Token<'_>) -> Result<Option<Stat
         } => at_fun_close(
             stack, place, opening, variable, colon, taken, closing, token,
         ),
-        Position::AtLet { place } => at_let(alloc, stack, place, token),
+        Position::AtLet { place } => at_let(alloc, place, token),
         Position::AtLetName { place, variable } => at_let_name(stack, place, variable, token),
-        Position::AtComma { fields, comma } => at_comma(alloc, stack, fields, comma, token),
+        Position::AtComma { fields, comma } => at_comma(alloc, fields, comma, token),
         Position::AtLabel {
             fields,
             comma,
             label,
         } => at_label(stack, fields, comma, label, token),
-        Position::AtDot { of, dot } => at_dot(alloc, stack, of, dot, token),
-        Position::WantType { ty } => start_type(alloc, stack, ty, token),
-        Position::AtTypeWord { opening, word, ty } => at_type_word(
-            alloc, stack, opening, word, ty, token,
-        ),
+        Position::AtDot { of, dot } => at_dot(alloc, of, dot, token),
+        Position::WantType { ty } => start_type(alloc, ty, token),
+        Position::AtTypeWord { opening, word, ty } => at_type_word(alloc, opening, word, ty, token),
         Position::AtTypeComma { fields, comma, ty } => at_type_comma(
-            alloc, stack, fields, comma, ty, token,
+            alloc, fields, comma, ty, token,
         ),
         Position::AtTypeLabel {
             fields,
             comma,
             label,
             ty,
-        } => at_type_label(stack, fields, comma, label, ty, token),
-        Position::HaveType { part, ty } => after_type(alloc, stack, part, ty, token),
+        } => at_type_label(fields, comma, label, ty, token),
+        Position::HaveType { part, ty } => after_type(alloc, part, ty, token),
         Position::Have { part } => after(alloc, stack, part, token),
         Position::Ready { .. } => Ok(None),
     }

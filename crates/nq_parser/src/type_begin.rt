@@ -1,18 +1,17 @@
 // A token where a type begins.
+ghost use Rattle.std.specs.Prelude.{List};
 ghost use Rattle.nq_model.specs.QueryGrammar.{First};
 ghost use Rattle.nq_model.specs.QueryTokens.{Closing, Sign};
 ghost use Rattle.nq_parser.specs.Forms.{around_view};
-ghost use Rattle.nq_parser.specs.Machine.{begin_base, start_base, start_type};
-ghost use Rattle.nq_parser.specs.Stacks.{frames};
-ghost use Rattle.nq_parser.specs.States.{Stays, Steps};
+ghost use Rattle.nq_parser.specs.Machine.{Frame, begin_base, start_base, start_type};
+ghost use Rattle.nq_parser.specs.States.{Leads, Stands};
 ghost use Rattle.query_syntax.specs.Symbols.{token_view};
 ghost use Rattle.nq_parser.specs.TypeStacks.{type_frames};
 ghost use Rattle.nq_parser.specs.Words.{kind_view};
 
 use crate::form::TypeForm;
 use crate::part::TypePart;
-use crate::stack::Stack;
-use crate::state::{Position, State, TypeState};
+use crate::state::{Position, TypeState};
 use crate::wants::wants_type;
 use crate::words::{WordKind, kind_of};
 use nq_model::{Label, Memory};
@@ -22,18 +21,17 @@ use std::alloc::Global;
 /// A token where a type begins.
 pub fn start_type(
     alloc: Global,
-    stack: Stack,
     ty: TypeState,
     token: Token<'_>,
-) -> Result<Option<State>, Memory>
-    ensures { Steps result (start_type First (type_frames ty.forms.levels) (around_view ty.around) (frames stack.levels) (token_view token.entry)) }
+) -> Result<Option<Position>, Memory>
+    ensures { (k : List Frame) → Leads result k (start_type First (type_frames ty.forms.levels) (around_view ty.around) k (token_view token.entry)) }
 {
     let place = token.place;
     match token.symbol {
-        Symbol::Word(word) => start_base(alloc, stack, ty, place, word),
-        Symbol::Opening => wants_type(stack, ty, TypeForm::Paren { opening: place }),
-        Symbol::OpeningBag => wants_type(stack, ty, TypeForm::Bag { opening: place }),
-        Symbol::Closing => Ok(no_types(stack, ty, place)),
+        Symbol::Word(word) => start_base(alloc, ty, place, word),
+        Symbol::Opening => wants_type(ty, TypeForm::Paren { opening: place }),
+        Symbol::OpeningBag => wants_type(ty, TypeForm::Bag { opening: place }),
+        Symbol::Closing => Ok(no_types(ty, place)),
         Symbol::Number(_)
         | Symbol::Literal(_)
         | Symbol::Operator(_)
@@ -52,20 +50,17 @@ pub fn start_type(
 
 // `(` and `)` are the record type with no fields.
 #[tactic(auto, using(crate::proofs::TypeStepping::no_paren_closing))]
-fn no_types(stack: Stack, ty: TypeState, closing: u64) -> Option<State>
-    ensures { Stays result (start_type First (type_frames ty.forms.levels) (around_view ty.around) (frames stack.levels) (Sign closing Closing)) }
+fn no_types(ty: TypeState, closing: u64) -> Option<Position>
+    ensures { (k : List Frame) → Stands result k (start_type First (type_frames ty.forms.levels) (around_view ty.around) k (Sign closing Closing)) }
 {
-    let TypeState { forms, around } = ty;
-    let mut forms = forms;
-    match forms.take_paren() {
+    let mut ty = ty;
+    match ty.forms.take_paren() {
         Some(opening) => {
             let part = TypePart {
                 ty: TypeSyntax::NoFields { opening, closing },
                 depth: 1,
             };
-            let ty = TypeState { forms, around };
-            let at = Position::HaveType { part, ty };
-            Some(State { stack, at })
+            Some(Position::HaveType { part, ty })
         }
         None => None,
     }
@@ -75,33 +70,26 @@ fn no_types(stack: Stack, ty: TypeState, closing: u64) -> Option<State>
 #[tactic(auto, using(crate::proofs::TypeStepping::no_paren_word))]
 fn start_base(
     alloc: Global,
-    stack: Stack,
     ty: TypeState,
     place: u64,
     word: &str,
-) -> Result<Option<State>, Memory>
-    ensures { Steps result (start_base First (type_frames ty.forms.levels) (around_view ty.around) (frames stack.levels) place word.now) }
+) -> Result<Option<Position>, Memory>
+    ensures { (k : List Frame) → Leads result k (start_base First (type_frames ty.forms.levels) (around_view ty.around) k place word.now) }
 {
-    let TypeState { forms, around } = ty;
-    let mut forms = forms;
-    match forms.take_paren() {
+    let mut ty = ty;
+    match ty.forms.take_paren() {
         Some(opening) => {
             let name = Label::from_str(alloc, word)?;
             let word = Variable { place, name };
-            let ty = TypeState { forms, around };
-            let at = Position::AtTypeWord { opening, word, ty };
-            Ok(Some(State { stack, at }))
+            Ok(Some(Position::AtTypeWord { opening, word, ty }))
         }
-        None => {
-            let ty = TypeState { forms, around };
-            Ok(begin_base(stack, ty, kind_of(word), place))
-        }
+        None => { Ok(begin_base(ty, kind_of(word), place)) }
     }
 }
 
 // The name of a base type.
-fn begin_base(stack: Stack, ty: TypeState, kind: WordKind, place: u64) -> Option<State>
-    ensures { Stays result (begin_base (kind_view kind) (type_frames ty.forms.levels) (around_view ty.around) (frames stack.levels) place) }
+fn begin_base(ty: TypeState, kind: WordKind, place: u64) -> Option<Position>
+    ensures { (k : List Frame) → Stands result k (begin_base (kind_view kind) (type_frames ty.forms.levels) (around_view ty.around) k place) }
 {
     match kind {
         WordKind::Base(base) => {
@@ -109,8 +97,7 @@ fn begin_base(stack: Stack, ty: TypeState, kind: WordKind, place: u64) -> Option
                 ty: TypeSyntax::Base { place, base },
                 depth: 1,
             };
-            let at = Position::HaveType { part, ty };
-            Some(State { stack, at })
+            Some(Position::HaveType { part, ty })
         }
         WordKind::For
         | WordKind::Where

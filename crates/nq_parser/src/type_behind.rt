@@ -1,21 +1,20 @@
 // A token behind a whole type.
-ghost use Rattle.std.specs.Prelude.{◌≡◌, IfOk};
+ghost use Rattle.std.specs.Prelude.{◌≡◌, IfOk, List};
 ghost use Rattle.nq_model.specs.QueryGrammar.{TBag, TParen, TRec};
 ghost use Rattle.nq_model.specs.QueryTokens.{Closing, ClosingBag, Comma, Sign};
 ghost use Rattle.nq_parser.specs.Forms.{around_view, type_head_view};
-ghost use Rattle.nq_parser.specs.Machine.{after_around, after_type, put_type};
-ghost use Rattle.nq_parser.specs.Stacks.{frames};
-ghost use Rattle.nq_parser.specs.States.{Stays, Steps};
+ghost use Rattle.nq_parser.specs.Machine.{Frame, after_around, after_type, put_type};
+ghost use Rattle.nq_parser.specs.States.{Leads, Stands};
 ghost use Rattle.query_syntax.specs.Symbols.{token_view};
 ghost use Rattle.query_syntax.specs.Trees.{type_view};
 ghost use Rattle.nq_parser.specs.TypeSettling.{end_view};
 ghost use Rattle.nq_parser.specs.TypeStacks.{type_frames};
 
 use crate::form::{Around, TypeForm, TypeHead};
+use crate::have::have;
 use crate::join::put_type;
-use crate::part::{Part, TypePart, deeper};
-use crate::stack::Stack;
-use crate::state::{Position, State, TypeState};
+use crate::part::{TypePart, deeper};
+use crate::state::{Position, TypeState};
 use crate::type_settle::{TypeEnd, settle_type};
 use crate::wants::wants_type;
 use nq_model::{Label, Memory, boxed};
@@ -25,12 +24,11 @@ use std::alloc::Global;
 /// A token behind a type: function types end before it, and what stands around them goes on.
 pub fn after_type(
     alloc: Global,
-    stack: Stack,
     part: TypePart,
     ty: TypeState,
     token: Token<'_>,
-) -> Result<Option<State>, Memory>
-    ensures { Steps result (after_type (type_frames ty.forms.levels) (type_view part.ty) (around_view ty.around) (frames stack.levels) (token_view token.entry)) }
+) -> Result<Option<Position>, Memory>
+    ensures { (k : List Frame) → Leads result k (after_type (type_frames ty.forms.levels) (type_view part.ty) (around_view ty.around) k (token_view token.entry)) }
 {
     let place = token.place;
     match token.symbol {
@@ -39,11 +37,11 @@ pub fn after_type(
                 taken: part,
                 arrow: place,
             };
-            wants_type(stack, ty, form)
+            wants_type(ty, form)
         }
-        Symbol::Closing => close(alloc, stack, part, ty, place),
-        Symbol::ClosingBag => close_bag(alloc, stack, part, ty, place),
-        Symbol::Comma => comma_behind(alloc, stack, part, ty, place),
+        Symbol::Closing => close(alloc, part, ty, place),
+        Symbol::ClosingBag => close_bag(alloc, part, ty, place),
+        Symbol::Comma => comma_behind(alloc, part, ty, place),
         _ => Ok(None),
     }
 }
@@ -51,35 +49,30 @@ pub fn after_type(
 // A `)` behind a type.
 fn close(
     alloc: Global,
-    stack: Stack,
     part: TypePart,
     ty: TypeState,
     closing: u64,
-) -> Result<Option<State>, Memory>
-    ensures { Steps result (after_type (type_frames ty.forms.levels) (type_view part.ty) (around_view ty.around) (frames stack.levels) (Sign closing Closing)) }
+) -> Result<Option<Position>, Memory>
+    ensures { (k : List Frame) → Leads result k (after_type (type_frames ty.forms.levels) (type_view part.ty) (around_view ty.around) k (Sign closing Closing)) }
 {
-    let TypeState { forms, around } = ty;
-    let mut forms = forms;
-    let (part, end) = settle_type(alloc, &mut forms, part)?;
-    let ty = TypeState { forms, around };
-    close_end(alloc, stack, part, end, ty, closing)
+    let mut ty = ty;
+    let (part, end) = settle_type(alloc, &mut ty.forms, part)?;
+    close_end(alloc, part, end, ty, closing)
 }
 
 fn close_end(
     alloc: Global,
-    stack: Stack,
     part: TypePart,
     end: TypeEnd,
     ty: TypeState,
     closing: u64,
-) -> Result<Option<State>, Memory>
-    ensures { Steps result (after_type (end_view end (type_frames ty.forms.levels)) (type_view part.ty) (around_view ty.around) (frames stack.levels) (Sign closing Closing)) }
+) -> Result<Option<Position>, Memory>
+    ensures { (k : List Frame) → Leads result k (after_type (end_view end (type_frames ty.forms.levels)) (type_view part.ty) (around_view ty.around) k (Sign closing Closing)) }
 {
     match end {
         TypeEnd::Paren { opening } => {
             let part = paren(alloc, opening, part, closing)?;
-            let at = Position::HaveType { part, ty };
-            Ok(Some(State { stack, at }))
+            Ok(Some(Position::HaveType { part, ty }))
         }
         TypeEnd::Field {
             head,
@@ -88,17 +81,16 @@ fn close_end(
             mark,
         } => {
             let part = record(alloc, head, place, label, mark, part, closing)?;
-            let at = Position::HaveType { part, ty };
-            Ok(Some(State { stack, at }))
+            Ok(Some(Position::HaveType { part, ty }))
         }
         TypeEnd::Bag { .. } => Ok(None),
-        TypeEnd::Whole => Ok(close_around(stack, part, ty.around, closing)),
+        TypeEnd::Whole => Ok(close_around(part, ty.around, closing)),
     }
 }
 
 // The `)` behind the type of a function's variable.
-fn close_around(stack: Stack, taken: TypePart, around: Around, closing: u64) -> Option<State>
-    ensures { Stays result (after_around (around_view around) (type_view taken.ty) (frames stack.levels) (Sign closing Closing)) }
+fn close_around(taken: TypePart, around: Around, closing: u64) -> Option<Position>
+    ensures { (k : List Frame) → Stands result k (after_around (around_view around) (type_view taken.ty) k (Sign closing Closing)) }
 {
     match around {
         Around::Fun {
@@ -107,15 +99,14 @@ fn close_around(stack: Stack, taken: TypePart, around: Around, closing: u64) -> 
             variable,
             colon,
         } => {
-            let at = Position::AtFunClose {
+            Some(Position::AtFunClose {
                 place,
                 opening,
                 variable,
                 colon,
                 taken,
                 closing,
-            };
-            Some(State { stack, at })
+            })
         }
         Around::Nil { .. } => None,
     }
@@ -159,38 +150,33 @@ fn record(
 // A `]` behind a type.
 fn close_bag(
     alloc: Global,
-    stack: Stack,
     part: TypePart,
     ty: TypeState,
     closing: u64,
-) -> Result<Option<State>, Memory>
-    ensures { Steps result (after_type (type_frames ty.forms.levels) (type_view part.ty) (around_view ty.around) (frames stack.levels) (Sign closing ClosingBag)) }
+) -> Result<Option<Position>, Memory>
+    ensures { (k : List Frame) → Leads result k (after_type (type_frames ty.forms.levels) (type_view part.ty) (around_view ty.around) k (Sign closing ClosingBag)) }
 {
-    let TypeState { forms, around } = ty;
-    let mut forms = forms;
-    let (part, end) = settle_type(alloc, &mut forms, part)?;
-    let ty = TypeState { forms, around };
-    close_bag_end(alloc, stack, part, end, ty, closing)
+    let mut ty = ty;
+    let (part, end) = settle_type(alloc, &mut ty.forms, part)?;
+    close_bag_end(alloc, part, end, ty, closing)
 }
 
 fn close_bag_end(
     alloc: Global,
-    stack: Stack,
     part: TypePart,
     end: TypeEnd,
     ty: TypeState,
     closing: u64,
-) -> Result<Option<State>, Memory>
-    ensures { Steps result (after_type (end_view end (type_frames ty.forms.levels)) (type_view part.ty) (around_view ty.around) (frames stack.levels) (Sign closing ClosingBag)) }
+) -> Result<Option<Position>, Memory>
+    ensures { (k : List Frame) → Leads result k (after_type (end_view end (type_frames ty.forms.levels)) (type_view part.ty) (around_view ty.around) k (Sign closing ClosingBag)) }
 {
     match end {
         TypeEnd::Bag { opening } => {
             let part = bag(alloc, opening, part, closing)?;
-            let at = Position::HaveType { part, ty };
-            Ok(Some(State { stack, at }))
+            Ok(Some(Position::HaveType { part, ty }))
         }
         TypeEnd::Paren { .. } | TypeEnd::Field { .. } => Ok(None),
-        TypeEnd::Whole => close_nil(alloc, stack, part, ty.around, closing),
+        TypeEnd::Whole => close_nil(alloc, part, ty.around, closing),
     }
 }
 
@@ -210,12 +196,11 @@ fn bag(alloc: Global, opening: u64, element: TypePart, closing: u64) -> Result<T
 // The `]` of an empty bag.
 fn close_nil(
     alloc: Global,
-    stack: Stack,
     element: TypePart,
     around: Around,
     closing: u64,
-) -> Result<Option<State>, Memory>
-    ensures { Steps result (after_around (around_view around) (type_view element.ty) (frames stack.levels) (Sign closing ClosingBag)) }
+) -> Result<Option<Position>, Memory>
+    ensures { (k : List Frame) → Leads result k (after_around (around_view around) (type_view element.ty) k (Sign closing ClosingBag)) }
 {
     match around {
         Around::Nil { opening, colon } => {
@@ -226,9 +211,7 @@ fn close_nil(
                 element: element.ty,
                 closing,
             };
-            let part = Part::new(alloc, syntax, 1, types)?;
-            let at = Position::Have { part };
-            Ok(Some(State { stack, at }))
+            have(alloc, syntax, 1, types)
         }
         Around::Fun { .. } => Ok(None),
     }
@@ -237,29 +220,25 @@ fn close_nil(
 // A comma behind a type.
 fn comma_behind(
     alloc: Global,
-    stack: Stack,
     part: TypePart,
     ty: TypeState,
     comma: u64,
-) -> Result<Option<State>, Memory>
-    ensures { Steps result (after_type (type_frames ty.forms.levels) (type_view part.ty) (around_view ty.around) (frames stack.levels) (Sign comma Comma)) }
+) -> Result<Option<Position>, Memory>
+    ensures { (k : List Frame) → Leads result k (after_type (type_frames ty.forms.levels) (type_view part.ty) (around_view ty.around) k (Sign comma Comma)) }
 {
-    let TypeState { forms, around } = ty;
-    let mut forms = forms;
-    let (part, end) = settle_type(alloc, &mut forms, part)?;
-    let ty = TypeState { forms, around };
-    comma_end(alloc, stack, part, end, ty, comma)
+    let mut ty = ty;
+    let (part, end) = settle_type(alloc, &mut ty.forms, part)?;
+    comma_end(alloc, part, end, ty, comma)
 }
 
 fn comma_end(
     alloc: Global,
-    stack: Stack,
     part: TypePart,
     end: TypeEnd,
     ty: TypeState,
     comma: u64,
-) -> Result<Option<State>, Memory>
-    ensures { Steps result (after_type (end_view end (type_frames ty.forms.levels)) (type_view part.ty) (around_view ty.around) (frames stack.levels) (Sign comma Comma)) }
+) -> Result<Option<Position>, Memory>
+    ensures { (k : List Frame) → Leads result k (after_type (end_view end (type_frames ty.forms.levels)) (type_view part.ty) (around_view ty.around) k (Sign comma Comma)) }
 {
     match end {
         TypeEnd::Field {
@@ -269,8 +248,7 @@ fn comma_end(
             mark,
         } => {
             let fields = put_type(alloc, head, place, label, mark, part)?;
-            let at = Position::AtTypeComma { fields, comma, ty };
-            Ok(Some(State { stack, at }))
+            Ok(Some(Position::AtTypeComma { fields, comma, ty }))
         }
         TypeEnd::Paren { .. } | TypeEnd::Bag { .. } => Ok(None),
         TypeEnd::Whole => match ty.around {

@@ -1,16 +1,16 @@
 // A token where one certain token of a record type has to come.
+ghost use Rattle.std.specs.Prelude.{List};
 ghost use Rattle.nq_model.specs.QueryGrammar.{First, kind};
 ghost use Rattle.nq_parser.specs.Forms.{around_view, type_fields_view};
-ghost use Rattle.nq_parser.specs.Machine.{at_type_comma, at_type_label, at_type_word, no_type_label};
-ghost use Rattle.nq_parser.specs.Stacks.{frames};
-ghost use Rattle.nq_parser.specs.States.{Steps};
+ghost use Rattle.nq_parser.specs.Machine.{Frame, at_type_comma, at_type_label, at_type_word, no_type_label};
+ghost use Rattle.nq_parser.specs.States.{Leads};
 ghost use Rattle.query_syntax.specs.Symbols.{token_view};
 ghost use Rattle.nq_parser.specs.TypeStacks.{type_frames};
+ghost use Rattle.nq_parser.specs.Words.{kind_view};
 
 use crate::form::{TypeForm, TypeHead};
 use crate::part::{TypeFields, TypePart};
-use crate::stack::Stack;
-use crate::state::{Position, State, TypeState};
+use crate::state::{Position, TypeState};
 use crate::type_behind::after_type;
 use crate::wants::wants_type;
 use crate::words::{WordKind, kind_of};
@@ -21,13 +21,12 @@ use std::alloc::Global;
 /// The label behind a comma in a record type.
 pub fn at_type_comma(
     alloc: Global,
-    stack: Stack,
     fields: TypeFields,
     comma: u64,
     ty: TypeState,
     token: Token<'_>,
-) -> Result<Option<State>, Memory>
-    ensures { Steps result (at_type_comma (type_fields_view fields) comma (type_frames ty.forms.levels) (around_view ty.around) (frames stack.levels) (token_view token.entry)) }
+) -> Result<Option<Position>, Memory>
+    ensures { (k : List Frame) → Leads result k (at_type_comma (type_fields_view fields) comma (type_frames ty.forms.levels) (around_view ty.around) k (token_view token.entry)) }
 {
     match token.symbol {
         Symbol::Word(word) => {
@@ -35,13 +34,12 @@ pub fn at_type_comma(
                 place: token.place,
                 name: Label::from_str(alloc, word)?,
             };
-            let at = Position::AtTypeLabel {
+            Ok(Some(Position::AtTypeLabel {
                 fields,
                 comma,
                 label,
                 ty,
-            };
-            Ok(Some(State { stack, at }))
+            }))
         }
         _ => Ok(None),
     }
@@ -49,14 +47,13 @@ pub fn at_type_comma(
 
 /// The `:` behind a label in a record type.
 pub fn at_type_label(
-    stack: Stack,
     fields: TypeFields,
     comma: u64,
     label: Variable,
     ty: TypeState,
     token: Token<'_>,
-) -> Result<Option<State>, Memory>
-    ensures { Steps result (at_type_label (type_fields_view fields) comma label.place label.name (type_frames ty.forms.levels) (around_view ty.around) (frames stack.levels) (token_view token.entry)) }
+) -> Result<Option<Position>, Memory>
+    ensures { (k : List Frame) → Leads result k (at_type_label (type_fields_view fields) comma label.place label.name (type_frames ty.forms.levels) (around_view ty.around) k (token_view token.entry)) }
 {
     match token.symbol {
         Symbol::Colon => {
@@ -66,7 +63,7 @@ pub fn at_type_label(
                 label: label.name,
                 mark: token.place,
             };
-            wants_type(stack, ty, form)
+            wants_type(ty, form)
         }
         _ => Ok(None),
     }
@@ -75,13 +72,12 @@ pub fn at_type_label(
 /// A token behind `(` and a word: a `:`, or the word is a type.
 pub fn at_type_word(
     alloc: Global,
-    stack: Stack,
     opening: u64,
     word: Variable,
     ty: TypeState,
     token: Token<'_>,
-) -> Result<Option<State>, Memory>
-    ensures { Steps result (at_type_word First opening word.place word.name (type_frames ty.forms.levels) (around_view ty.around) (frames stack.levels) (token_view token.entry)) }
+) -> Result<Option<Position>, Memory>
+    ensures { (k : List Frame) → Leads result k (at_type_word First opening word.place word.name (type_frames ty.forms.levels) (around_view ty.around) k (token_view token.entry)) }
 {
     match token.symbol {
         Symbol::Colon => {
@@ -91,37 +87,46 @@ pub fn at_type_word(
                 label: word.name,
                 mark: token.place,
             };
-            wants_type(stack, ty, form)
+            wants_type(ty, form)
         }
-        _ => no_label(alloc, stack, opening, word, ty, token),
+        _ => no_label(alloc, opening, word, ty, token),
     }
 }
 
 // The word behind a `(` is a type, and this token stands behind it.
 fn no_label(
     alloc: Global,
-    stack: Stack,
     opening: u64,
     word: Variable,
     ty: TypeState,
     token: Token<'_>,
-) -> Result<Option<State>, Memory>
-    ensures { Steps result (no_type_label (kind First word.name) opening word.place (type_frames ty.forms.levels) (around_view ty.around) (frames stack.levels) (token_view token.entry)) }
+) -> Result<Option<Position>, Memory>
+    ensures { (k : List Frame) → Leads result k (no_type_label (kind First word.name) opening word.place (type_frames ty.forms.levels) (around_view ty.around) k (token_view token.entry)) }
 {
-    match kind_of(word.name.as_str()) {
+    let kind = kind_of(word.name.as_str());
+    base_behind(alloc, opening, kind, word.place, ty, token)
+}
+
+// A word of this kind behind a `(`, and the token behind it.
+fn base_behind(
+    alloc: Global,
+    opening: u64,
+    kind: WordKind,
+    place: u64,
+    ty: TypeState,
+    token: Token<'_>,
+) -> Result<Option<Position>, Memory>
+    ensures { (k : List Frame) → Leads result k (no_type_label (kind_view kind) opening place (type_frames ty.forms.levels) (around_view ty.around) k (token_view token.entry)) }
+{
+    match kind {
         WordKind::Base(base) => {
-            let TypeState { forms, around } = ty;
-            let mut forms = forms;
-            forms.push(TypeForm::Paren { opening })?;
+            let mut ty = ty;
+            ty.forms.push(TypeForm::Paren { opening })?;
             let part = TypePart {
-                ty: TypeSyntax::Base {
-                    place: word.place,
-                    base,
-                },
+                ty: TypeSyntax::Base { place, base },
                 depth: 1,
             };
-            let ty = TypeState { forms, around };
-            after_type(alloc, stack, part, ty, token)
+            after_type(alloc, part, ty, token)
         }
         WordKind::For
         | WordKind::Where

@@ -67,17 +67,27 @@ impl TypeStack {
         }
     }
 
+    // How deep the type is at least with this form inside the others.
+    fn needs_with(&self, form: &TypeForm) -> Result<u64, Memory>
+        ensures { IfOk result (λ deep. deep ≡ type_needs (type_form_view form.now ∷ type_frames self.now.levels)) }
+    {
+        match held(form).checked_add(self.height() as u64) {
+            Some(deep) => Ok(self.needs().max(deeper(deep)?)),
+            None => Err(Memory),
+        }
+    }
+
     /// With one more form, inside the others.
     pub fn push(&mut self, form: TypeForm) -> Result<(), Memory>
         ensures { IfOk result (λ u. type_frames self.new.levels ≡ type_form_view form ∷ type_frames self.old.levels) }
     {
-        let height = self.levels.len() as u64;
-        let deep = match held(&form).checked_add(height) {
-            Some(deep) => deeper(deep)?,
-            None => return Err(Memory),
-        };
-        let needs = self.needs().max(deep);
-        self.levels.push(TypeLevel { form, needs })
+        match self.needs_with(&form) {
+            Ok(needs) => self.levels.push(TypeLevel { form, needs }),
+            Err(fault) => {
+                drop(form);
+                Err(fault)
+            }
+        }
     }
 
     /// The innermost form, taken off.
@@ -107,7 +117,7 @@ impl TypeStack {
         match self.top() {
             Some(TypeForm::Paren { opening }) => {
                 let opening = *opening;
-                self.pop();
+                drop(self.pop());
                 Some(opening)
             }
             _ => None,

@@ -1,36 +1,29 @@
-// States behind a token.
-ghost use Rattle.std.specs.Prelude.{◌∷◌, Some};
+// Positions behind a form that was begun.
+ghost use Rattle.std.specs.Prelude.{◌∷◌, List, Some};
 ghost use Rattle.nq_parser.specs.Forms.{around_view, form_view, type_form_view};
-ghost use Rattle.nq_parser.specs.Machine.{Want, WantType};
+ghost use Rattle.nq_parser.specs.Machine.{Frame, Want, WantType};
 ghost use Rattle.nq_parser.specs.Stacks.{frames};
-ghost use Rattle.nq_parser.specs.States.{Steps};
+ghost use Rattle.nq_parser.specs.States.{Leads};
 ghost use Rattle.nq_parser.specs.TypeStacks.{type_frames};
 
 use crate::form::{Form, TypeForm};
 use crate::stack::Stack;
-use crate::state::{Position, State, TypeState};
+use crate::state::{Position, TypeState};
 use nq_model::Memory;
 
 /// An expression has to begin, inside one form more.
-pub fn wants(stack: Stack, form: Form) -> Result<Option<State>, Memory>
-    ensures { Steps result (Some (Want (form_view form ∷ frames stack.levels))) }
+pub fn wants(stack: &mut Stack, form: Form) -> Result<Option<Position>, Memory>
+    ensures { Leads result (frames stack.new.levels) (Some (Want (form_view form ∷ frames stack.old.levels))) }
 {
-    let mut stack = stack;
     stack.push(form)?;
-    Ok(Some(State {
-        stack,
-        at: Position::Want,
-    }))
+    Ok(Some(Position::Want))
 }
 
 /// A type has to begin, inside one form more.
-pub fn wants_type(stack: Stack, ty: TypeState, form: TypeForm) -> Result<Option<State>, Memory>
-    ensures { Steps result (Some (WantType (type_form_view form ∷ type_frames ty.forms.levels) (around_view ty.around) (frames stack.levels))) }
+pub fn wants_type(ty: TypeState, form: TypeForm) -> Result<Option<Position>, Memory>
+    ensures { (k : List Frame) → Leads result k (Some (WantType (type_form_view form ∷ type_frames ty.forms.levels) (around_view ty.around) k)) }
 {
-    let TypeState { forms, around } = ty;
-    let mut forms = forms;
-    forms.push(form)?;
-    let ty = TypeState { forms, around };
-    let at = Position::WantType { ty };
-    Ok(Some(State { stack, at }))
+    let mut ty = ty;
+    ty.forms.push(form)?;
+    Ok(Some(Position::WantType { ty }))
 }
