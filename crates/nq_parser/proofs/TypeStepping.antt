@@ -68,3 +68,8 @@ foreign p symbols.Closing a b c d = b refl
 foreign p symbols.ClosingBag a b c d = c refl
 foreign p symbols.Comma a b c d = d refl
 foreign p s a b c d = tt
+
+-- a comma ends no type that stands in an expression
+pub around_comma : (o : Around) (t : TypeSyntax) (k : List Frame) (q : ℕ) → after_around o t k (Sign q Comma) ≡ None
+around_comma (InNil p c) t k q = refl
+around_comma (InFun p v y a c) t k q = refl

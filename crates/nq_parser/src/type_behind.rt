@@ -231,6 +231,7 @@ fn comma_behind(
     comma_end(alloc, part, end, ty, comma)
 }
 
+#[tactic(auto, using(crate::proofs::TypeStepping::around_comma))]
 fn comma_end(
     alloc: Global,
     part: TypePart,
@@ -250,9 +251,6 @@ fn comma_end(
             let fields = put_type(alloc, head, place, label, mark, part)?;
             Ok(Some(Position::AtTypeComma { fields, comma, ty }))
         }
-        TypeEnd::Paren { .. } | TypeEnd::Bag { .. } => Ok(None),
-        TypeEnd::Whole => match ty.around {
-            Around::Nil { .. } | Around::Fun { .. } => Ok(None),
-        },
+        TypeEnd::Paren { .. } | TypeEnd::Bag { .. } | TypeEnd::Whole => Ok(None),
     }
 }

@@ -17,3 +17,10 @@ invariant_of-result-in-Next c =
     let more = types_put f e xs ys name t longer in
     let d : type_fields_depth (type_fields f e (typed ys)) ≡ max (type_fields_depth (type_fields f e (typed xs))) (type_depth (type_view t)) = ap type_fields_depth more in
     record { measured = cc }
+
+pub returns-in_ok-push-in-Next : goal.returns-in_ok-push-in-Next
+returns-in_ok-push-in-Next c =
+    let f = c.in-Next.before.first_name in
+    let e = type_view c.in-Next.before.first.value in
+    let name : FieldName = record { before = c.in-Next.comma; place = c.args.place; label = c.args.label; mark = c.args.mark } in
+    rw c.in-Next.is (types_put f e c.in-Next.before.others c.push.new.self name c.args.last.ty c.in_ok-push-in-Next.ensures.ok)
