@@ -145,7 +145,7 @@ pub fn joined(alloc: Global, form: Form, last: Part) -> Result<Part, Memory>
 }
 
 /// The fields with one more, whose expression is the last part.
-#[tactic(auto, using(crate::proofs::Joining::fields_put, crate::proofs::Joining::one_put))]
+#[tactic(auto, using(crate::proofs::Joining::one_put))]
 pub fn put_field(
     alloc: Global,
     head: FieldHead,
@@ -199,7 +199,7 @@ pub fn put_field(
 }
 
 /// The fields of a record type with one more, whose type is the last part.
-#[tactic(auto, using(crate::proofs::Joining::types_put, crate::proofs::Joining::one_type_put))]
+#[tactic(auto, using(crate::proofs::Joining::one_type_put))]
 pub fn put_type(
     alloc: Global,
     head: TypeHead,
