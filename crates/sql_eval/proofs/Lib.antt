@@ -23,7 +23,7 @@ pub mod RulingOut
 pub mod Skipping
 pub mod Chaining
 pub mod Holding
-pub mod Sifting
+pub mod Marking
 pub mod Sources
 pub mod Meeting
 pub mod Naming

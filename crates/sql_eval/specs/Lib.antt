@@ -7,6 +7,7 @@ pub mod Conditions
 pub mod Chains
 pub mod Keys
 pub mod Joins
+pub mod Asking
 pub mod Walks
 pub mod Meanings
 pub mod Standing
