@@ -8,5 +8,6 @@ pub mod FieldFacts
 pub mod Choices
 pub mod BagTests
 pub mod Walks
+pub mod TermForms
 pub mod Whole
 pub mod NumberedBodies

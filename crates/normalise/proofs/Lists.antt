@@ -2,7 +2,7 @@
 use Rattle.std.proofs.Common.{◌≡◌, ℕ, zero, suc, List, [], ◌∷◌, ◌++◌, map, refl, sym, ap, ap₂, ◌∙◌, append_assoc, length, ◌+◌, ◌<◌, ◌≤◌, arith}
 use Rattle.std.proofs.lemmas.List.{map-append}
 use Rattle.nq_model.specs.NamedRows.{Label}
-use Rattle.nq_ir.specs.RawForms.{RawBase, RawConds, and_raw, raw_test, RawBody, raw_field, RawComps, no_raw_comp, raw_comp, up_index, up_base, up_bases, up_body, up_fields, up_comps, both_raw, append_raw, inside, where_raw, raw_tests_of}
+use Rattle.nq_ir.specs.RawForms.{RawBase, RawConds, no_raw, and_raw, raw_test, RawBody, raw_field, RawComps, no_raw_comp, raw_comp, up_index, up_base, up_bases, up_body, up_fields, up_comps, both_raw, append_raw, inside, where_raw, raw_tests_of}
 use Rattle.normalise.specs.declared.raw.MovedBase.{MovedBase}
 use Rattle.normalise.specs.declared.raw.RawTest.{RawTest as CodeTest, out-RawTest, roll-RawTest}
 use Rattle.normalise.specs.declared.raw.MovedBody.{MovedBody}
@@ -62,18 +62,19 @@ comp_made n c m x tables conds deepest body e g f h =
     ∙ ap (λ z. record { tables = x.tables; conds = up_bases n (length x.tables + c) (raw_conds x.conds); body = z }) (h ∙ ap (λ k. up_body n k (moved_body x.body)) e)
     ∙ ap (up_comp n c) (sym (comp_is x))
 
-pub comp_inside : (gs : List Label) (bs : List MovedBase) (x : CodeComp) (tables : List Label) (copies conds : List MovedBase) (deepest : ℕ) → tables ≡ gs ++ x.tables → conds ≡ copies ++ x.conds → map moved_base copies ≡ map (up_base (length x.tables) 0) (map moved_base bs) → comp_part (roll-RawComp (record { tables = tables; conds = conds; deepest = deepest; body = x.body })) ≡ inside_part gs (raw_conds bs) (comp_part x)
-comp_inside gs bs x tables copies conds deepest g k f =
-    comp_is (roll-RawComp (record { tables = tables; conds = conds; deepest = deepest; body = x.body }))
-    ∙ ap₂ (λ (y : List Label) z. record { tables = y; conds = z; body = moved_body x.body }) g (ap raw_conds k ∙ conds_inside (length x.tables) copies bs x.conds f)
-    ∙ ap (inside_part gs (raw_conds bs)) (sym (comp_is x))
+pub comp_inside : (o : TestPart) (x : CodeComp) (t : CodeTest) → test_part t ≡ test_inside o.tables o.conds (test_part (roll-RawTest (record { tables = x.tables; conds = x.conds; deepest = x.deepest }))) → comp_part (roll-RawComp (record { tables = (out-RawTest t).tables; conds = (out-RawTest t).conds; deepest = (out-RawTest t).deepest; body = x.body })) ≡ inside_part o.tables o.conds (comp_part x)
+comp_inside o x t h =
+    comp_is (roll-RawComp (record { tables = (out-RawTest t).tables; conds = (out-RawTest t).conds; deepest = (out-RawTest t).deepest; body = x.body }))
+    ∙ ap (λ (p : TestPart). record { tables = p.tables; conds = p.conds; body = moved_body x.body }) (sym (test_is t) ∙ h ∙ ap (test_inside o.tables o.conds) (test_rolled x.tables x.conds x.deepest))
+    ∙ ap (inside_part o.tables o.conds) (sym (comp_is x))
 
 -- one more condition before those of each comprehension
-pub guarded_is : (x : MovedBase) (parts all : List CodeComp) → map comp_part all ≡ map (inside_part [] (raw_conds (x ∷ []))) (map comp_part parts) → raw_comps all ≡ where_raw (moved_base x) (raw_comps parts)
-guarded_is x parts all e = ap comps_of e ∙ inside_of [] (raw_conds (x ∷ [])) (map comp_part parts)
+pub guarded_is : (b : RawBase) (o : TestPart) (parts all : List CodeComp) → (o.tables ≡ []) × (o.conds ≡ and_raw b no_raw) → map comp_part all ≡ map (inside_part o.tables o.conds) (map comp_part parts) → raw_comps all ≡ where_raw b (raw_comps parts)
+guarded_is b o parts all h e =
+    ap comps_of (e ∙ ap₂ (λ (gs : List Label) bs. map (inside_part gs bs) (map comp_part parts)) h.0 h.1) ∙ inside_of [] (and_raw b no_raw) (map comp_part parts)
 
-pub bodiless_is : (x : CodeComp) → test_part (roll-RawTest (record { tables = x.tables; conds = x.conds })) ≡ bodiless (comp_part x)
-bodiless_is x = test_rolled x.tables x.conds ∙ ap bodiless (sym (comp_is x))
+pub bodiless_is : (x : CodeComp) → test_part (roll-RawTest (record { tables = x.tables; conds = x.conds; deepest = x.deepest })) ≡ bodiless (comp_part x)
+bodiless_is x = test_rolled x.tables x.conds x.deepest ∙ ap bodiless (sym (comp_is x))
 
 pub tests_bodiless : (cs : List CompPart) → tests_of (map bodiless cs) ≡ raw_tests_of (comps_of cs)
 tests_bodiless [] = refl
@@ -90,14 +91,20 @@ pub tests_inside_of : (gs : List Label) (bs : RawConds) (xs : List TestPart) →
 tests_inside_of gs bs [] = refl
 tests_inside_of gs bs (x ∷ xs) = ap (raw_test (gs ++ x.tables) (both_raw (up_bases (length x.tables) 0 bs) x.conds)) (tests_inside_of gs bs xs)
 
-pub test_inside_is : (gs : List Label) (bs : List MovedBase) (x : CodeTest) (tables : List Label) (copies conds : List MovedBase) → tables ≡ gs ++ (out-RawTest x).tables → conds ≡ copies ++ (out-RawTest x).conds → map moved_base copies ≡ map (up_base (length (out-RawTest x).tables) 0) (map moved_base bs) → test_part (roll-RawTest (record { tables = tables; conds = conds })) ≡ test_inside gs (raw_conds bs) (test_part x)
-test_inside_is gs bs x tables copies conds g k f =
-    test_rolled tables conds
-    ∙ ap₂ (λ (y : List Label) z. record { tables = y; conds = z }) g (ap raw_conds k ∙ conds_inside (length (out-RawTest x).tables) copies bs (out-RawTest x).conds f)
-    ∙ ap (test_inside gs (raw_conds bs)) (sym (test_is x))
+pub test_inside_is : (o x : CodeTest) (tables : List Label) (copies conds : List MovedBase) (deepest : ℕ) → tables ≡ (out-RawTest o).tables ++ (out-RawTest x).tables → conds ≡ copies ++ (out-RawTest x).conds → map moved_base copies ≡ map (up_base (length (out-RawTest x).tables) 0) (map moved_base (out-RawTest o).conds) → test_part (roll-RawTest (record { tables = tables; conds = conds; deepest = deepest })) ≡ test_inside (test_part o).tables (test_part o).conds (test_part x)
+test_inside_is o x tables copies conds deepest g k f =
+    test_rolled tables conds deepest
+    ∙ ap₂ (λ (y : List Label) z. record { tables = y; conds = z }) g (ap raw_conds k ∙ conds_inside (length (out-RawTest x).tables) copies (out-RawTest o).conds (out-RawTest x).conds f)
+    ∙ ap₂ (λ (p q : TestPart). test_inside p.tables p.conds q) (sym (test_is o)) (sym (test_is x))
 
-pub tests_guarded : (x : MovedBase) (parts all : List CodeTest) → map test_part all ≡ map (test_inside [] (raw_conds (x ∷ []))) (map test_part parts) → raw_tests all ≡ where_tests (moved_base x) (raw_tests parts)
-tests_guarded x parts all e = ap tests_of e ∙ tests_inside_of [] (raw_conds (x ∷ [])) (map test_part parts)
+-- a copy of generators and conditions
+pub test_same : (x : CodeTest) (tables : List Label) (conds : List MovedBase) (deepest : ℕ) → tables ≡ (out-RawTest x).tables → map moved_base conds ≡ map moved_base (out-RawTest x).conds → test_part (roll-RawTest (record { tables = tables; conds = conds; deepest = deepest })) ≡ test_part x
+test_same x tables conds deepest g f =
+    test_rolled tables conds deepest ∙ ap₂ (λ (y : List Label) z. record { tables = y; conds = conds_of z }) g f ∙ sym (test_is x)
+
+pub tests_guarded : (b : RawBase) (o : TestPart) (parts all : List CodeTest) → (o.tables ≡ []) × (o.conds ≡ and_raw b no_raw) → map test_part all ≡ map (test_inside o.tables o.conds) (map test_part parts) → raw_tests all ≡ where_tests b (raw_tests parts)
+tests_guarded b o parts all h e =
+    ap tests_of (e ∙ ap₂ (λ (gs : List Label) bs. map (test_inside gs bs) (map test_part parts)) h.0 h.1) ∙ tests_inside_of [] (and_raw b no_raw) (map test_part parts)
 
 -- the tests of comprehensions one behind the other, and inside others
 pub tests_of_append : (cs ds : RawComps) → raw_tests_of (append_raw cs ds) ≡ append_tests (raw_tests_of cs) (raw_tests_of ds)

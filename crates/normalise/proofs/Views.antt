@@ -1,5 +1,5 @@
 -- The raw forms of the code's bodies, form by form.
-use Rattle.std.proofs.Common.{◌≡◌, List, map, sym, ap, ◌∙◌}
+use Rattle.std.proofs.Common.{◌≡◌, ℕ, List, map, sym, ap, ◌∙◌}
 use Rattle.nq_model.specs.NamedRows.{Label}
 use Rattle.nq_model.specs.declared.term.Binary.{Binary}
 use Rattle.nq_model.specs.declared.term.Unary.{Unary}
@@ -36,8 +36,8 @@ base_moved b = ap raw_base (sym (base.rolls-Moved b)) ∙ fold-roll-RawBase RawB
 pub test_is : (t : CodeTest) → test_part t ≡ record { tables = (out-RawTest t).tables; conds = raw_conds (out-RawTest t).conds }
 test_is t = fold_out-RawTest RawBase RawBase TestPart base_layer moved_layer test_layer t
 
-pub test_rolled : (tables : List Label) (conds : List MovedBase) → test_part (roll-RawTest (record { tables = tables; conds = conds })) ≡ record { tables = tables; conds = raw_conds conds }
-test_rolled tables conds = fold-roll-RawTest RawBase RawBase TestPart base_layer moved_layer test_layer (record { tables = tables; conds = conds })
+pub test_rolled : (tables : List Label) (conds : List MovedBase) (deepest : ℕ) → test_part (roll-RawTest (record { tables = tables; conds = conds; deepest = deepest })) ≡ record { tables = tables; conds = raw_conds conds }
+test_rolled tables conds deepest = fold-roll-RawTest RawBase RawBase TestPart base_layer moved_layer test_layer (record { tables = tables; conds = conds; deepest = deepest })
 
 pub body_plain : (b : MovedBase) → raw_body (body.Plain b) ≡ raw_plain (moved_base b)
 body_plain b = ap raw_body (sym (body.rolls-Plain b)) ∙ fold-roll-RawBody RawBody RawBody CompPart body_layer moved_body_layer comp_layer (RawBody-F.Plain b)

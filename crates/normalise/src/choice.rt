@@ -10,6 +10,7 @@ use nq_model::{Label, List, Memory};
 use std::alloc::Global;
 
 /// The choice between two bodies, whose parts are shared and not copied.
+#[cycle(choice)]
 #[inline(never)]
 pub(crate) fn chosen(
     alloc: Global,
@@ -55,9 +56,8 @@ fn fields_choice(
 {
     let mut right = reversed(no);
     let mut all = List::with_capacity(alloc, yes.len())?;
-    for (label, yes) in yes.into_vec() {
-        let body = field_choice(alloc, test, yes, right.pop())?;
-        all.push((label, body))?;
+    for field in yes.into_vec() {
+        all.push(field_choice(alloc, test, field, right.pop())?)?;
     }
     Ok(all)
 }
@@ -66,17 +66,15 @@ fn fields_choice(
 fn field_choice(
     alloc: Global,
     test: &MovedBase,
-    yes: MovedBody,
+    yes: (Label, MovedBody),
     no: Option<(Label, MovedBody)>,
-) -> Result<MovedBody, Memory>
-    ensures { IfOk result (λ r. MatchOption no (moved_body r ≡ moved_body yes) (λ f. moved_body r ≡ choice (moved_base test.now) (moved_body yes) (moved_body f.1))) }
+) -> Result<(Label, MovedBody), Memory>
+    ensures { IfOk result (λ r. (r.0 ≡ yes.0) × MatchOption no (moved_body r.1 ≡ moved_body yes.1) (λ f. moved_body r.1 ≡ choice (moved_base test.now) (moved_body yes.1) (moved_body f.1))) }
 {
     match no {
         Some((_, no)) => {
-            let yes = yes.opened(alloc)?;
-            let no = no.opened(alloc)?;
-            let chosen = choice(alloc, test, yes, no)?;
-            MovedBody::new(alloc, chosen)
+            let (label, yes) = yes;
+            Ok((label, chosen(alloc, test, yes, no)?))
         }
         None => Ok(yes),
     }

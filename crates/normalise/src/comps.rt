@@ -1,11 +1,11 @@
 // Lists of comprehensions: one behind the other, and inside generators and conditions.
-ghost use Rattle.std.specs.Prelude.{◌≡◌, ◌++◌, IfOk, OnOk, map, reverse};
-ghost use Rattle.nq_ir.specs.RawForms.{append_raw, no_raw, no_raw_comp, raw_base_in, raw_comp, raw_comps_in, where_raw};
-ghost use Rattle.normalise.specs.Raw.{comp_part, inside_part, moved_base, moved_body, raw_comps, raw_conds};
+ghost use Rattle.std.specs.Prelude.{◌≡◌, ◌++◌, [], IfOk, OnOk, map, reverse};
+ghost use Rattle.nq_ir.specs.RawForms.{and_raw, append_raw, no_raw, no_raw_comp, raw_base_in, raw_comp, raw_comps_in, where_raw};
+ghost use Rattle.normalise.specs.Raw.{comp_part, inside_part, moved_base, moved_body, raw_comps, test_inside, test_part};
 
 use crate::depth::deepest_under;
-use crate::raw::{MovedBase, MovedBody, RawBase, RawBody, RawComp};
-use crate::raw_copy::{all_under, copy_labels, shared_conds};
+use crate::raw::{MovedBase, MovedBody, RawBase, RawBody, RawComp, RawTest};
+use crate::raw_copy::{all_under, shared_test};
 use nq_model::{Label, List, Memory};
 use std::alloc::Global;
 
@@ -78,31 +78,21 @@ pub(crate) fn append(left: List<RawComp>, right: List<RawComp>) -> Result<List<R
     joined(left, right)
 }
 
-/// Each of `parts` inside the generators of `tables` and under `conds`, of which the deepest is so deep, put behind
-/// `all`. The last takes them as they stand.
+/// Each of `parts` inside the generators and conditions of `outer`, put behind `all`. The last takes them as they stand.
 #[inline(never)]
 pub(crate) fn put_inside(
     alloc: Global,
     all: &mut List<RawComp>,
-    tables: List<Label>,
-    conds: List<MovedBase>,
-    deepest: u64,
+    outer: RawTest,
     parts: List<RawComp>,
 ) -> Result<(), Memory>
-    ensures { OnOk result (map comp_part all.new ≡ map comp_part all.old ++ map (inside_part tables (raw_conds conds)) (map comp_part parts)) }
+    ensures { OnOk result (map comp_part all.new ≡ map comp_part all.old ++ map (inside_part (test_part outer).tables (test_part outer).conds) (map comp_part parts)) }
 {
     let mut parts = parts;
     match parts.pop() {
         Some(last) => {
-            put_each_inside(
-                alloc,
-                all,
-                tables.as_slice(),
-                conds.as_slice(),
-                deepest,
-                parts,
-            )?;
-            let part = inside_one(alloc, tables, conds, deepest, last)?;
+            put_each_inside(alloc, all, &outer, parts)?;
+            let part = inside_one(alloc, outer, last)?;
             all.push(part)?;
             Ok(())
         }
@@ -113,46 +103,83 @@ pub(crate) fn put_inside(
 fn put_each_inside(
     alloc: Global,
     all: &mut List<RawComp>,
-    tables: &[Label],
-    conds: &[MovedBase],
-    deepest: u64,
+    outer: &RawTest,
     parts: List<RawComp>,
 ) -> Result<(), Memory>
-    ensures { OnOk result (map comp_part all.new ≡ map comp_part all.old ++ map (inside_part tables.now (raw_conds conds.now)) (map comp_part parts)) }
+    ensures { OnOk result (map comp_part all.new ≡ map comp_part all.old ++ map (inside_part (test_part outer.now).tables (test_part outer.now).conds) (map comp_part parts)) }
 {
     for part in parts.into_vec() {
-        let outer = copy_labels(alloc, tables)?;
-        let around = shared_conds(alloc, conds)?;
-        all.push(inside_one(alloc, outer, around, deepest, part)?)?;
+        let outer = shared_test(alloc, outer)?;
+        all.push(inside_one(alloc, outer, part)?)?;
     }
     Ok(())
 }
 
-fn inside_one(
-    alloc: Global,
-    tables: List<Label>,
-    conds: List<MovedBase>,
-    deepest: u64,
-    part: RawComp,
-) -> Result<RawComp, Memory>
-    ensures { IfOk result (λ comp. comp_part comp ≡ inside_part tables (raw_conds conds) (comp_part part)) }
+fn inside_one(alloc: Global, outer: RawTest, part: RawComp) -> Result<RawComp, Memory>
+    ensures { IfOk result (λ comp. comp_part comp ≡ inside_part (test_part outer).tables (test_part outer).conds (comp_part part)) }
 {
-    let more = part.tables.len() as u64;
     let RawComp {
-        tables: own_tables,
-        conds: own_conds,
-        deepest: own_deepest,
+        tables,
+        conds,
+        deepest,
         body,
     } = part;
-    let around = all_under(alloc, conds, more)?;
-    let deepest = deepest_under(around.as_slice(), more, deepest);
-    let tables = joined(tables, own_tables)?;
-    let conds = joined(around, own_conds)?;
+    let own = RawTest {
+        tables,
+        conds,
+        deepest,
+    };
+    let whole = inside_test(alloc, outer, own)?;
+    let RawTest {
+        tables,
+        conds,
+        deepest,
+    } = whole;
     Ok(RawComp {
         tables,
         conds,
-        deepest: deepest.max(own_deepest),
+        deepest,
         body,
+    })
+}
+
+/// A comprehension without its body inside the generators and conditions of `outer`.
+pub(crate) fn inside_test(alloc: Global, outer: RawTest, part: RawTest) -> Result<RawTest, Memory>
+    ensures { IfOk result (λ test. test_part test ≡ test_inside (test_part outer).tables (test_part outer).conds (test_part part)) }
+{
+    let more = part.tables.len() as u64;
+    let RawTest {
+        tables,
+        conds,
+        deepest,
+    } = outer;
+    let around = all_under(alloc, conds, more)?;
+    let deepest = deepest_under(around.as_slice(), more, deepest);
+    let RawTest {
+        tables: own_tables,
+        conds: own_conds,
+        deepest: own_deepest,
+    } = part;
+    let tables = joined(tables, own_tables)?;
+    let conds = joined(around, own_conds)?;
+    Ok(RawTest {
+        tables,
+        conds,
+        deepest: deepest.max(own_deepest),
+    })
+}
+
+/// One condition, and no generators.
+pub(crate) fn condition(alloc: Global, cond: MovedBase) -> Result<RawTest, Memory>
+    ensures { IfOk result (λ test. ((test_part test).tables ≡ []) × ((test_part test).conds ≡ and_raw (moved_base cond) no_raw)) }
+{
+    let deepest = cond.depth;
+    let mut conds = List::with_capacity(alloc, 1)?;
+    conds.push(cond)?;
+    Ok(RawTest {
+        tables: List::new(alloc),
+        conds,
+        deepest,
     })
 }
 
@@ -164,10 +191,8 @@ pub(crate) fn guarded(
 ) -> Result<List<RawComp>, Memory>
     ensures { IfOk result (λ all. raw_comps all ≡ where_raw (moved_base cond) (raw_comps parts)) }
 {
-    let deepest = cond.depth;
-    let mut conds = List::with_capacity(alloc, 1)?;
-    conds.push(cond)?;
+    let outer = condition(alloc, cond)?;
     let mut all = List::with_capacity(alloc, parts.len())?;
-    put_inside(alloc, &mut all, List::new(alloc), conds, deepest, parts)?;
+    put_inside(alloc, &mut all, outer, parts)?;
     Ok(all)
 }

@@ -44,8 +44,7 @@ pub(crate) fn deepest_under(conds: &[MovedBase], more: u64, before: u64) -> u64 
 pub(crate) fn tests_depth(tests: &[RawTest]) -> u64 {
     let mut depth: u64 = 0;
     for test in tests {
-        let conds = test.conds.as_slice();
-        depth = depth.max(deepest(conds).saturating_add(conds.len() as u64));
+        depth = depth.max(test.deepest.saturating_add(test.conds.len() as u64));
     }
     depth
 }

@@ -32,31 +32,19 @@ fn number_base(
             Ok((Base::Column { generator, column }, next))
         }
         RawBase::Unary { op, of } => {
-            let (of, next) = number_moved(alloc, of, next, scope)?;
-            let of = boxed(alloc, of)?;
+            let (of, next) = number_boxed(alloc, of, next, scope)?;
             Ok((Base::Unary { op: *op, of }, next))
         }
         RawBase::Binary { op, left, right } => {
-            let (left, next) = number_moved(alloc, left, next, scope)?;
-            let (right, next) = number_moved(alloc, right, next, scope)?;
-            let left = boxed(alloc, left)?;
-            let right = boxed(alloc, right)?;
-            Ok((
-                Base::Binary {
-                    op: *op,
-                    left,
-                    right,
-                },
-                next,
-            ))
+            let (left, next) = number_boxed(alloc, left, next, scope)?;
+            let (right, next) = number_boxed(alloc, right, next, scope)?;
+            let op = *op;
+            Ok((Base::Binary { op, left, right }, next))
         }
         RawBase::Choose { test, yes, no } => {
-            let (test, next) = number_moved(alloc, test, next, scope)?;
-            let (yes, next) = number_moved(alloc, yes, next, scope)?;
-            let (no, next) = number_moved(alloc, no, next, scope)?;
-            let test = boxed(alloc, test)?;
-            let yes = boxed(alloc, yes)?;
-            let no = boxed(alloc, no)?;
+            let (test, next) = number_boxed(alloc, test, next, scope)?;
+            let (yes, next) = number_boxed(alloc, yes, next, scope)?;
+            let (no, next) = number_boxed(alloc, no, next, scope)?;
             Ok((Base::Choose { test, yes, no }, next))
         }
         RawBase::Empty(tests) => {
@@ -79,6 +67,20 @@ pub(crate) fn number_moved(
 {
     let inner = scope.without(moved.more, moved.from);
     number_base(alloc, &moved.base, next, &inner)
+}
+
+// The same on the heap.
+#[cycle(number_base)]
+fn number_boxed(
+    alloc: Global,
+    moved: &MovedBase,
+    next: u64,
+    scope: &Numbers,
+) -> Result<(Box<Base>, u64), Memory>
+    ensures { IfOk result (λ r. (base_tree r.0.value ≡ number_base next (numbers scope.now) (moved_base moved.now)) × (r.1 ≡ next + gens_in_base (moved_base moved.now))) }
+{
+    let (base, after) = number_moved(alloc, moved, next, scope)?;
+    Ok((boxed(alloc, base)?, after))
 }
 
 /// Conditions with numbers from `first` on, and the number after their last.
@@ -129,14 +131,15 @@ fn number_test(
 ) -> Result<(Test, u64), Memory>
     ensures { IfOk result (λ r. (numbered_part r.0 ≡ test_numbered next (numbers scope.now) (test_part test.now)) × (r.1 ≡ next + gens_in_test (test_part test.now))) }
 {
-    let gens = number_gens(alloc, test.tables.as_slice(), next)?;
     let count = test.tables.len() as u64;
+    let start = plus(next, count)?;
+    let gens = number_gens(alloc, test.tables.as_slice(), next)?;
     let inner = Numbers::Dealt {
         first: next,
         count,
-        outer: scope,
+        outer: &*scope,
     };
-    let (conds, after) = number_conds(alloc, test.conds.as_slice(), plus(next, count)?, &inner)?;
+    let (conds, after) = number_conds(alloc, test.conds.as_slice(), start, &inner)?;
     Ok((Test { gens, conds }, after))
 }
 

@@ -170,14 +170,14 @@ fn number_comp(
 ) -> Result<(Comp, Next), Memory>
     ensures { IfOk result (λ r. (numbered_part r.0 ≡ comp_numbered next.tag next.number (numbers scope.now) (type_tree element.now) (comp_part comp.now)) × (r.1.tag ≡ next.tag + tags_in_part (comp_part comp.now)) × (r.1.number ≡ next.number + gens_in_comp (comp_part comp.now))) }
 {
-    let gens = number_gens(alloc, comp.tables.as_slice(), next.number)?;
     let count = comp.tables.len() as u64;
+    let start = plus(next.number, count)?;
+    let gens = number_gens(alloc, comp.tables.as_slice(), next.number)?;
     let inner = Numbers::Dealt {
         first: next.number,
         count,
         outer: scope,
     };
-    let start = plus(next.number, count)?;
     let (conds, number) = number_conds(alloc, comp.conds.as_slice(), start, &inner)?;
     let inside = Next {
         tag: plus(next.tag, 1)?,

@@ -43,12 +43,14 @@ pub(crate) struct MovedBase {
     pub depth: u64,
 }
 
-/// A comprehension of an emptiness test: the tables of its generators, outermost first, and its conditions.
+/// A comprehension without its body, as in an emptiness test: the tables of its generators, outermost first, and its
+/// conditions, of which the deepest is so deep.
 #[cycle(raw)]
 #[derive(Drop)]
 pub(crate) struct RawTest {
     pub tables: List<Label>,
     pub conds: List<MovedBase>,
+    pub deepest: u64,
 }
 
 /// The body of a term: a base term, the bodies of a record's fields in label order, or comprehensions.

@@ -1,9 +1,9 @@
-// Copies of tables, and conditions under more generators.
+// Copies of tables, and conditions shared and under more generators.
 ghost use Rattle.std.specs.Prelude.{◌≡◌, ◌+◌, IfOk, map};
 ghost use Rattle.nq_ir.specs.RawForms.{up_base, up_index};
-ghost use Rattle.normalise.specs.Raw.{moved_base};
+ghost use Rattle.normalise.specs.Raw.{moved_base, test_part};
 
-use crate::raw::MovedBase;
+use crate::raw::{MovedBase, RawTest};
 use nq_model::{Label, List, Memory};
 use std::alloc::Global;
 
@@ -55,15 +55,17 @@ pub(crate) fn conds_under(
     Ok(moved)
 }
 
-/// The same conditions.
-pub(crate) fn shared_conds(alloc: Global, conds: &[MovedBase]) -> Result<List<MovedBase>, Memory>
-    ensures { IfOk result (λ shared. map moved_base shared ≡ map moved_base conds.now) }
+/// The same generators and conditions.
+pub(crate) fn shared_test(alloc: Global, test: &RawTest) -> Result<RawTest, Memory>
+    ensures { IfOk result (λ same. test_part same ≡ test_part test.now) }
 {
-    let mut shared = List::with_capacity(alloc, conds.len())?;
-    for cond in conds {
-        shared.push(cond.shared()?)?;
-    }
-    Ok(shared)
+    let tables = copy_labels(alloc, test.tables.as_slice())?;
+    let conds = conds_under(alloc, test.conds.as_slice(), 0, 0)?;
+    Ok(RawTest {
+        tables,
+        conds,
+        deepest: test.deepest,
+    })
 }
 
 /// These conditions under `more` generators.

@@ -53,14 +53,18 @@ fn each_column(
 {
     let mut fields = List::with_capacity(alloc, columns.len())?;
     for column in columns {
-        let label = column.0.copy(alloc)?;
-        let base = RawBase::Column {
-            back: 0,
-            column: column.0.copy(alloc)?,
-        };
-        fields.push((label, plain(alloc, base)?))?;
+        fields.push(column_field(alloc, &column.0)?)?;
     }
     Ok(fields)
+}
+
+// A column of the innermost generator.
+fn column_field(alloc: Global, label: &Label) -> Result<(Label, MovedBody), Memory>
+    ensures { IfOk result (λ f. (f.0 ≡ label.now) × (moved_body f.1 ≡ raw_plain (raw_column 0 label.now))) }
+{
+    let column = label.copy(alloc)?;
+    let body = plain(alloc, RawBase::Column { back: 0, column })?;
+    Ok((label.copy(alloc)?, body))
 }
 
 // The first table of that name.

@@ -1,13 +1,13 @@
 // Comprehensions of emptiness tests, which have no bodies: one behind the other, and inside generators and conditions.
 ghost use Rattle.std.specs.Prelude.{◌≡◌, ◌++◌, ◌∷◌, [], IfOk, OnOk, map, option_map};
 ghost use Rattle.nq_ir.specs.RawForms.{no_raw, no_raw_test, raw_test, raw_tests_of};
-ghost use Rattle.normalise.specs.Raw.{append_tests, bodiless, comp_part, moved_base, moved_body, raw_comps, raw_conds, raw_tests, test_inside, test_part, where_tests};
+ghost use Rattle.normalise.specs.Raw.{append_tests, bodiless, comp_part, moved_base, moved_body, raw_comps, raw_tests, test_inside, test_part, where_tests};
 ghost use Rattle.normalise.specs.BagTests.{bag_tests, choice_of_tests};
 
-use crate::comps::joined;
+use crate::comps::{condition, inside_test, joined};
 use crate::moved::negation;
 use crate::raw::{MovedBase, MovedBody, RawBody, RawComp, RawTest};
-use crate::raw_copy::{all_under, copy_labels, shared_conds};
+use crate::raw_copy::shared_test;
 use nq_model::{Label, List, Memory};
 use std::alloc::Global;
 
@@ -31,6 +31,7 @@ pub(crate) fn one_test(alloc: Global, tables: List<Label>) -> Result<List<RawTes
     tests.push(RawTest {
         tables,
         conds: List::new(alloc),
+        deepest: 0,
     })?;
     Ok(tests)
 }
@@ -46,23 +47,21 @@ pub(crate) fn append_tests(
     joined(left, right)
 }
 
-/// Each of `parts` inside the generators of `tables` and under `conds`, put behind `all`. The last takes them as they
-/// stand.
+/// Each of `parts` inside the generators and conditions of `outer`, put behind `all`. The last takes them as they stand.
 #[inline(never)]
 pub(crate) fn put_tests_inside(
     alloc: Global,
     all: &mut List<RawTest>,
-    tables: List<Label>,
-    conds: List<MovedBase>,
+    outer: RawTest,
     parts: List<RawTest>,
 ) -> Result<(), Memory>
-    ensures { OnOk result (map test_part all.new ≡ map test_part all.old ++ map (test_inside tables (raw_conds conds)) (map test_part parts)) }
+    ensures { OnOk result (map test_part all.new ≡ map test_part all.old ++ map (test_inside (test_part outer).tables (test_part outer).conds) (map test_part parts)) }
 {
     let mut parts = parts;
     match parts.pop() {
         Some(last) => {
-            put_each_test_inside(alloc, all, tables.as_slice(), conds.as_slice(), parts)?;
-            let part = inside_test(alloc, tables, conds, last)?;
+            put_each_test_inside(alloc, all, &outer, parts)?;
+            let part = inside_test(alloc, outer, last)?;
             all.push(part)?;
             Ok(())
         }
@@ -73,37 +72,16 @@ pub(crate) fn put_tests_inside(
 fn put_each_test_inside(
     alloc: Global,
     all: &mut List<RawTest>,
-    tables: &[Label],
-    conds: &[MovedBase],
+    outer: &RawTest,
     parts: List<RawTest>,
 ) -> Result<(), Memory>
-    ensures { OnOk result (map test_part all.new ≡ map test_part all.old ++ map (test_inside tables.now (raw_conds conds.now)) (map test_part parts)) }
+    ensures { OnOk result (map test_part all.new ≡ map test_part all.old ++ map (test_inside (test_part outer.now).tables (test_part outer.now).conds) (map test_part parts)) }
 {
     for part in parts.into_vec() {
-        let outer = copy_labels(alloc, tables)?;
-        let around = shared_conds(alloc, conds)?;
-        all.push(inside_test(alloc, outer, around, part)?)?;
+        let outer = shared_test(alloc, outer)?;
+        all.push(inside_test(alloc, outer, part)?)?;
     }
     Ok(())
-}
-
-fn inside_test(
-    alloc: Global,
-    tables: List<Label>,
-    conds: List<MovedBase>,
-    part: RawTest,
-) -> Result<RawTest, Memory>
-    ensures { IfOk result (λ test. test_part test ≡ test_inside tables (raw_conds conds) (test_part part)) }
-{
-    let more = part.tables.len() as u64;
-    let RawTest {
-        tables: own_tables,
-        conds: own_conds,
-    } = part;
-    let around = all_under(alloc, conds, more)?;
-    let tables = joined(tables, own_tables)?;
-    let conds = joined(around, own_conds)?;
-    Ok(RawTest { tables, conds })
 }
 
 /// The comprehensions under one more condition, which stands before theirs.
@@ -115,10 +93,9 @@ pub(crate) fn guarded_tests(
 ) -> Result<List<RawTest>, Memory>
     ensures { IfOk result (λ all. raw_tests all ≡ where_tests (moved_base cond) (raw_tests parts)) }
 {
-    let mut conds = List::with_capacity(alloc, 1)?;
-    conds.push(cond)?;
+    let outer = condition(alloc, cond)?;
     let mut all = List::with_capacity(alloc, parts.len())?;
-    put_tests_inside(alloc, &mut all, List::new(alloc), conds, parts)?;
+    put_tests_inside(alloc, &mut all, outer, parts)?;
     Ok(all)
 }
 
@@ -175,14 +152,19 @@ fn each_test(alloc: Global, comps: List<RawComp>) -> Result<List<RawTest>, Memor
     Ok(tests)
 }
 
-fn test_in(comp: RawComp) -> RawTest
+/// A comprehension without its body.
+pub(crate) fn test_in(comp: RawComp) -> RawTest
     ensures { test_part result ≡ bodiless (comp_part comp) }
 {
     let RawComp {
         tables,
         conds,
-        deepest: _,
+        deepest,
         body: _body,
     } = comp;
-    RawTest { tables, conds }
+    RawTest {
+        tables,
+        conds,
+        deepest,
+    }
 }

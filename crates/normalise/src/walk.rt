@@ -16,7 +16,7 @@ use crate::raw::{MovedBase, MovedBody, RawBase, RawComp, RawTest};
 use crate::scope::Scope;
 use crate::table::table_body;
 use crate::tests::{
-    append_tests, chosen_tests, guarded_tests, one_test, opened_tests, put_tests_inside,
+    append_tests, chosen_tests, guarded_tests, one_test, opened_tests, put_tests_inside, test_in,
     test_of_table,
 };
 use nq_model::{Label, List, Memory, Node, Schema, Term};
@@ -66,26 +66,7 @@ fn body(alloc: Global, schema: &Schema, term: &Term, scope: &Scope) -> Result<Mo
         }
         Node::For { source, body: rest } => {
             let source = comps(alloc, schema, source, scope)?;
-            let mut all = List::new(alloc);
-            for comp in source.into_vec() {
-                let RawComp {
-                    tables,
-                    conds,
-                    deepest,
-                    body: of,
-                } = comp;
-                let deeper = Scope::Under {
-                    count: tables.len() as u64,
-                    outer: scope,
-                };
-                let inner = Scope::Inner {
-                    body: &of,
-                    outer: &deeper,
-                };
-                let parts = comps(alloc, schema, rest, &inner)?;
-                put_inside(alloc, &mut all, tables, conds, deepest, parts)?;
-            }
-            bag(alloc, all)
+            bag(alloc, for_comps(alloc, schema, rest, source, scope)?)
         }
         Node::Guard { test, body: rest } => {
             let test = base(alloc, schema, test, scope)?;
@@ -118,6 +99,33 @@ pub(crate) fn comps(
 {
     let of = body(alloc, schema, term, scope)?;
     comps_in(alloc, of)
+}
+
+/// For each comprehension of the source of a `for`, those of `rest` inside it.
+#[cycle(body)]
+fn for_comps(
+    alloc: Global,
+    schema: &Schema,
+    rest: &Term,
+    source: List<RawComp>,
+    scope: &Scope,
+) -> Result<List<RawComp>, Memory>
+    ensures { IfOk result (λ cs. raw_comps cs ≡ each_comp (raw_comps source) (λ gs e. raw_comps_in (raw_form schema.now.tables (term_tree rest.now) (e ∷ map (up_body (length gs) 0) (bodies scope.now))))) }
+{
+    let mut all = List::new(alloc);
+    for comp in source.into_vec() {
+        let deeper = Scope::Under {
+            count: comp.tables.len() as u64,
+            outer: &*scope,
+        };
+        let inner = Scope::Inner {
+            body: &comp.body,
+            outer: &deeper,
+        };
+        let parts = comps(alloc, schema, rest, &inner)?;
+        put_inside(alloc, &mut all, test_in(comp), parts)?;
+    }
+    Ok(all)
 }
 
 /// The comprehensions of a term without their bodies, which are not built.
@@ -190,22 +198,16 @@ fn for_tests(
 {
     let mut all = List::new(alloc);
     for comp in source.into_vec() {
-        let RawComp {
-            tables,
-            conds,
-            body: of,
-            ..
-        } = comp;
         let deeper = Scope::Under {
-            count: tables.len() as u64,
+            count: comp.tables.len() as u64,
             outer: &*scope,
         };
         let inner = Scope::Inner {
-            body: &of,
+            body: &comp.body,
             outer: &deeper,
         };
         let parts = tests(alloc, schema, rest, &inner)?;
-        put_tests_inside(alloc, &mut all, tables, conds, parts)?;
+        put_tests_inside(alloc, &mut all, test_in(comp), parts)?;
     }
     Ok(all)
 }

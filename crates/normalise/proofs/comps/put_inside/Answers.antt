@@ -1,12 +1,12 @@
 use Rattle.std.proofs.Common.{rules, ◌≡◌, ◌++◌, map}
-use Rattle.normalise.specs.Raw.{comp_part, inside_part, raw_conds}
+use Rattle.normalise.specs.Raw.{comp_part, inside_part, test_part}
 use Rattle.normalise.proofs.Lists.{put_last}
 use Rattle.normalise.proofs.comps.put_inside.Goals as goal
 
 pub returns-in_ok-push-in-Some : goal.returns-in_ok-push-in-Some
 returns-in_ok-push-in-Some c =
-    let gs = c.args.tables in
-    let bs = raw_conds c.args.conds in
+    let gs = (test_part c.args.outer).tables in
+    let bs = (test_part c.args.outer).conds in
     let old = c.args.all.now in
     let mid = c.put_each_inside.new.all in
     let before = c.pop.new.self in

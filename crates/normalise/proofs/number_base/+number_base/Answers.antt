@@ -1,16 +1,64 @@
-use Rattle.std.proofs.Common.{rules, ◌≡◌, ◌+◌, ap, ap₂, sym, ◌∙◌, map, length, List, ℕ}
+use Rattle.std.proofs.Common.{rules, arith, ◌≡◌, ◌+◌, ap, ap₂, sym, ◌∙◌, map, length, List, ℕ}
 use Rattle.std.proofs.lemmas.Result.{IfOk-weaker}
 use Rattle.nq_ir.specs.NormalForms.{number_base, number_gens, gens_in_base}
-use Rattle.nq_ir.specs.Trees.{BaseTree, tests_of as numbered_tests}
-use Rattle.nq_ir.proofs.Forms.{base_empty as numbered_empty}
+use Rattle.nq_ir.specs.Trees.{BaseTree, base_tree, tests_of as numbered_tests}
+use Rattle.nq_ir.proofs.Forms.{base_binary as numbered_binary, base_choose as numbered_choose, base_empty as numbered_empty, base_unary as numbered_unary}
 use Rattle.normalise.specs.Raw.{moved_base, raw_base, test_part}
 use Rattle.normalise.specs.Numbers.{numbers, without, bases_numbered, gens_in_bases, tests_numbered, gens_in_parts}
 use Rattle.normalise.specs.declared.raw.MovedBase.{MovedBase}
 use Rattle.normalise.specs.declared.raw.RawBase.{RawBase as CodeBase}
 use Rattle.normalise.specs.declared.raw.RawTest.{RawTest as CodeTest, out-RawTest}
-use Rattle.normalise.proofs.Views.{base_empty}
+use Rattle.normalise.proofs.Views.{base_binary, base_choose, base_empty, base_unary}
 use Rattle.normalise.proofs.Numbering.{moved_has, moved_made, numbers_dealt, tests_are, tests_have, test_made, test_has}
 use Rattle.normalise.proofs.number_base.+number_base.Goals as goal
+
+pub number_base-returns-in_ok-of-in-Unary : goal.number_base-returns-in_ok-of-in-Unary
+number_base-returns-in_ok-of-in-Unary t c =
+    let sc = numbers c.args.scope.now in
+    let n = c.args.next in
+    let h = c.in_ok-of-in-Unary.ensures in
+    let old = ap raw_base c.in-Unary.is ∙ base_unary c.in-Unary.op c.in-Unary.of in (
+      numbered_unary c.in-Unary.op c.in_ok-of-in-Unary.of ∙ ap (BaseTree.unary c.in-Unary.op) h.0 ∙ ap (number_base n sc) (sym old),
+      h.1 ∙ ap (λ z. n + gens_in_base z) (sym old),
+    )
+
+pub number_base-returns-in_ok-right-in-Binary : goal.number_base-returns-in_ok-right-in-Binary
+number_base-returns-in_ok-right-in-Binary t c =
+    let sc = numbers c.args.scope.now in
+    let n = c.args.next in
+    let a = moved_base c.in-Binary.left in
+    let b = moved_base c.in-Binary.right in
+    let h = c.in_ok-left-in-Binary.ensures in
+    let k = c.in_ok-right-in-Binary.ensures in
+    let old = ap raw_base c.in-Binary.is ∙ base_binary c.in-Binary.op c.in-Binary.left c.in-Binary.right in
+    let after : c.in_ok-right-in-Binary.next ≡ n + (gens_in_base a + gens_in_base b) = omega (arith, h.1, k.1) in (
+      numbered_binary c.in-Binary.op c.in_ok-left-in-Binary.left c.in_ok-right-in-Binary.right
+          ∙ ap₂ (BaseTree.binary c.in-Binary.op) h.0 (k.0 ∙ ap (λ m. number_base m sc b) h.1)
+          ∙ ap (number_base n sc) (sym old),
+      after ∙ ap (λ z. n + gens_in_base z) (sym old),
+    )
+
+pub number_base-returns-in_ok-no-in-Choose : goal.number_base-returns-in_ok-no-in-Choose
+number_base-returns-in_ok-no-in-Choose t c =
+    let sc = numbers c.args.scope.now in
+    let n = c.args.next in
+    let x = moved_base c.in-Choose.test in
+    let a = moved_base c.in-Choose.yes in
+    let b = moved_base c.in-Choose.no in
+    let h = c.in_ok-test-in-Choose.ensures in
+    let k = c.in_ok-yes-in-Choose.ensures in
+    let l = c.in_ok-no-in-Choose.ensures in
+    let old = ap raw_base c.in-Choose.is ∙ base_choose c.in-Choose.test c.in-Choose.yes c.in-Choose.no in
+    let after : c.in_ok-no-in-Choose.next ≡ n + (gens_in_base x + (gens_in_base a + gens_in_base b)) = omega (arith, h.1, k.1, l.1) in (
+      numbered_choose c.in_ok-test-in-Choose.test c.in_ok-yes-in-Choose.yes c.in_ok-no-in-Choose.no
+          ∙ ap (λ z. BaseTree.choose z (base_tree c.in_ok-yes-in-Choose.yes.value) (base_tree c.in_ok-no-in-Choose.no.value)) h.0
+          ∙ ap₂ (BaseTree.choose (number_base n sc x)) (k.0 ∙ ap (λ m. number_base m sc a) h.1) (l.0 ∙ ap (λ m. number_base m sc b) (k.1 ∙ ap (λ m. m + gens_in_base a) h.1))
+          ∙ ap (number_base n sc) (sym old),
+      after ∙ ap (λ z. n + gens_in_base z) (sym old),
+    )
+
+pub number_boxed-returns : goal.number_boxed-returns
+number_boxed-returns t c = (ap base_tree c.in_ok-boxed.ensures ∙ c.in_ok-base.ensures.0, c.in_ok-base.ensures.1)
 
 pub number_base-returns-in_ok-tests-in-Empty : goal.number_base-returns-in_ok-tests-in-Empty
 number_base-returns-in_ok-tests-in-Empty t c =
@@ -44,7 +92,7 @@ pub number_test-returns : goal.number_test-returns
 number_test-returns t c =
     let sc = numbers c.args.scope.now in
     let count = c.len-count.result in
-    let m = c.in_ok-plus.field-0 in
+    let m = c.in_ok-start.start in
     let x = c.args.test.now in
     let a : count ≡ length (out-RawTest x).tables = search rules in
     let b : m ≡ c.args.next + count = search rules in

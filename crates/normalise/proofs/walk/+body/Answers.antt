@@ -5,7 +5,7 @@ use Rattle.nq_model.specs.Orders.{by_label}
 use Rattle.nq_model.specs.Terms.{TermTree, bare, bare_node, node_tree, term_tree, fields_view as terms_view}
 use Rattle.nq_model.specs.declared.term.Term.{Term}
 use Rattle.nq_model.proofs.Terms.{placed_term, node_choose, node_guard, node_tree_record, node_union}
-use Rattle.nq_ir.specs.RawForms.{RawBody, RawComps, and_raw, no_raw, raw_base_in, raw_comps_in, raw_form, raw_rec, raw_tests_of, up_body}
+use Rattle.nq_ir.specs.RawForms.{RawBody, RawComps, and_raw, append_raw, choice, each_comp, no_raw, no_raw_comp, raw_bag, raw_base_in, raw_binary, raw_comp, raw_comps_in, raw_empty, raw_field_in, raw_form, raw_plain, raw_rec, raw_tests_of, raw_unary, up_body, where_raw}
 use Rattle.normalise.specs.Raw.{append_tests, fields_of, moved_base, moved_body, raw_tests, where_tests}
 use Rattle.normalise.specs.Scopes.{bodies}
 use Rattle.normalise.specs.BagTests.{bag_tests, choice_of_tests}
@@ -13,6 +13,7 @@ use Rattle.normalise.proofs.FieldFacts.{fields_are}
 use Rattle.normalise.proofs.Lists.{tests_of_append, tests_of_inside}
 use Rattle.normalise.proofs.Scopes.{scope_inner, scope_under}
 use Rattle.normalise.proofs.BagTests.{choice_tests, tests_found}
+use Rattle.normalise.proofs.TermForms.{form_binary, form_choose, form_empty, form_field, form_for, form_guard, form_single, form_unary, form_union}
 use Rattle.normalise.proofs.Walks.{loop_step, tests_step}
 use Rattle.normalise.proofs.walk.+body.Goals as goal
 
@@ -24,15 +25,107 @@ body-returns-in_ok-fields-in-Rec t c =
     let h = rw c.as_slice.ensures at c.in_ok-fields-in-Rec.ensures in
     IfOk-weaker c.with_fields.result _ _ (λ b g. g ∙ ap (λ l. raw_rec (fields_of (by_label l))) h ∙ ap raw_rec (fields_are S es (terms_view c.in-Rec.fields)) ∙ sym (ap (λ z. raw_form S z es) e)) c.with_fields.ensures
 
-pub body-loop-comp-preserved : goal.body-loop-comp-preserved
-body-loop-comp-preserved t c =
+pub body-returns-in_ok-of-in-Unary : goal.body-returns-in_ok-of-in-Unary
+body-returns-in_ok-of-in-Unary t c =
     let S = c.args.schema.now.tables in
     let es = bodies c.args.scope.now in
-    let rest : List Label → RawBody → RawComps = λ gs e. raw_comps_in (raw_form S (term_tree c.in-For.rest.value) (e ∷ map (up_body (length gs) 0) es)) in
+    IfOk-weaker c.unary.result _ _
+    (λ b e. e
+    ∙ ap (λ z. raw_plain (raw_unary c.in-Unary.op z)) (c.in_ok-of-in-Unary.ensures ∙ ap (λ (u : Term). raw_base_in (raw_form S (term_tree u) es)) c.deref.ensures)
+    ∙ sym (form_unary S es c.args.term.now c.in-Unary.op c.in-Unary.of c.in-Unary.is))
+    c.unary.ensures
+
+pub body-returns-in_ok-right-in-Binary : goal.body-returns-in_ok-right-in-Binary
+body-returns-in_ok-right-in-Binary t c =
+    let S = c.args.schema.now.tables in
+    let es = bodies c.args.scope.now in
+    IfOk-weaker c.binary.result _ _
+    (λ b e. e
+    ∙ ap₂ (λ y z. raw_plain (raw_binary c.in-Binary.op y z)) (c.in_ok-left-in-Binary.ensures ∙ ap (λ (u : Term). raw_base_in (raw_form S (term_tree u) es)) c.deref-in-Binary.ensures) (c.in_ok-right-in-Binary.ensures ∙ ap (λ (u : Term). raw_base_in (raw_form S (term_tree u) es)) c.deref-in-Binary-2.ensures)
+    ∙ sym (form_binary S es c.args.term.now c.in-Binary.op c.in-Binary.left c.in-Binary.right c.in-Binary.is))
+    c.binary.ensures
+
+pub body-returns-in_ok-no-in-If : goal.body-returns-in_ok-no-in-If
+body-returns-in_ok-no-in-If t c =
+    let S = c.args.schema.now.tables in
+    let es = bodies c.args.scope.now in
+    IfOk-weaker c.chosen.result _ _
+    (λ b e. e
+    ∙ ap (λ x. choice x (moved_body c.in_ok-yes-in-If.yes) (moved_body c.in_ok-no-in-If.no)) (c.in_ok-test-in-If.ensures ∙ ap (λ (u : Term). raw_base_in (raw_form S (term_tree u) es)) c.deref-in-If.ensures)
+    ∙ ap₂ (choice (raw_base_in (raw_form S (term_tree c.in-If.test.value) es))) (c.in_ok-yes-in-If.ensures ∙ ap (λ (u : Term). raw_form S (term_tree u) es) c.deref-in-If-2.ensures) (c.in_ok-no-in-If.ensures ∙ ap (λ (u : Term). raw_form S (term_tree u) es) c.deref-in-If-3.ensures)
+    ∙ sym (form_choose S es c.args.term.now c.in-If.test c.in-If.yes c.in-If.no c.in-If.is))
+    c.chosen.ensures
+
+pub body-returns-in_ok-of-in-Field : goal.body-returns-in_ok-of-in-Field
+body-returns-in_ok-of-in-Field t c =
+    let S = c.args.schema.now.tables in
+    let es = bodies c.args.scope.now in
+    IfOk-weaker c.field_in.result _ _
+    (λ b e. e
+    ∙ ap (raw_field_in c.in-Field.label) (c.in_ok-of-in-Field.ensures ∙ ap (λ (u : Term). raw_form S (term_tree u) es) c.deref-in-Field.ensures)
+    ∙ sym (form_field S es c.args.term.now c.in-Field.of c.in-Field.label c.in-Field.is))
+    c.field_in.ensures
+
+pub body-returns-in_ok-tests-in-Empty : goal.body-returns-in_ok-tests-in-Empty
+body-returns-in_ok-tests-in-Empty t c =
+    let S = c.args.schema.now.tables in
+    let es = bodies c.args.scope.now in
+    IfOk-weaker c.emptiness.result _ _
+    (λ b e. e
+    ∙ ap (λ z. raw_plain (raw_empty z)) (c.in_ok-tests-in-Empty.ensures ∙ ap (λ (u : Term). raw_tests_of (raw_comps_in (raw_form S (term_tree u) es))) c.deref-in-Empty.ensures)
+    ∙ sym (form_empty S es c.args.term.now _ c.in-Empty.is))
+    c.emptiness.ensures
+
+pub body-returns-in_ok-body-in-Single : goal.body-returns-in_ok-body-in-Single
+body-returns-in_ok-body-in-Single t c =
+    let S = c.args.schema.now.tables in
+    let es = bodies c.args.scope.now in
+    IfOk-weaker c.single.result _ _
+    (λ b e. e
+    ∙ ap (λ z. raw_bag (raw_comp [] no_raw z no_raw_comp)) (c.in_ok-body-in-Single.ensures ∙ ap (λ (u : Term). raw_form S (term_tree u) es) c.deref-in-Single.ensures)
+    ∙ sym (form_single S es c.args.term.now _ c.in-Single.is))
+    c.single.ensures
+
+pub body-returns-in_ok-right-in-Union : goal.body-returns-in_ok-right-in-Union
+body-returns-in_ok-right-in-Union t c =
+    let S = c.args.schema.now.tables in
+    let es = bodies c.args.scope.now in
+    IfOk-weaker c.union.result _ _
+    (λ b e. e
+    ∙ ap₂ (λ y z. raw_bag (append_raw y z)) (c.in_ok-left-in-Union.ensures ∙ ap (λ (u : Term). raw_comps_in (raw_form S (term_tree u) es)) c.deref-in-Union.ensures) (c.in_ok-right-in-Union.ensures ∙ ap (λ (u : Term). raw_comps_in (raw_form S (term_tree u) es)) c.deref-in-Union-2.ensures)
+    ∙ sym (form_union S es c.args.term.now c.in-Union.left c.in-Union.right c.in-Union.is))
+    c.union.ensures
+
+pub body-returns-in_ok-rest-in-Guard : goal.body-returns-in_ok-rest-in-Guard
+body-returns-in_ok-rest-in-Guard t c =
+    let S = c.args.schema.now.tables in
+    let es = bodies c.args.scope.now in
+    IfOk-weaker c.guard.result _ _
+    (λ b e. e
+    ∙ ap₂ (λ y z. raw_bag (where_raw y z)) (c.in_ok-test-in-Guard.ensures ∙ ap (λ (u : Term). raw_base_in (raw_form S (term_tree u) es)) c.deref-in-Guard.ensures) (c.in_ok-rest-in-Guard.ensures ∙ ap (λ (u : Term). raw_comps_in (raw_form S (term_tree u) es)) c.deref-in-Guard-2.ensures)
+    ∙ sym (form_guard S es c.args.term.now c.in-Guard.test c.in-Guard.rest c.in-Guard.is))
+    c.guard.ensures
+
+pub body-returns-in_ok-for_comps-in-For : goal.body-returns-in_ok-for_comps-in-For
+body-returns-in_ok-for_comps-in-For t c =
+    let S = c.args.schema.now.tables in
+    let es = bodies c.args.scope.now in
+    IfOk-weaker c.bag-in-For.result _ _
+    (λ b e. e
+    ∙ ap raw_bag (c.in_ok-for_comps-in-For.ensures
+    ∙ ap₂ (λ (y : RawComps) (u : Term). each_comp y (λ gs e. raw_comps_in (raw_form S (term_tree u) (e ∷ map (up_body (length gs) 0) es)))) (c.in_ok-source-in-For.ensures ∙ ap (λ (u : Term). raw_comps_in (raw_form S (term_tree u) es)) c.deref-in-For.ensures) c.deref-in-For-2.ensures)
+    ∙ sym (form_for S es c.args.term.now c.in-For.source c.in-For.rest c.in-For.is))
+    c.bag-in-For.ensures
+
+pub for_comps-loop-comp-preserved : goal.for_comps-loop-comp-preserved
+for_comps-loop-comp-preserved t c =
+    let S = c.args.schema.now.tables in
+    let es = bodies c.args.scope.now in
+    let rest : List Label → RawBody → RawComps = λ gs e. raw_comps_in (raw_form S (term_tree c.args.rest.now) (e ∷ map (up_body (length gs) 0) es)) in
     let x = c.in-Some.comp in
     let many : c.len.result ≡ length x.tables = search rules in
-    let made = c.in_ok-parts-in-For.ensures ∙ ap₂ (λ (u : Term) (s : List RawBody). raw_comps_in (raw_form S (term_tree u) s)) c.deref-in-loop-comp.ensures (scope_inner _ _ ∙ ap (λ (z : List RawBody). moved_body x.body ∷ z) (scope_under _ _ ∙ ap (λ k. map (up_body k 0) es) many)) in
-    loop_step rest c.loop-comp.yielded x c.loop-comp.all c.put_inside.new.all c.in_ok-parts-in-For.parts c.loop-comp.invariant c.in_ok-put_inside-in-For.ensures made
+    let made = c.in_ok-parts.ensures ∙ ap (λ (s : List RawBody). raw_comps_in (raw_form S (term_tree c.args.rest.now) s)) (scope_inner _ _ ∙ ap (λ (z : List RawBody). moved_body x.body ∷ z) (scope_under _ _ ∙ ap (λ k. map (up_body k 0) es) many)) in
+    loop_step rest c.loop-comp.yielded x c.test_in.result c.loop-comp.all c.put_inside.new.all c.in_ok-parts.parts c.test_in.ensures c.loop-comp.invariant c.in_ok-put_inside.ensures made
 
 pub for_tests-loop-comp-preserved : goal.for_tests-loop-comp-preserved
 for_tests-loop-comp-preserved t c =
@@ -42,7 +135,7 @@ for_tests-loop-comp-preserved t c =
     let x = c.in-Some.comp in
     let many : c.len.result ≡ length x.tables = search rules in
     let made = c.in_ok-parts.ensures ∙ ap (λ (s : List RawBody). raw_tests_of (raw_comps_in (raw_form S (term_tree c.args.rest.now) s))) (scope_inner _ _ ∙ ap (λ (z : List RawBody). moved_body x.body ∷ z) (scope_under _ _ ∙ ap (λ k. map (up_body k 0) es) many)) in
-    tests_step rest c.loop-comp.yielded x c.loop-comp.all c.put_tests_inside.new.all c.in_ok-parts.parts c.loop-comp.invariant c.in_ok-put_tests_inside.ensures made
+    tests_step rest c.loop-comp.yielded x c.test_in.result c.loop-comp.all c.put_tests_inside.new.all c.in_ok-parts.parts c.test_in.ensures c.loop-comp.invariant c.in_ok-put_tests_inside.ensures made
 
 pub tests-returns-in-Some : goal.tests-returns-in-Some
 tests-returns-in-Some t c =
@@ -54,8 +147,8 @@ bag_tests-returns-in_ok-append_tests-in-Union t c =
     let es = bodies c.args.scope.now in
     let one = c.in-Union.left in
     let two = c.in-Union.right in
-    let left : raw_tests c.in_ok-left-in-Union.left ≡ raw_tests_of (raw_comps_in (raw_form S (term_tree one.value) es)) = search rules in
-    let right : raw_tests c.in_ok-right-in-Union.right ≡ raw_tests_of (raw_comps_in (raw_form S (term_tree two.value) es)) = search rules in
+    let left : raw_tests c.in_ok-left-in-Union.left ≡ raw_tests_of (raw_comps_in (raw_form S (term_tree one.value) es)) = c.in_ok-left-in-Union.ensures ∙ ap (λ (u : Term). raw_tests_of (raw_comps_in (raw_form S (term_tree u) es))) c.deref.ensures in
+    let right : raw_tests c.in_ok-right-in-Union.right ≡ raw_tests_of (raw_comps_in (raw_form S (term_tree two.value) es)) = c.in_ok-right-in-Union.ensures ∙ ap (λ (u : Term). raw_tests_of (raw_comps_in (raw_form S (term_tree u) es))) c.deref-in-Union.ensures in
     let tree : term_tree c.args.term.now ≡ TermTree.union (term_tree one.value) (term_tree two.value) = ap bare (placed_term c.args.term.now) ∙ ap node_tree c.in-Union.is ∙ ap bare_node (node_union one two) in
     ap Some
     (c.in_ok-append_tests-in-Union.ensures
@@ -69,8 +162,8 @@ bag_tests-returns-in_ok-guarded_tests-in-Guard t c =
     let es = bodies c.args.scope.now in
     let one = c.in-Guard.test in
     let two = c.in-Guard.rest in
-    let cond : moved_base c.in_ok-test-in-Guard.test ≡ raw_base_in (raw_form S (term_tree one.value) es) = search rules in
-    let rest : raw_tests c.in_ok-rest-in-Guard.rest ≡ raw_tests_of (raw_comps_in (raw_form S (term_tree two.value) es)) = search rules in
+    let cond : moved_base c.in_ok-test-in-Guard.test ≡ raw_base_in (raw_form S (term_tree one.value) es) = c.in_ok-test-in-Guard.ensures ∙ ap (λ (u : Term). raw_base_in (raw_form S (term_tree u) es)) c.deref-in-Guard.ensures in
+    let rest : raw_tests c.in_ok-rest-in-Guard.rest ≡ raw_tests_of (raw_comps_in (raw_form S (term_tree two.value) es)) = c.in_ok-rest-in-Guard.ensures ∙ ap (λ (u : Term). raw_tests_of (raw_comps_in (raw_form S (term_tree u) es))) c.deref-in-Guard-2.ensures in
     let tree : term_tree c.args.term.now ≡ TermTree.guard (term_tree one.value) (term_tree two.value) = ap bare (placed_term c.args.term.now) ∙ ap node_tree c.in-Guard.is ∙ ap bare_node (node_guard one two) in
     ap Some
     (c.in_ok-guarded_tests-in-Guard.ensures
@@ -85,9 +178,9 @@ bag_tests-returns-in_ok-no-in-If t c =
     let one = c.in-If.test in
     let two = c.in-If.yes in
     let three = c.in-If.no in
-    let cond : moved_base c.in_ok-test-in-If.test ≡ raw_base_in (raw_form S (term_tree one.value) es) = search rules in
-    let yes : option_map raw_tests c.in_ok-yes-in-If.yes ≡ bag_tests (raw_form S (term_tree two.value) es) = search rules in
-    let no : option_map raw_tests c.in_ok-no-in-If.no ≡ bag_tests (raw_form S (term_tree three.value) es) = search rules in
+    let cond : moved_base c.in_ok-test-in-If.test ≡ raw_base_in (raw_form S (term_tree one.value) es) = c.in_ok-test-in-If.ensures ∙ ap (λ (u : Term). raw_base_in (raw_form S (term_tree u) es)) c.deref-in-If.ensures in
+    let yes : option_map raw_tests c.in_ok-yes-in-If.yes ≡ bag_tests (raw_form S (term_tree two.value) es) = c.in_ok-yes-in-If.ensures ∙ ap (λ (u : Term). bag_tests (raw_form S (term_tree u) es)) c.deref-in-If-2.ensures in
+    let no : option_map raw_tests c.in_ok-no-in-If.no ≡ bag_tests (raw_form S (term_tree three.value) es) = c.in_ok-no-in-If.ensures ∙ ap (λ (u : Term). bag_tests (raw_form S (term_tree u) es)) c.deref-in-If-3.ensures in
     let tree : term_tree c.args.term.now ≡ TermTree.choose (term_tree one.value) (term_tree two.value) (term_tree three.value) = ap bare (placed_term c.args.term.now) ∙ ap node_tree c.in-If.is ∙ ap bare_node (node_choose one two three) in
     IfOk-weaker c.chosen_tests.result _ _
     (λ found e. e

@@ -5,9 +5,9 @@ use Rattle.normalise.specs.Raw.{fields_view, raw_comps, raw_tests}
 use Rattle.normalise.specs.Scopes.{bodies}
 use Rattle.normalise.proofs.walk.+body.Given as goal
 
-abbrev pub invariant-body-loop-comp : goal.invariant-body-loop-comp
-invariant-body-loop-comp l =
-    raw_comps l.all ≡ each_comp (raw_comps l.yielded) (λ gs e. raw_comps_in (raw_form l.schema.tables (term_tree l.rest.value) (e ∷ map (up_body (length gs) 0) (bodies l.scope))))
+abbrev pub invariant-for_comps-loop-comp : goal.invariant-for_comps-loop-comp
+invariant-for_comps-loop-comp l =
+    raw_comps l.all ≡ each_comp (raw_comps l.yielded) (λ gs e. raw_comps_in (raw_form l.schema.tables (term_tree l.rest) (e ∷ map (up_body (length gs) 0) (bodies l.scope))))
 
 abbrev pub invariant-for_tests-loop-comp : goal.invariant-for_tests-loop-comp
 invariant-for_tests-loop-comp l =
