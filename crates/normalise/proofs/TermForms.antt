@@ -1,15 +1,18 @@
 -- The raw forms of terms, form by form.
-use Rattle.std.proofs.Common.{◌≡◌, ℕ, List, [], ◌∷◌, map, ap, ◌∙◌, length, Box, Global, get_or}
+use Rattle.std.proofs.Common.{◌≡◌, ℕ, Bool, List, [], ◌∷◌, map, ap, ◌∙◌, length, Box, Global, get_or}
 use Rattle.nq_model.specs.NamedRows.{Label}
 use Rattle.nq_model.specs.Terms.{bare, bare_node, node_tree, term_tree}
+use Rattle.nq_model.specs.declared.table.Cell.TheVariants as cell
 use Rattle.nq_model.specs.declared.table.TableShape.{TableShape}
 use Rattle.nq_model.specs.declared.term.Binary.{Binary}
 use Rattle.nq_model.specs.declared.term.Node.{Node}
 use Rattle.nq_model.specs.declared.term.Node.TheVariants as node
 use Rattle.nq_model.specs.declared.term.Term.{Term}
 use Rattle.nq_model.specs.declared.term.Unary.{Unary}
-use Rattle.nq_model.proofs.Terms.{placed_term, node_binary, node_choose, node_empty, node_field, node_for, node_guard, node_single, node_unary, node_union, node_var}
-use Rattle.nq_ir.specs.RawForms.{RawBody, append_raw, choice, each_comp, no_raw, no_raw_body, no_raw_comp, raw_bag, raw_base_in, raw_binary, raw_comp, raw_comps_in, raw_empty, raw_field_in, raw_form, raw_plain, raw_tests_of, raw_unary, up_body, where_raw}
+use Rattle.nq_model.specs.declared.ty.Ty.{Ty}
+use Rattle.nq_model.proofs.Terms.{placed_term, node_binary, node_bool, node_choose, node_empty, node_field, node_for, node_guard, node_nil, node_single, node_table, node_text, node_unary, node_union, node_var}
+use Rattle.nq_ir.specs.RawForms.{RawBody, append_raw, choice, columns_body, each_comp, no_raw, no_raw_body, no_raw_comp, raw_bag, raw_base_in, raw_binary, raw_comp, raw_comps_in, raw_empty, raw_field_in, raw_form, raw_literal, raw_plain, raw_rec, raw_tests_of, raw_unary, up_body, where_raw}
+use Rattle.nq_ir.specs.WellFormed.{table_columns}
 
 module _ (S : List TableShape) (es : List RawBody) (t : Term) where
   of_node : (n : Node) → t.node ≡ n → raw_form S (term_tree t) es ≡ raw_form S (node_tree n) es
@@ -44,3 +47,15 @@ module _ (S : List TableShape) (es : List RawBody) (t : Term) where
 
   pub form_guard : (x a : Box Term Global) → t.node ≡ node.Guard x a → raw_form S (term_tree t) es ≡ raw_bag (where_raw (raw_base_in (raw_form S (term_tree x.value) es)) (raw_comps_in (raw_form S (term_tree a.value) es)))
   form_guard x a e = of_node (node.Guard x a) e ∙ ap (λ z. raw_form S (bare_node z) es) (node_guard x a)
+
+  pub form_bool : (b : Bool) → t.node ≡ node.Bool b → raw_form S (term_tree t) es ≡ raw_plain (raw_literal (cell.Bool b))
+  form_bool b e = of_node (node.Bool b) e ∙ ap (λ z. raw_form S (bare_node z) es) (node_bool b)
+
+  pub form_text : (x : List ℕ) → t.node ≡ node.Text x → raw_form S (term_tree t) es ≡ raw_plain (raw_literal (cell.Text x))
+  form_text x e = of_node (node.Text x) e ∙ ap (λ z. raw_form S (bare_node z) es) (node_text x)
+
+  pub form_table : (l : Label) → t.node ≡ node.Table l → raw_form S (term_tree t) es ≡ raw_bag (raw_comp (l ∷ []) no_raw (raw_rec (columns_body (table_columns S l))) no_raw_comp)
+  form_table l e = of_node (node.Table l) e ∙ ap (λ z. raw_form S (bare_node z) es) (node_table l)
+
+  pub form_nil : (k : Ty) → t.node ≡ node.Nil k → raw_form S (term_tree t) es ≡ raw_bag no_raw_comp
+  form_nil k e = of_node (node.Nil k) e ∙ ap (λ z. raw_form S (bare_node z) es) (node_nil k)

@@ -1,9 +1,10 @@
 -- The raw forms of the code's bodies, form by form.
-use Rattle.std.proofs.Common.{◌≡◌, ℕ, List, map, sym, ap, ◌∙◌}
+use Rattle.std.proofs.Common.{◌≡◌, ℕ, Bool, List, map, sym, ap, ◌∙◌}
 use Rattle.nq_model.specs.NamedRows.{Label}
+use Rattle.nq_model.specs.declared.table.Cell.TheVariants as cell
 use Rattle.nq_model.specs.declared.term.Binary.{Binary}
 use Rattle.nq_model.specs.declared.term.Unary.{Unary}
-use Rattle.nq_ir.specs.RawForms.{RawBase, raw_binary, raw_choose, raw_empty, raw_unary, up_base, RawBody, raw_plain, raw_rec, raw_bag, up_body}
+use Rattle.nq_ir.specs.RawForms.{RawBase, raw_binary, raw_choose, raw_column, raw_literal, raw_empty, raw_unary, up_base, RawBody, raw_plain, raw_rec, raw_bag, up_body}
 use Rattle.normalise.specs.declared.raw.RawBase.{RawBase-F, fold-roll-RawBase}
 use Rattle.normalise.specs.declared.raw.RawBase.TheVariants as base
 use Rattle.normalise.specs.declared.raw.MovedBase.{MovedBase, fold-roll-MovedBase}
@@ -13,6 +14,12 @@ use Rattle.normalise.specs.declared.raw.RawBody.TheVariants as body
 use Rattle.normalise.specs.declared.raw.MovedBody.{MovedBody, fold-roll-MovedBody}
 use Rattle.normalise.specs.declared.raw.RawComp.{RawComp as CodeComp, fold-roll-RawComp}
 use Rattle.normalise.specs.Raw.{TestPart, CompPart, tests_of, fields_of, comps_of, base_layer, moved_layer, test_layer, raw_base, moved_base, test_part, raw_conds, body_layer, moved_body_layer, comp_layer, raw_body, moved_body, comp_part}
+
+pub base_bool : (b : Bool) → raw_base (base.Bool b) ≡ raw_literal (cell.Bool b)
+base_bool b = ap raw_base (sym (base.rolls-Bool b)) ∙ fold-roll-RawBase RawBase RawBase TestPart base_layer moved_layer test_layer (RawBase-F.Bool b)
+
+pub base_column : (i : ℕ) (l : Label) → raw_base (base.Column i l) ≡ raw_column i l
+base_column i l = ap raw_base (sym (base.rolls-Column i l)) ∙ fold-roll-RawBase RawBase RawBase TestPart base_layer moved_layer test_layer (RawBase-F.Column i l)
 
 pub base_empty : (ts : List CodeTest) → raw_base (base.Empty ts) ≡ raw_empty (tests_of (map test_part ts))
 base_empty ts = ap raw_base (sym (base.rolls-Empty ts)) ∙ fold-roll-RawBase RawBase RawBase TestPart base_layer moved_layer test_layer (RawBase-F.Empty ts)

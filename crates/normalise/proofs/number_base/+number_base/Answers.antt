@@ -1,16 +1,44 @@
 use Rattle.std.proofs.Common.{rules, arith, ◌≡◌, ◌+◌, ap, ap₂, sym, ◌∙◌, map, length, List, ℕ}
 use Rattle.std.proofs.lemmas.Result.{IfOk-weaker}
+use Rattle.nq_model.specs.NamedRows.{Label}
 use Rattle.nq_ir.specs.NormalForms.{number_base, number_gens, gens_in_base}
 use Rattle.nq_ir.specs.Trees.{BaseTree, base_tree, tests_of as numbered_tests}
-use Rattle.nq_ir.proofs.Forms.{base_binary as numbered_binary, base_choose as numbered_choose, base_empty as numbered_empty, base_unary as numbered_unary}
+use Rattle.nq_ir.proofs.Forms.{base_binary as numbered_binary, base_bool as numbered_bool, base_choose as numbered_choose, base_column as numbered_column, base_empty as numbered_empty, base_unary as numbered_unary}
 use Rattle.normalise.specs.Raw.{moved_base, raw_base, test_part}
 use Rattle.normalise.specs.Numbers.{numbers, without, bases_numbered, gens_in_bases, tests_numbered, gens_in_parts}
 use Rattle.normalise.specs.declared.raw.MovedBase.{MovedBase}
 use Rattle.normalise.specs.declared.raw.RawBase.{RawBase as CodeBase}
 use Rattle.normalise.specs.declared.raw.RawTest.{RawTest as CodeTest, out-RawTest}
-use Rattle.normalise.proofs.Views.{base_binary, base_choose, base_empty, base_unary}
+use Rattle.normalise.proofs.Views.{base_binary, base_bool, base_choose, base_column, base_empty, base_moved, base_unary}
 use Rattle.normalise.proofs.Numbering.{moved_has, moved_made, numbers_dealt, tests_are, tests_have, test_made, test_has}
 use Rattle.normalise.proofs.number_base.+number_base.Goals as goal
+
+pub number_base-returns-in-Bool : goal.number_base-returns-in-Bool
+number_base-returns-in-Bool t c =
+    let sc = numbers c.args.scope.now in
+    let n = c.args.next in
+    let old = ap raw_base c.in-Bool.is ∙ base_bool c.in-Bool.truth in
+    let same : n ≡ n + 0 = omega arith in
+    (numbered_bool c.in-Bool.truth ∙ ap (number_base n sc) (sym old), same ∙ ap (λ z. n + gens_in_base z) (sym old))
+
+pub number_base-returns-in_ok-column-in-Column : goal.number_base-returns-in_ok-column-in-Column
+number_base-returns-in_ok-column-in-Column t c =
+    let sc = numbers c.args.scope.now in
+    let n = c.args.next in
+    let old = ap raw_base c.in-Column.is ∙ base_column c.in-Column.back c.in-Column.column in
+    let same : n ≡ n + 0 = omega arith in (
+      numbered_column c.in_ok-generator-in-Column.generator c.in_ok-column-in-Column.column
+          ∙ ap₂ (λ g (l : Label). BaseTree.column g l) c.in_ok-generator-in-Column.ensures c.in_ok-column-in-Column.ensures
+          ∙ ap (number_base n sc) (sym old),
+      same ∙ ap (λ z. n + gens_in_base z) (sym old),
+    )
+
+pub number_base-returns-in-Moved : goal.number_base-returns-in-Moved
+number_base-returns-in-Moved t c =
+    let sc = numbers c.args.scope.now in
+    let n = c.args.next in
+    let old = ap raw_base c.in-Moved.is ∙ base_moved c.in-Moved.moved in
+    IfOk-weaker c.number_moved.result _ _ (λ r h. (h.0 ∙ ap (number_base n sc) (sym old), h.1 ∙ ap (λ z. n + gens_in_base z) (sym old))) c.number_moved.ensures
 
 pub number_base-returns-in_ok-of-in-Unary : goal.number_base-returns-in_ok-of-in-Unary
 number_base-returns-in_ok-of-in-Unary t c =

@@ -7,17 +7,30 @@ use Rattle.nq_ir.specs.NormalForms.{element_type, field_types, number_gens, numb
 use Rattle.nq_ir.specs.Trees.{BodyTree, FormTree, body_tree, bodies_of, comps_of as numbered_comps}
 use Rattle.nq_ir.specs.declared.normal.Body.{Body}
 use Rattle.nq_ir.specs.declared.normal.Normal.{roll-Normal}
-use Rattle.nq_ir.proofs.Forms.{body_rec as numbered_rec, body_bag as numbered_bag}
+use Rattle.nq_ir.proofs.Forms.{body_plain as numbered_plain, body_rec as numbered_rec, body_bag as numbered_bag}
 use Rattle.normalise.specs.Raw.{comp_part, fields_view, moved_base, moved_body, raw_body}
 use Rattle.normalise.specs.Numbers.{numbers, without, bases_numbered, gens_in_bases, comps_numbered, fields_numbered, tags_in_list, gens_in_list, tags_in_parts, gens_in_comps}
 use Rattle.normalise.specs.declared.raw.MovedBase.{MovedBase}
 use Rattle.normalise.specs.declared.raw.MovedBody.{MovedBody}
 use Rattle.normalise.specs.declared.raw.RawBody.{RawBody as CodeBody}
 use Rattle.normalise.specs.declared.raw.RawComp.{RawComp as CodeComp}
-use Rattle.normalise.proofs.Views.{body_rec, body_bag}
+use Rattle.normalise.proofs.Views.{body_plain, body_rec, body_bag}
 use Rattle.normalise.proofs.Numbering.{numbers_dealt}
 use Rattle.normalise.proofs.NumberedBodies.{body_has_gens, body_has_tags, body_made, fields_are, fields_tags, fields_gens, comps_are, comps_tags, comps_gens, comp_made, comp_has_tags, comp_has_gens, form_made, fields_step, counts_step}
 use Rattle.normalise.proofs.number_body.+number_body.Goals as goal
+
+pub number_body-returns-in_ok-base-in-Plain : goal.number_body-returns-in_ok-base-in-Plain
+number_body-returns-in_ok-base-in-Plain t c =
+    let sc = numbers c.args.scope.now in
+    let tag = c.args.next.tag in
+    let n = c.args.next.number in
+    let h = c.in_ok-base-in-Plain.ensures in
+    let old = ap raw_body c.in-Plain.is ∙ body_plain c.in-Plain.base in
+    let same : tag ≡ tag + 0 = omega arith in (
+      numbered_plain c.in_ok-base-in-Plain.base ∙ ap BodyTree.plain_body h.0 ∙ ap (number_body tag n sc (type_tree c.args.ty.now)) (sym old),
+      same ∙ ap (λ z. tag + tags_in_body z) (sym old),
+      h.1 ∙ ap (λ z. n + gens_in_body z) (sym old),
+    )
 
 pub number_body-returns-in_ok-fields-in-Rec : goal.number_body-returns-in_ok-fields-in-Rec
 number_body-returns-in_ok-fields-in-Rec t c =

@@ -5,17 +5,50 @@ use Rattle.nq_model.specs.Orders.{by_label}
 use Rattle.nq_model.specs.Terms.{TermTree, bare, bare_node, node_tree, term_tree, fields_view as terms_view}
 use Rattle.nq_model.specs.declared.term.Term.{Term}
 use Rattle.nq_model.proofs.Terms.{placed_term, node_choose, node_guard, node_tree_record, node_union}
-use Rattle.nq_ir.specs.RawForms.{RawBody, RawComps, and_raw, append_raw, choice, each_comp, no_raw, no_raw_comp, raw_bag, raw_base_in, raw_binary, raw_comp, raw_comps_in, raw_empty, raw_field_in, raw_form, raw_plain, raw_rec, raw_tests_of, raw_unary, up_body, where_raw}
-use Rattle.normalise.specs.Raw.{append_tests, fields_of, moved_base, moved_body, raw_tests, where_tests}
+use Rattle.nq_ir.specs.RawForms.{RawBody, RawComps, and_raw, append_raw, choice, each_comp, no_raw, no_raw_comp, no_raw_test, raw_bag, raw_base_in, raw_binary, raw_comp, raw_comps_in, raw_empty, raw_field_in, raw_form, raw_plain, raw_rec, raw_test, raw_tests_of, raw_unary, up_body, where_raw}
+use Rattle.normalise.specs.Raw.{append_tests, fields_of, moved_base, moved_body, raw_comps, raw_tests, where_tests}
+use Rattle.normalise.specs.declared.raw.RawComp.{RawComp as CodeComp}
+use Rattle.normalise.specs.declared.raw.RawTest.{RawTest as CodeTest}
 use Rattle.normalise.specs.Scopes.{bodies}
 use Rattle.normalise.specs.BagTests.{bag_tests, choice_of_tests}
 use Rattle.normalise.proofs.FieldFacts.{fields_are}
 use Rattle.normalise.proofs.Lists.{tests_of_append, tests_of_inside}
 use Rattle.normalise.proofs.Scopes.{scope_inner, scope_under}
 use Rattle.normalise.proofs.BagTests.{choice_tests, tests_found}
-use Rattle.normalise.proofs.TermForms.{form_binary, form_choose, form_empty, form_field, form_for, form_guard, form_single, form_unary, form_union}
+use Rattle.normalise.proofs.TermForms.{form_binary, form_bool, form_choose, form_empty, form_field, form_for, form_guard, form_nil, form_single, form_table, form_text, form_unary, form_union, form_var}
+use Rattle.normalise.proofs.Views.{base_bool}
 use Rattle.normalise.proofs.Walks.{loop_step, tests_step}
 use Rattle.normalise.proofs.walk.+body.Goals as goal
+
+pub body-returns-in-Var : goal.body-returns-in-Var
+body-returns-in-Var t c =
+    let S = c.args.schema.now.tables in
+    let es = bodies c.args.scope.now in
+    IfOk-weaker c.variable.result _ _ (λ b e. e ∙ sym (form_var S es c.args.term.now c.in-Var.k c.in-Var.is)) c.variable.ensures
+
+pub body-returns-in-Bool : goal.body-returns-in-Bool
+body-returns-in-Bool t c =
+    let S = c.args.schema.now.tables in
+    let es = bodies c.args.scope.now in
+    IfOk-weaker c.plain-in-Bool.result _ _ (λ b e. e ∙ ap raw_plain (base_bool c.in-Bool.truth) ∙ sym (form_bool S es c.args.term.now c.in-Bool.truth c.in-Bool.is)) c.plain-in-Bool.ensures
+
+pub body-returns-in-Text : goal.body-returns-in-Text
+body-returns-in-Text t c =
+    let S = c.args.schema.now.tables in
+    let es = bodies c.args.scope.now in
+    IfOk-weaker c.text.result _ _ (λ b e. e ∙ sym (form_text S es c.args.term.now c.in-Text.of c.in-Text.is)) c.text.ensures
+
+pub body-returns-in-Table : goal.body-returns-in-Table
+body-returns-in-Table t c =
+    let S = c.args.schema.now.tables in
+    let es = bodies c.args.scope.now in
+    IfOk-weaker c.table_body.result _ _ (λ b e. e ∙ sym (form_table S es c.args.term.now c.in-Table.name c.in-Table.is)) c.table_body.ensures
+
+pub body-returns-in-Nil : goal.body-returns-in-Nil
+body-returns-in-Nil t c =
+    let S = c.args.schema.now.tables in
+    let es = bodies c.args.scope.now in
+    IfOk-weaker c.bag.result _ _ (λ b e. e ∙ ap (λ (l : List CodeComp). raw_bag (raw_comps l)) c.new.ensures ∙ sym (form_nil S es c.args.term.now _ c.in-Nil.is)) c.bag.ensures
 
 pub body-returns-in_ok-fields-in-Rec : goal.body-returns-in_ok-fields-in-Rec
 body-returns-in_ok-fields-in-Rec t c =
@@ -140,6 +173,38 @@ for_tests-loop-comp-preserved t c =
 pub tests-returns-in-Some : goal.tests-returns-in-Some
 tests-returns-in-Some t c =
     tests_found (raw_form c.args.schema.now.tables (term_tree c.args.term.now) (bodies c.args.scope.now)) (raw_tests c.in-Some.tests) (rw c.in-Some.is at c.in_ok-tests.ensures)
+
+pub bag_tests-returns-in_ok-test_of_table-in-Table : goal.bag_tests-returns-in_ok-test_of_table-in-Table
+bag_tests-returns-in_ok-test_of_table-in-Table t c =
+    let S = c.args.schema.now.tables in
+    let es = bodies c.args.scope.now in
+    ap Some c.in_ok-test_of_table-in-Table.ensures ∙ sym (ap bag_tests (form_table S es c.args.term.now c.in-Table.name c.in-Table.is))
+
+pub bag_tests-returns-in_ok-one_test-in-Single : goal.bag_tests-returns-in_ok-one_test-in-Single
+bag_tests-returns-in_ok-one_test-in-Single t c =
+    let S = c.args.schema.now.tables in
+    let es = bodies c.args.scope.now in
+    ap Some (c.in_ok-one_test-in-Single.ensures ∙ ap (λ (l : List Label). raw_test l no_raw no_raw_test) c.new.ensures)
+    ∙ sym (ap bag_tests (form_single S es c.args.term.now _ c.in-Single.is))
+
+pub bag_tests-returns-in-Nil : goal.bag_tests-returns-in-Nil
+bag_tests-returns-in-Nil t c =
+    let S = c.args.schema.now.tables in
+    let es = bodies c.args.scope.now in
+    ap (λ (l : List CodeTest). Some (raw_tests l)) c.new-in-Nil.ensures ∙ sym (ap bag_tests (form_nil S es c.args.term.now _ c.in-Nil.is))
+
+pub bag_tests-returns-in_ok-for_tests-in-For : goal.bag_tests-returns-in_ok-for_tests-in-For
+bag_tests-returns-in_ok-for_tests-in-For t c =
+    let S = c.args.schema.now.tables in
+    let es = bodies c.args.scope.now in
+    let source = c.in_ok-source-in-For.ensures ∙ ap (λ (u : Term). raw_comps_in (raw_form S (term_tree u) es)) c.deref-in-For.ensures in
+    ap Some (c.in_ok-for_tests-in-For.ensures
+    ∙ ap₂ (λ (y : RawComps) (u : Term). raw_tests_of (each_comp y (λ gs e. raw_comps_in (raw_form S (term_tree u) (e ∷ map (up_body (length gs) 0) es))))) source c.deref-in-For-2.ensures)
+    ∙ sym (ap bag_tests (form_for S es c.args.term.now c.in-For.source c.in-For.rest c.in-For.is))
+
+pub bag_tests-returns-in_ok-body-in-Var : goal.bag_tests-returns-in_ok-body-in-Var
+bag_tests-returns-in_ok-body-in-Var t c =
+    IfOk-weaker c.opened_tests.result _ _ (λ found e. e ∙ ap bag_tests c.in_ok-body-in-Var.ensures) c.opened_tests.ensures
 
 pub bag_tests-returns-in_ok-append_tests-in-Union : goal.bag_tests-returns-in_ok-append_tests-in-Union
 bag_tests-returns-in_ok-append_tests-in-Union t c =
