@@ -51,19 +51,34 @@ pub(crate) fn depth(term: &Term) -> Result<u64, Memory>
         | Node::Text(_)
         | Node::Table(_)
         | Node::Nil(_) => Ok(1),
-        Node::Unary { op: _, of } => one_more(depth(of)?),
-        Node::Binary { op: _, left, right } => one_more(depth(left)?.max(depth(right)?)),
-        Node::If { test, yes, no } => { one_more(depth(test)?.max(depth(yes)?).max(depth(no)?)) }
-        Node::Fun { taken: _, body } => one_more(depth(body)?),
-        Node::Apply { func, arg } => one_more(depth(func)?.max(depth(arg)?)),
+        Node::Unary { op: _, of: only }
+        | Node::Fun {
+            taken: _,
+            body: only,
+        }
+        | Node::Field { of: only, label: _ }
+        | Node::Empty(only)
+        | Node::Single(only) => one_more(depth(only)?),
+        Node::Binary { op: _, left, right }
+        | Node::Apply {
+            func: left,
+            arg: right,
+        }
+        | Node::Union { left, right }
+        | Node::For {
+            source: left,
+            body: right,
+        }
+        | Node::Guard {
+            test: left,
+            body: right,
+        }
+        | Node::Bind {
+            value: left,
+            body: right,
+        } => one_more(depth(left)?.max(depth(right)?)),
+        Node::If { test, yes, no } => one_more(depth(test)?.max(depth(yes)?).max(depth(no)?)),
         Node::Rec(fields) => one_more(fields_depth(fields.as_slice())?),
-        Node::Field { of, label: _ } => one_more(depth(of)?),
-        Node::Empty(of) => one_more(depth(of)?),
-        Node::Single(of) => one_more(depth(of)?),
-        Node::Union { left, right } => one_more(depth(left)?.max(depth(right)?)),
-        Node::For { source, body } => one_more(depth(source)?.max(depth(body)?)),
-        Node::Guard { test, body } => one_more(depth(test)?.max(depth(body)?)),
-        Node::Bind { value, body } => one_more(depth(value)?.max(depth(body)?)),
     }
 }
 

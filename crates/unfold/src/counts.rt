@@ -50,7 +50,12 @@ fn count(tally: &mut Tally, term: &Term) -> Result<(), Memory> {
         }
         Node::Int(_) | Node::Bool(_) | Node::Text(_) | Node::Table(_) | Node::Nil(_) => Ok(()),
         Node::Unary { op: _, of } | Node::Empty(of) | Node::Single(of) => count(tally, of),
-        Node::Binary { op: _, left, right } | Node::Union { left, right } => {
+        Node::Binary { op: _, left, right }
+        | Node::Union { left, right }
+        | Node::Guard {
+            test: left,
+            body: right,
+        } => {
             count(tally, right)?;
             count(tally, left)
         }
@@ -75,10 +80,6 @@ fn count(tally: &mut Tally, term: &Term) -> Result<(), Memory> {
         Node::For { source, body } => {
             let _uses = count_body(tally, body)?;
             count(tally, source)
-        }
-        Node::Guard { test, body } => {
-            count(tally, body)?;
-            count(tally, test)
         }
         Node::Bind { value, body } => {
             let uses = count_body(tally, body)?;

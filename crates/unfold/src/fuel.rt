@@ -7,9 +7,16 @@ ghost use Rattle.unfold.specs.Hereditary.{rank, ranks, fuel, fuel_fields};
 use nq_model::{Label, Memory, Node, Term, Ty};
 
 /// A bound of the rank of each type in a closed term.
-#[cycle(fuel)]
 pub(crate) fn fuel(term: &Term) -> Result<u64, Memory>
     ensures { IfOk result (λ n. n ≡ fuel (term_tree term.now)) }
+{
+    more_fuel(0, term)
+}
+
+// That of a term and `n` more.
+#[cycle(fuel)]
+fn more_fuel(n: u64, term: &Term) -> Result<u64, Memory>
+    ensures { IfOk result (λ m. m ≡ n + fuel (term_tree term.now)) }
 {
     match &term.node {
         Node::Var(_)
@@ -17,36 +24,42 @@ pub(crate) fn fuel(term: &Term) -> Result<u64, Memory>
         | Node::Bool(_)
         | Node::Text(_)
         | Node::Table(_)
-        | Node::Nil(_) => Ok(0),
-        Node::Unary { op: _, of } => fuel(of),
-        Node::Binary { op: _, left, right } => both(fuel(left)?, fuel(right)?),
-        Node::If { test, yes, no } => {
-            let parts = both(fuel(test)?, fuel(yes)?)?;
-            both(parts, fuel(no)?)
+        | Node::Nil(_) => Ok(n),
+        Node::Unary { op: _, of: only }
+        | Node::Field { of: only, label: _ }
+        | Node::Empty(only)
+        | Node::Single(only) => more_fuel(n, only),
+        Node::Fun { taken, body } => more_fuel(both(n, both(rank(taken)?, 1)?)?, body),
+        Node::Binary { op: _, left, right }
+        | Node::Apply {
+            func: left,
+            arg: right,
         }
-        Node::Fun { taken, body } => {
-            let own = both(rank(taken)?, 1)?;
-            both(own, fuel(body)?)
+        | Node::Union { left, right }
+        | Node::For {
+            source: left,
+            body: right,
         }
-        Node::Apply { func, arg } => both(fuel(func)?, fuel(arg)?),
-        Node::Rec(fields) => fuel_fields(fields.as_slice()),
-        Node::Field { of, label: _ } => fuel(of),
-        Node::Empty(of) => fuel(of),
-        Node::Single(of) => fuel(of),
-        Node::Union { left, right } => both(fuel(left)?, fuel(right)?),
-        Node::For { source, body } => both(fuel(source)?, fuel(body)?),
-        Node::Guard { test, body } => both(fuel(test)?, fuel(body)?),
-        Node::Bind { value, body } => both(fuel(value)?, fuel(body)?),
+        | Node::Guard {
+            test: left,
+            body: right,
+        }
+        | Node::Bind {
+            value: left,
+            body: right,
+        } => more_fuel(more_fuel(n, left)?, right),
+        Node::If { test, yes, no } => more_fuel(more_fuel(more_fuel(n, test)?, yes)?, no),
+        Node::Rec(fields) => more_fuel_of_fields(n, fields.as_slice()),
     }
 }
 
 #[cycle(fuel)]
-fn fuel_fields(fields: &[(Label, Term)]) -> Result<u64, Memory>
-    ensures { IfOk result (λ n. n ≡ fuel_fields (term_fields_of (fields_view fields.now))) }
+fn more_fuel_of_fields(n: u64, fields: &[(Label, Term)]) -> Result<u64, Memory>
+    ensures { IfOk result (λ m. m ≡ n + fuel_fields (term_fields_of (fields_view fields.now))) }
 {
-    let mut all = 0;
+    let mut all = n;
     for field in fields {
-        all = both(all, fuel(&field.1)?)?;
+        all = more_fuel(all, &field.1)?;
     }
     Ok(all)
 }

@@ -9,19 +9,31 @@ pub(crate) fn uses(term: &Term, k: u64) -> u64 {
     match &term.node {
         Node::Var(j) => { if *j == k { 1 } else { 0 } }
         Node::Int(_) | Node::Bool(_) | Node::Text(_) | Node::Table(_) | Node::Nil(_) => 0,
-        Node::Unary { op: _, of } => uses(of, k),
-        Node::Binary { op: _, left, right } => both(uses(left, k), uses(right, k)),
-        Node::If { test, yes, no } => both(uses(test, k), both(uses(yes, k), uses(no, k))),
+        Node::Unary { op: _, of: only }
+        | Node::Field { of: only, label: _ }
+        | Node::Empty(only)
+        | Node::Single(only) => uses(only, k),
         Node::Fun { taken: _, body } => uses(body, under),
-        Node::Apply { func, arg } => both(uses(func, k), uses(arg, k)),
+        Node::Binary { op: _, left, right }
+        | Node::Apply {
+            func: left,
+            arg: right,
+        }
+        | Node::Union { left, right }
+        | Node::Guard {
+            test: left,
+            body: right,
+        } => both(uses(left, k), uses(right, k)),
+        Node::For {
+            source: outside,
+            body,
+        }
+        | Node::Bind {
+            value: outside,
+            body,
+        } => { both(uses(outside, k), uses(body, under)) }
+        Node::If { test, yes, no } => both(uses(test, k), both(uses(yes, k), uses(no, k))),
         Node::Rec(fields) => fields_uses(fields.as_slice(), k),
-        Node::Field { of, label: _ } => uses(of, k),
-        Node::Empty(of) => uses(of, k),
-        Node::Single(of) => uses(of, k),
-        Node::Union { left, right } => both(uses(left, k), uses(right, k)),
-        Node::For { source, body } => both(uses(source, k), uses(body, under)),
-        Node::Guard { test, body } => both(uses(test, k), uses(body, k)),
-        Node::Bind { value, body } => both(uses(value, k), uses(body, under)),
     }
 }
 
