@@ -5,3 +5,4 @@ pub mod Hereditary
 pub mod Scopes
 pub mod Slots
 pub mod Unfolded
+pub mod Shapes

@@ -5,9 +5,10 @@ ghost use Rattle.nq_model.specs.Terms.{placed, term_tree};
 ghost use Rattle.nq_model.specs.Typing.{IsAccepted};
 ghost use Rattle.unfold.specs.Depths.{term_depth};
 ghost use Rattle.unfold.specs.Environments.{walked};
+ghost use Rattle.unfold.specs.Hereditary.{fuel};
 ghost use Rattle.unfold.specs.Unfolded.{IsUnfolding};
 
-use crate::built::depth;
+use crate::built::{Built, depth};
 use crate::counts::count_uses;
 use crate::fuel::fuel;
 use crate::walk::walk_query;
@@ -34,11 +35,26 @@ pub(crate) fn unfold_by_rank(alloc: Global, term: Term) -> Result<Term, Memory>
     ensures exact { IfOk result (λ t. placed t ≡ walked (placed term)) }
     ensures shallow { IfOk result (λ t. term_depth (term_tree t) ≤ 2000) }
 {
-    let rank = fuel(&term)?;
-    let uses = count_uses(alloc, &term)?;
-    let done = walk_query(alloc, rank, uses, term)?;
-    if depth(&done.term)? > DEEPEST {
+    let (rank, uses) = counted(alloc, &term)?;
+    let Built { term, deep: _deep } = walk_query(alloc, rank, uses, term)?;
+    refuse_deeper(&term)?;
+    Ok(term)
+}
+
+// What a walk has to know of the term before it begins.
+fn counted(alloc: Global, term: &Term) -> Result<(u64, Vec<u64>), Memory>
+    ensures { IfOk result (λ counts. counts.0 ≡ fuel (term_tree term.now)) }
+{
+    let rank = fuel(term)?;
+    let uses = count_uses(alloc, term)?;
+    Ok((rank, uses))
+}
+
+fn refuse_deeper(term: &Term) -> Result<(), Memory>
+    ensures { IfOk result (λ _. term_depth (term_tree term.now) ≤ 2000) }
+{
+    if depth(term)? > DEEPEST {
         return Err(Memory);
     }
-    Ok(done.term)
+    Ok(())
 }

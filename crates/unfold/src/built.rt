@@ -5,6 +5,7 @@ ghost use Rattle.nq_model.specs.Terms.{placed, term_tree, term_fields_of, fields
 ghost use Rattle.unfold.specs.Depths.{term_depth, fields_depth};
 
 use nq_model::{Label, Memory, Node, Term};
+use std::alloc::Global;
 
 /// The deepest term that is built on the way.
 pub(crate) const DEEPEST_BUILT: u64 = 3_000;
@@ -14,6 +15,28 @@ pub(crate) const DEEPEST_BUILT: u64 = 3_000;
 pub(crate) struct Built<T> {
     pub term: T,
     pub deep: u64,
+}
+
+impl Built<Term> {
+    /// A copy of the term.
+    pub(crate) fn copy(&self, alloc: Global) -> Result<Built<Term>, Memory>
+        ensures { IfOk result (λ copy. placed copy.term ≡ placed self.now.term) }
+    {
+        Ok(Built {
+            term: self.term.copy(alloc)?,
+            deep: self.deep,
+        })
+    }
+}
+
+/// A term out of its box.
+pub(crate) fn opened(term: Box<Term>, deep: u64) -> Built<Term>
+    ensures { placed result.term ≡ placed term.value }
+{
+    Built {
+        term: Box::into_inner(term),
+        deep,
+    }
 }
 
 /// A term of one node.
@@ -27,13 +50,19 @@ pub(crate) fn leaf(term: Term) -> Built<Term>
 pub(crate) fn grown(below: u64, term: Term) -> Result<Built<Term>, Memory>
     ensures { IfOk result (λ b. placed b.term ≡ placed term) }
 {
+    let deep = deep_over(below, &term)?;
+    Ok(Built { term, deep })
+}
+
+// How deep such a term is at most, where that is not too deep.
+fn deep_over(below: u64, term: &Term) -> Result<u64, Memory> {
     let deep = below.saturating_add(1);
     if deep <= DEEPEST_BUILT {
-        return Ok(Built { term, deep });
+        return Ok(deep);
     }
-    let deep = depth(&term)?;
+    let deep = depth(term)?;
     if deep <= DEEPEST_BUILT {
-        Ok(Built { term, deep })
+        Ok(deep)
     } else {
         Err(Memory)
     }

@@ -5,33 +5,31 @@
 ghost use Rattle.std.specs.Prelude.{◌≡◌, IfOk};
 ghost use Rattle.nq_model.specs.Types.{type_tree};
 ghost use Rattle.nq_model.specs.Terms.{placed, placed_fields, at, PlacedNode};
+ghost use Rattle.unfold.specs.Shapes.{one_node, two_node};
 
 use crate::built::{Built, grown};
-use nq_model::{Binary, Label, List, Memory, Node, Term, Ty, Unary, boxed};
+use crate::shapes::{One, Two};
+use nq_model::{Label, List, Memory, Node, Term, Ty, boxed};
 use std::alloc::Global;
 
 /// A done part in its box.
 pub(crate) type Part = Built<Box<Term>>;
 
 #[inline(never)]
-pub(crate) fn unary(place: u64, op: Unary, of: Part) -> Result<Built<Term>, Memory>
-    ensures { IfOk result (λ b. placed b.term ≡ at place (PlacedNode.unary op (placed of.term.value))) }
+pub(crate) fn one(place: u64, shape: One, of: Part) -> Result<Built<Term>, Memory>
+    ensures { IfOk result (λ b. placed b.term ≡ at place (one_node shape (placed of.term.value))) }
 {
     let deep = of.deep;
-    let node = Node::Unary { op, of: of.term };
+    let node = shape.over(of.term);
     grown(deep, Term { place, node })
 }
 
 #[inline(never)]
-pub(crate) fn binary(place: u64, op: Binary, left: Part, right: Part) -> Result<Built<Term>, Memory>
-    ensures { IfOk result (λ b. placed b.term ≡ at place (PlacedNode.binary op (placed left.term.value) (placed right.term.value))) }
+pub(crate) fn two(place: u64, shape: Two, left: Part, right: Part) -> Result<Built<Term>, Memory>
+    ensures { IfOk result (λ b. placed b.term ≡ at place (two_node shape (placed left.term.value) (placed right.term.value))) }
 {
     let deep = left.deep.max(right.deep);
-    let node = Node::Binary {
-        op,
-        left: left.term,
-        right: right.term,
-    };
+    let node = shape.over(left.term, right.term);
     grown(deep, Term { place, node })
 }
 
@@ -69,72 +67,6 @@ pub(crate) fn with_fields(
 {
     let deep = fields.deep;
     let node = Node::Rec(fields.term);
-    grown(deep, Term { place, node })
-}
-
-#[inline(never)]
-pub(crate) fn emptiness(place: u64, of: Part) -> Result<Built<Term>, Memory>
-    ensures { IfOk result (λ b. placed b.term ≡ at place (PlacedNode.empty (placed of.term.value))) }
-{
-    let deep = of.deep;
-    let node = Node::Empty(of.term);
-    grown(deep, Term { place, node })
-}
-
-#[inline(never)]
-pub(crate) fn single(place: u64, of: Part) -> Result<Built<Term>, Memory>
-    ensures { IfOk result (λ b. placed b.term ≡ at place (PlacedNode.single (placed of.term.value))) }
-{
-    let deep = of.deep;
-    let node = Node::Single(of.term);
-    grown(deep, Term { place, node })
-}
-
-#[inline(never)]
-pub(crate) fn union(place: u64, left: Part, right: Part) -> Result<Built<Term>, Memory>
-    ensures { IfOk result (λ b. placed b.term ≡ at place (PlacedNode.union (placed left.term.value) (placed right.term.value))) }
-{
-    let deep = left.deep.max(right.deep);
-    let node = Node::Union {
-        left: left.term,
-        right: right.term,
-    };
-    grown(deep, Term { place, node })
-}
-
-#[inline(never)]
-pub(crate) fn comprehension(place: u64, source: Part, body: Part) -> Result<Built<Term>, Memory>
-    ensures { IfOk result (λ b. placed b.term ≡ at place (PlacedNode.for (placed source.term.value) (placed body.term.value))) }
-{
-    let deep = source.deep.max(body.deep);
-    let node = Node::For {
-        source: source.term,
-        body: body.term,
-    };
-    grown(deep, Term { place, node })
-}
-
-#[inline(never)]
-pub(crate) fn guard(place: u64, test: Part, body: Part) -> Result<Built<Term>, Memory>
-    ensures { IfOk result (λ b. placed b.term ≡ at place (PlacedNode.guard (placed test.term.value) (placed body.term.value))) }
-{
-    let deep = test.deep.max(body.deep);
-    let node = Node::Guard {
-        test: test.term,
-        body: body.term,
-    };
-    grown(deep, Term { place, node })
-}
-
-#[inline(never)]
-pub(crate) fn binding(place: u64, value: Part, body: Part) -> Result<Built<Term>, Memory>
-    ensures { IfOk result (λ b. placed b.term ≡ at place (PlacedNode.bind (placed value.term.value) (placed body.term.value))) }
-{
-    let deep = value.deep.max(body.deep);
-    let node = Node::Bind {
-        value: value.term,
-        body: body.term,
-    };
     grown(deep, Term { place, node })
 }
 

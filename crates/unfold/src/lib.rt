@@ -10,6 +10,7 @@ mod fuel;
 mod laws;
 mod raise;
 mod scope;
+mod shapes;
 mod slot;
 mod stack;
 mod substitute;

@@ -43,13 +43,7 @@ pub(crate) fn take(alloc: Global, under: u64, slot: &mut Slot) -> Result<Built<T
         }
     } else {
         match &slot.value {
-            Some(value) => {
-                let copy = Built {
-                    term: value.term.copy(alloc)?,
-                    deep: value.deep,
-                };
-                moved(alloc, under, copy)
-            }
+            Some(value) => { moved(alloc, under, value.copy(alloc)?) }
             None => Err(Memory),
         }
     }

@@ -1,22 +1,22 @@
 // Substitution that contracts what it makes contractible.
 //
 // After Watkins, Cervesato, Pfenning and Walker, "A Concurrent Logical Framework", CMU-CS-02-101, 2002.
-ghost use Rattle.std.specs.Prelude.{◌≡◌, map, IfOk};
+ghost use Rattle.std.specs.Prelude.{◌≡◌, ◌+◌, map, IfOk};
+ghost use Rattle.nq_model.specs.Types.{type_tree};
 ghost use Rattle.nq_model.specs.Terms.{placed, at, PlacedNode};
 ghost use Rattle.nq_model.specs.Substitution.{fields_with_places};
 ghost use Rattle.unfold.specs.Hereditary.{substitute, apply_by, apply_at, field_by};
+ghost use Rattle.unfold.specs.Shapes.{one_node, two_node, inside};
 ghost use Rattle.unfold.specs.Slots.{Puts};
 
-use crate::built::{Built, leaf, one_more};
+use crate::built::{Built, leaf, one_more, opened};
 use crate::field::field;
-use crate::forms::{
-    Part, applied, binary, binding, choice, chosen, comprehension, emptiness, function, guard,
-    single, unary, union, with_fields,
-};
+use crate::forms::{Part, applied, choice, chosen, function, one, two, with_fields};
+use crate::shapes::{One, Two};
 use crate::slot::{Slot, put};
 use crate::stack::{APPLY, APPLY_BRANCHES, ARGUMENT, SUBSTITUTE, further};
 use crate::uses::uses;
-use nq_model::{Label, List, Memory, Node, Term, boxed};
+use nq_model::{Label, List, Memory, Node, Term, Ty, boxed};
 use std::alloc::Global;
 
 /// What the slot holds in place of the variable `from`, in a done term. `rank` bounds how deep arrows nest in
@@ -40,23 +40,26 @@ pub(crate) fn substitute(
             Ok(leaf(Term { place, node }))
         }
         Node::Unary { op, of } => {
-            let of = substitute_box(alloc, rank, room, from, by, of)?;
-            unary(place, op, of)
+            substitute_one(alloc, rank, room, from, by, place, One::Unary(op), of)
         }
         Node::Binary { op, left, right } => {
-            let left = substitute_box(alloc, rank, room, from, by, left)?;
-            let right = substitute_box(alloc, rank, room, from, by, right)?;
-            binary(place, op, left, right)
+            substitute_two(
+                alloc,
+                rank,
+                room,
+                from,
+                by,
+                place,
+                Two::Binary(op),
+                left,
+                right,
+            )
         }
         Node::If { test, yes, no } => {
-            let test = substitute_box(alloc, rank, room, from, by, test)?;
-            let yes = substitute_box(alloc, rank, room, from, by, yes)?;
-            let no = substitute_box(alloc, rank, room, from, by, no)?;
-            choice(place, test, yes, no)
+            substitute_choice(alloc, rank, room, from, by, place, test, yes, no)
         }
         Node::Fun { taken, body } => {
-            let body = substitute_box(alloc, rank, room, one_more(from)?, by, body)?;
-            function(place, taken, body)
+            substitute_function(alloc, rank, room, from, by, place, taken, body)
         }
         Node::Apply { func, arg } => {
             substitute_apply(alloc, rank, room, from, by, place, func, arg)
@@ -68,35 +71,102 @@ pub(crate) fn substitute(
         Node::Field { of, label } => {
             substitute_field(alloc, rank, room, from, by, place, of, label)
         }
-        Node::Empty(of) => emptiness(place, substitute_box(alloc, rank, room, from, by, of)?),
-        Node::Single(of) => single(place, substitute_box(alloc, rank, room, from, by, of)?),
+        Node::Empty(of) => substitute_one(alloc, rank, room, from, by, place, One::Empty, of),
+        Node::Single(of) => substitute_one(alloc, rank, room, from, by, place, One::Single, of),
         Node::Union { left, right } => {
-            let left = substitute_box(alloc, rank, room, from, by, left)?;
-            let right = substitute_box(alloc, rank, room, from, by, right)?;
-            union(place, left, right)
+            substitute_two(alloc, rank, room, from, by, place, Two::Union, left, right)
         }
-        Node::For {
-            source,
-            body: element,
-        } => {
-            let source = substitute_box(alloc, rank, room, from, by, source)?;
-            let element = substitute_box(alloc, rank, room, one_more(from)?, by, element)?;
-            comprehension(place, source, element)
+        Node::For { source, body } => {
+            substitute_two(alloc, rank, room, from, by, place, Two::For, source, body)
         }
         Node::Guard { test, body } => {
-            let test = substitute_box(alloc, rank, room, from, by, test)?;
-            let body = substitute_box(alloc, rank, room, from, by, body)?;
-            guard(place, test, body)
+            substitute_two(alloc, rank, room, from, by, place, Two::Guard, test, body)
         }
-        Node::Bind { value, body: rest } => {
-            let value = substitute_box(alloc, rank, room, from, by, value)?;
-            let rest = substitute_box(alloc, rank, room, one_more(from)?, by, rest)?;
-            binding(place, value, rest)
+        Node::Bind { value, body } => {
+            substitute_two(alloc, rank, room, from, by, place, Two::Bind, value, body)
         }
     }
 }
 
 // The parts that follow have frames of their own, so that those of `substitute` stay small.
+
+#[cycle(hereditary)]
+#[inline(never)]
+fn substitute_one(
+    alloc: Global,
+    rank: u64,
+    room: u64,
+    from: u64,
+    by: &mut Slot,
+    place: u64,
+    shape: One,
+    of: Box<Term>,
+) -> Result<Built<Term>, Memory>
+    ensures { IfOk result (λ b. Puts by.old by.new (λ s. placed b.term ≡ at place (one_node shape (substitute (apply_at rank) from s (placed of.value))))) }
+{
+    let of = substitute_box(alloc, rank, room, from, by, of)?;
+    one(place, shape, of)
+}
+
+#[cycle(hereditary)]
+#[inline(never)]
+fn substitute_two(
+    alloc: Global,
+    rank: u64,
+    room: u64,
+    from: u64,
+    by: &mut Slot,
+    place: u64,
+    shape: Two,
+    left: Box<Term>,
+    right: Box<Term>,
+) -> Result<Built<Term>, Memory>
+    ensures { IfOk result (λ b. Puts by.old by.new (λ s. placed b.term ≡ at place (two_node shape (substitute (apply_at rank) from s (placed left.value)) (substitute (apply_at rank) (inside shape from) s (placed right.value))))) }
+{
+    let inner = shape.inside(from)?;
+    let left = substitute_box(alloc, rank, room, from, by, left)?;
+    let right = substitute_box(alloc, rank, room, inner, by, right)?;
+    two(place, shape, left, right)
+}
+
+#[cycle(hereditary)]
+#[inline(never)]
+fn substitute_choice(
+    alloc: Global,
+    rank: u64,
+    room: u64,
+    from: u64,
+    by: &mut Slot,
+    place: u64,
+    test: Box<Term>,
+    yes: Box<Term>,
+    no: Box<Term>,
+) -> Result<Built<Term>, Memory>
+    ensures { IfOk result (λ b. Puts by.old by.new (λ s. placed b.term ≡ at place (PlacedNode.choose (substitute (apply_at rank) from s (placed test.value)) (substitute (apply_at rank) from s (placed yes.value)) (substitute (apply_at rank) from s (placed no.value))))) }
+{
+    let test = substitute_box(alloc, rank, room, from, by, test)?;
+    let yes = substitute_box(alloc, rank, room, from, by, yes)?;
+    let no = substitute_box(alloc, rank, room, from, by, no)?;
+    choice(place, test, yes, no)
+}
+
+#[cycle(hereditary)]
+#[inline(never)]
+fn substitute_function(
+    alloc: Global,
+    rank: u64,
+    room: u64,
+    from: u64,
+    by: &mut Slot,
+    place: u64,
+    taken: Ty,
+    body: Box<Term>,
+) -> Result<Built<Term>, Memory>
+    ensures { IfOk result (λ b. Puts by.old by.new (λ s. placed b.term ≡ at place (PlacedNode.fun (type_tree taken) (substitute (apply_at rank) (from + 1) s (placed body.value))))) }
+{
+    let body = substitute_box(alloc, rank, room, one_more(from)?, by, body)?;
+    function(place, taken, body)
+}
 
 #[cycle(hereditary)]
 #[inline(never)]
@@ -224,15 +294,7 @@ fn apply_above(
         Node::Fun {
             taken: _taken,
             body,
-        } => {
-            let body = Box::into_inner(body);
-            let left = uses(&body, 0);
-            let mut slot = Slot {
-                value: Some(arg),
-                left,
-            };
-            substitute(alloc, rank, room, 0, &mut slot, body)
-        }
+        } => put_in(alloc, rank, room, Box::into_inner(body), arg),
         Node::If { test, yes, no } => {
             apply_branches(alloc, rank, room, place, deep, test, yes, no, arg)
         }
@@ -249,6 +311,25 @@ fn apply_above(
             arg,
         ),
     }
+}
+
+// A body with the argument in place of its innermost variable.
+#[cycle(hereditary)]
+fn put_in(
+    alloc: Global,
+    rank: u64,
+    room: u64,
+    body: Term,
+    arg: Built<Term>,
+) -> Result<Built<Term>, Memory>
+    ensures { IfOk result (λ b. placed b.term ≡ substitute (apply_at rank) 0 (placed arg.term) (placed body)) }
+{
+    let left = uses(&body, 0);
+    let mut slot = Slot {
+        value: Some(arg),
+        left,
+    };
+    substitute(alloc, rank, room, 0, &mut slot, body)
 }
 
 // A choice between the applications of two done functions, where the choice was `deep` deep.
@@ -268,14 +349,26 @@ fn apply_branches(
     ensures { IfOk result (λ b. placed b.term ≡ at place (PlacedNode.choose (placed test.value) (apply_by (substitute (apply_at rank) 0) place (placed yes.value) (placed arg.term)) (apply_by (substitute (apply_at rank) 0) place (placed no.value) (placed arg.term)))) }
 {
     let room = further(room, APPLY_BRANCHES)?;
-    let again = arg.term.copy(alloc)?;
-    let again = Built {
-        term: again,
-        deep: arg.deep,
-    };
-    let yes = Box::into_inner(yes);
-    let no = Box::into_inner(no);
-    let yes = apply_above(alloc, rank, room, place, Built { term: yes, deep }, again)?;
-    let no = apply_above(alloc, rank, room, place, Built { term: no, deep }, arg)?;
+    let (yes, no) = apply_two(alloc, rank, room, place, deep, yes, no, arg)?;
     chosen(alloc, place, deep, test, yes, no)
+}
+
+// The applications of two functions that were `deep` deep.
+#[cycle(hereditary)]
+fn apply_two(
+    alloc: Global,
+    rank: u64,
+    room: u64,
+    place: u64,
+    deep: u64,
+    yes: Box<Term>,
+    no: Box<Term>,
+    arg: Built<Term>,
+) -> Result<(Built<Term>, Built<Term>), Memory>
+    ensures { IfOk result (λ b. (placed b.0.term ≡ apply_by (substitute (apply_at rank) 0) place (placed yes.value) (placed arg.term)) × (placed b.1.term ≡ apply_by (substitute (apply_at rank) 0) place (placed no.value) (placed arg.term))) }
+{
+    let again = arg.copy(alloc)?;
+    let yes = apply_above(alloc, rank, room, place, opened(yes, deep), again)?;
+    let no = apply_above(alloc, rank, room, place, opened(no, deep), arg)?;
+    Ok((yes, no))
 }

@@ -6,16 +6,15 @@ ghost use Rattle.nq_model.specs.Terms.{placed, placed_fields, at, PlacedNode};
 ghost use Rattle.nq_model.specs.Substitution.{fields_with_places};
 ghost use Rattle.unfold.specs.Environments.{stays, given, walk_in, walk_each, taken_by};
 ghost use Rattle.unfold.specs.Hereditary.{apply_at, field_by};
+ghost use Rattle.unfold.specs.Shapes.{one_node, two_node};
 ghost use Rattle.unfold.specs.Slots.{Holds};
 ghost use Rattle.unfold.specs.Scopes.{Keeps};
 
 use crate::built::{Built, leaf, one_more};
 use crate::field::{field, find};
-use crate::forms::{
-    Part, binary, choice, comprehension, emptiness, function, guard, single, unary, union,
-    with_fields,
-};
+use crate::forms::{Part, choice, function, one, two, with_fields};
 use crate::scope::{Binder, Scope};
+use crate::shapes::{One, Two};
 use crate::slot::Slot;
 use crate::stack::{ARGUMENT, BIND, ROOM, WALK, further};
 use crate::substitute::apply;
@@ -58,19 +57,23 @@ fn walk(
             Ok(leaf(Term { place, node }))
         }
         Node::Unary { op, of } => {
-            let of = walk_box(alloc, rank, room, level, scope, of)?;
-            unary(place, op, of)
+            walk_one(alloc, rank, room, level, scope, place, One::Unary(op), of)
         }
         Node::Binary { op, left, right } => {
-            let left = walk_box(alloc, rank, room, level, scope, left)?;
-            let right = walk_box(alloc, rank, room, level, scope, right)?;
-            binary(place, op, left, right)
+            walk_two(
+                alloc,
+                rank,
+                room,
+                level,
+                scope,
+                place,
+                Two::Binary(op),
+                left,
+                right,
+            )
         }
         Node::If { test, yes, no } => {
-            let test = walk_box(alloc, rank, room, level, scope, test)?;
-            let yes = walk_box(alloc, rank, room, level, scope, yes)?;
-            let no = walk_box(alloc, rank, room, level, scope, no)?;
-            choice(place, test, yes, no)
+            walk_choice(alloc, rank, room, level, scope, place, test, yes, no)
         }
         Node::Fun { taken, body } => {
             let body = walk_under(alloc, rank, room, level, scope, body)?;
@@ -86,22 +89,36 @@ fn walk(
         Node::Field { of, label } => {
             walk_field(alloc, rank, room, level, scope, place, of, label)
         }
-        Node::Empty(of) => emptiness(place, walk_box(alloc, rank, room, level, scope, of)?),
-        Node::Single(of) => single(place, walk_box(alloc, rank, room, level, scope, of)?),
+        Node::Empty(of) => walk_one(alloc, rank, room, level, scope, place, One::Empty, of),
+        Node::Single(of) => walk_one(alloc, rank, room, level, scope, place, One::Single, of),
         Node::Union { left, right } => {
-            let left = walk_box(alloc, rank, room, level, scope, left)?;
-            let right = walk_box(alloc, rank, room, level, scope, right)?;
-            union(place, left, right)
+            walk_two(
+                alloc,
+                rank,
+                room,
+                level,
+                scope,
+                place,
+                Two::Union,
+                left,
+                right,
+            )
         }
         Node::For { source, body } => {
-            let source = walk_box(alloc, rank, room, level, scope, source)?;
-            let body = walk_under(alloc, rank, room, level, scope, body)?;
-            comprehension(place, source, body)
+            walk_for(alloc, rank, room, level, scope, place, source, body)
         }
         Node::Guard { test, body } => {
-            let test = walk_box(alloc, rank, room, level, scope, test)?;
-            let body = walk_box(alloc, rank, room, level, scope, body)?;
-            guard(place, test, body)
+            walk_two(
+                alloc,
+                rank,
+                room,
+                level,
+                scope,
+                place,
+                Two::Guard,
+                test,
+                body,
+            )
         }
         Node::Bind { value, body } => walk_given(alloc, rank, room, level, scope, value, body),
     }
@@ -127,6 +144,85 @@ fn walk_box(
         term,
         deep: done.deep,
     })
+}
+
+#[cycle(walk)]
+#[inline(never)]
+fn walk_one(
+    alloc: Global,
+    rank: u64,
+    room: u64,
+    level: u64,
+    scope: &mut Scope,
+    place: u64,
+    shape: One,
+    of: Box<Term>,
+) -> Result<Built<Term>, Memory>
+    ensures { IfOk result (λ b. Keeps scope.old scope.new (λ es. placed b.term ≡ at place (one_node shape (walk_in rank level es (placed of.value))))) }
+{
+    let of = walk_box(alloc, rank, room, level, scope, of)?;
+    one(place, shape, of)
+}
+
+// Two parts under the same binders.
+#[cycle(walk)]
+#[inline(never)]
+fn walk_two(
+    alloc: Global,
+    rank: u64,
+    room: u64,
+    level: u64,
+    scope: &mut Scope,
+    place: u64,
+    shape: Two,
+    left: Box<Term>,
+    right: Box<Term>,
+) -> Result<Built<Term>, Memory>
+    ensures { IfOk result (λ b. Keeps scope.old scope.new (λ es. placed b.term ≡ at place (two_node shape (walk_in rank level es (placed left.value)) (walk_in rank level es (placed right.value))))) }
+{
+    let left = walk_box(alloc, rank, room, level, scope, left)?;
+    let right = walk_box(alloc, rank, room, level, scope, right)?;
+    two(place, shape, left, right)
+}
+
+#[cycle(walk)]
+#[inline(never)]
+fn walk_choice(
+    alloc: Global,
+    rank: u64,
+    room: u64,
+    level: u64,
+    scope: &mut Scope,
+    place: u64,
+    test: Box<Term>,
+    yes: Box<Term>,
+    no: Box<Term>,
+) -> Result<Built<Term>, Memory>
+    ensures { IfOk result (λ b. Keeps scope.old scope.new (λ es. placed b.term ≡ at place (PlacedNode.choose (walk_in rank level es (placed test.value)) (walk_in rank level es (placed yes.value)) (walk_in rank level es (placed no.value))))) }
+{
+    let test = walk_box(alloc, rank, room, level, scope, test)?;
+    let yes = walk_box(alloc, rank, room, level, scope, yes)?;
+    let no = walk_box(alloc, rank, room, level, scope, no)?;
+    choice(place, test, yes, no)
+}
+
+#[cycle(walk)]
+#[inline(never)]
+fn walk_for(
+    alloc: Global,
+    rank: u64,
+    room: u64,
+    level: u64,
+    scope: &mut Scope,
+    place: u64,
+    source: Box<Term>,
+    body: Box<Term>,
+) -> Result<Built<Term>, Memory>
+    ensures { IfOk result (λ b. Keeps scope.old scope.new (λ es. placed b.term ≡ at place (PlacedNode.for (walk_in rank level es (placed source.value)) (walk_in rank (level + 1) (stays level ∷ es) (placed body.value))))) }
+{
+    let source = walk_box(alloc, rank, room, level, scope, source)?;
+    let body = walk_under(alloc, rank, room, level, scope, body)?;
+    two(place, Two::For, source, body)
 }
 
 // The body of a binder that stays.

@@ -9,21 +9,18 @@ use Rattle.unfold.proofs.substitute.+hereditary.Goals as goal
 pub apply_above-returns-in-Fun : goal.apply_above-returns-in-Fun
 apply_above-returns-in-Fun t c =
     let old = placed_term c.args.func.term ∙ ap (at c.args.func.term.place) (ap placed_node c.in-Fun.is ∙ node_fun c.in-Fun._taken c.in-Fun.body) in
-    let m = ap (λ z. apply_by (substitute (apply_at c.args.rank) 0) c.args.place z (placed c.args.arg.term)) old ∙ ap (λ z. substitute (apply_at c.args.rank) 0 (placed c.args.arg.term) (placed z)) (sym c.into_inner-body.ensures) in
-    IfOk-weaker c.substitute.result _ (λ b. placed b.term ≡ apply_by (substitute (apply_at c.args.rank) 0) c.args.place (placed c.args.func.term) (placed c.args.arg.term)) (λ b h. (h (placed c.args.arg.term) refl).0 ∙ sym m) c.substitute.ensures
+    let m = ap (λ z. apply_by (substitute (apply_at c.args.rank) 0) c.args.place z (placed c.args.arg.term)) old ∙ ap (λ z. substitute (apply_at c.args.rank) 0 (placed c.args.arg.term) (placed z)) (sym c.into_inner.ensures) in
+    IfOk-weaker c.put_in.result _ (λ b. placed b.term ≡ apply_by (substitute (apply_at c.args.rank) 0) c.args.place (placed c.args.func.term) (placed c.args.arg.term)) (λ b h. h ∙ sym m) c.put_in.ensures
+
+pub put_in-returns : goal.put_in-returns
+put_in-returns t c =
+    IfOk-weaker c.substitute.result _ (λ b. placed b.term ≡ substitute (apply_at c.args.rank) 0 (placed c.args.arg.term) (placed c.args.body)) (λ b h. (h (placed c.args.arg.term) refl).0) c.substitute.ensures
 
 pub apply_above-returns-in-If : goal.apply_above-returns-in-If
 apply_above-returns-in-If t c =
     let old = placed_term c.args.func.term ∙ ap (at c.args.func.term.place) (ap placed_node c.in-If.is ∙ node_choose c.in-If.test c.in-If.yes c.in-If.no) in
     let m = ap (λ z. apply_by (substitute (apply_at c.args.rank) 0) c.args.place z (placed c.args.arg.term)) old in
     IfOk-weaker c.apply_branches.result _ (λ b. placed b.term ≡ apply_by (substitute (apply_at c.args.rank) 0) c.args.place (placed c.args.func.term) (placed c.args.arg.term)) (λ b h. h ∙ sym m) c.apply_branches.ensures
-
-pub apply_branches-returns : goal.apply_branches-returns
-apply_branches-returns t c =
-    let y : placed c.in_ok-yes.yes.term ≡ apply_by (substitute (apply_at c.args.rank) 0) c.args.place (placed c.args.yes.value) (placed c.args.arg.term) = c.in_ok-yes.ensures ∙ ap (λ z. apply_by (substitute (apply_at c.args.rank) 0) c.args.place (placed c.into_inner-yes.result) z) c.in_ok-again.ensures ∙ ap (λ z. apply_by (substitute (apply_at c.args.rank) 0) c.args.place (placed z) (placed c.args.arg.term)) c.into_inner-yes.ensures in
-    let n : placed c.in_ok-no.no.term ≡ apply_by (substitute (apply_at c.args.rank) 0) c.args.place (placed c.args.no.value) (placed c.args.arg.term) = c.in_ok-no.ensures ∙ ap (λ z. apply_by (substitute (apply_at c.args.rank) 0) c.args.place (placed z) (placed c.args.arg.term)) c.into_inner-no.ensures in
-    let w : at c.args.place (PlacedNode.choose (placed c.args.test.value) (placed c.in_ok-yes.yes.term) (placed c.in_ok-no.no.term)) ≡ at c.args.place (PlacedNode.choose (placed c.args.test.value) (apply_by (substitute (apply_at c.args.rank) 0) c.args.place (placed c.args.yes.value) (placed c.args.arg.term)) (apply_by (substitute (apply_at c.args.rank) 0) c.args.place (placed c.args.no.value) (placed c.args.arg.term))) = same_branches c.args.place (placed c.args.test.value) (placed c.in_ok-yes.yes.term) (placed c.in_ok-no.no.term) (apply_by (substitute (apply_at c.args.rank) 0) c.args.place (placed c.args.yes.value) (placed c.args.arg.term)) (apply_by (substitute (apply_at c.args.rank) 0) c.args.place (placed c.args.no.value) (placed c.args.arg.term)) y n in
-    IfOk-weaker c.chosen.result (λ b. placed b.term ≡ at c.args.place (PlacedNode.choose (placed c.args.test.value) (placed c.in_ok-yes.yes.term) (placed c.in_ok-no.no.term))) (λ b. placed b.term ≡ at c.args.place (PlacedNode.choose (placed c.args.test.value) (apply_by (substitute (apply_at c.args.rank) 0) c.args.place (placed c.args.yes.value) (placed c.args.arg.term)) (apply_by (substitute (apply_at c.args.rank) 0) c.args.place (placed c.args.no.value) (placed c.args.arg.term)))) (λ b h. h ∙ w) c.chosen.ensures
 
 pub substitute-returns-in_ok-fields-in-Rec : goal.substitute-returns-in_ok-fields-in-Rec
 substitute-returns-in_ok-fields-in-Rec t c =

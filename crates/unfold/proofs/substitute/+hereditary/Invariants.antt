@@ -13,6 +13,12 @@ decreases-apply_above l = 3 * l.room
 abbrev pub decreases-apply_branches : goal.decreases-apply_branches
 decreases-apply_branches l = 3 * l.room + 1
 
+abbrev pub decreases-apply_two : goal.decreases-apply_two
+decreases-apply_two l = 3 * l.room + 1
+
+abbrev pub decreases-put_in : goal.decreases-put_in
+decreases-put_in l = 3 * l.room + 1
+
 abbrev pub decreases-substitute : goal.decreases-substitute
 decreases-substitute l = 3 * l.room
 
@@ -24,6 +30,18 @@ decreases-substitute_box l = 3 * l.room + 1
 
 abbrev pub decreases-substitute_field : goal.decreases-substitute_field
 decreases-substitute_field l = 3 * l.room + 1
+
+abbrev pub decreases-substitute_one : goal.decreases-substitute_one
+decreases-substitute_one l = 3 * l.room + 2
+
+abbrev pub decreases-substitute_choice : goal.decreases-substitute_choice
+decreases-substitute_choice l = 3 * l.room + 2
+
+abbrev pub decreases-substitute_function : goal.decreases-substitute_function
+decreases-substitute_function l = 3 * l.room + 2
+
+abbrev pub decreases-substitute_two : goal.decreases-substitute_two
+decreases-substitute_two l = 3 * l.room + 2
 
 abbrev pub decreases-substitute_fields : goal.decreases-substitute_fields
 decreases-substitute_fields l = 3 * l.room + 1

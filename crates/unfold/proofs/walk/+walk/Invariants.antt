@@ -10,6 +10,18 @@ decreases-walk l = 5 * l.room
 abbrev pub decreases-walk_box : goal.decreases-walk_box
 decreases-walk_box l = 5 * l.room + 1
 
+abbrev pub decreases-walk_one : goal.decreases-walk_one
+decreases-walk_one l = 5 * l.room + 2
+
+abbrev pub decreases-walk_choice : goal.decreases-walk_choice
+decreases-walk_choice l = 5 * l.room + 2
+
+abbrev pub decreases-walk_for : goal.decreases-walk_for
+decreases-walk_for l = 5 * l.room + 2
+
+abbrev pub decreases-walk_two : goal.decreases-walk_two
+decreases-walk_two l = 5 * l.room + 2
+
 abbrev pub decreases-walk_under : goal.decreases-walk_under
 decreases-walk_under l = 5 * l.room + 1
 
