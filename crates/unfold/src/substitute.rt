@@ -33,6 +33,20 @@ pub(crate) fn substitute(
     ensures { IfOk result (λ b. Puts by.old by.new (λ s. placed b.term ≡ substitute (apply_at rank) from s (placed term))) }
 {
     let room = further(room, SUBSTITUTE)?;
+    substitute_node(alloc, rank, room, from, by, term)
+}
+
+#[cycle(hereditary)]
+fn substitute_node(
+    alloc: Global,
+    rank: u64,
+    room: u64,
+    from: u64,
+    by: &mut Slot,
+    term: Term,
+) -> Result<Built<Term>, Memory>
+    ensures { IfOk result (λ b. Puts by.old by.new (λ s. placed b.term ≡ substitute (apply_at rank) from s (placed term))) }
+{
     let Term { place, node } = term;
     match node {
         Node::Var(k) => put(alloc, place, k, from, by),
@@ -288,6 +302,20 @@ fn apply_above(
     ensures { IfOk result (λ b. placed b.term ≡ apply_by (substitute (apply_at rank) 0) place (placed func.term) (placed arg.term)) }
 {
     let room = further(room, APPLY)?;
+    apply_node(alloc, rank, room, place, func, arg)
+}
+
+#[cycle(hereditary)]
+fn apply_node(
+    alloc: Global,
+    rank: u64,
+    room: u64,
+    place: u64,
+    func: Built<Term>,
+    arg: Built<Term>,
+) -> Result<Built<Term>, Memory>
+    ensures { IfOk result (λ b. placed b.term ≡ apply_by (substitute (apply_at rank) 0) place (placed func.term) (placed arg.term)) }
+{
     let Built { term, deep } = func;
     let Term { place: own, node } = term;
     match node {

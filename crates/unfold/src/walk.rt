@@ -50,6 +50,20 @@ fn walk(
     ensures { IfOk result (λ b. Keeps scope.old scope.new (λ es. placed b.term ≡ walk_in rank level es (placed term))) }
 {
     let room = further(room, WALK)?;
+    walk_node(alloc, rank, room, level, scope, term)
+}
+
+#[cycle(walk)]
+fn walk_node(
+    alloc: Global,
+    rank: u64,
+    room: u64,
+    level: u64,
+    scope: &mut Scope,
+    term: Term,
+) -> Result<Built<Term>, Memory>
+    ensures { IfOk result (λ b. Keeps scope.old scope.new (λ es. placed b.term ≡ walk_in rank level es (placed term))) }
+{
     let Term { place, node } = term;
     match node {
         Node::Var(k) => scope.look_up(alloc, level, place, k),

@@ -5,46 +5,52 @@ use Rattle.unfold.specs.Slots.{Puts}
 use Rattle.unfold.proofs.substitute.+hereditary.Given as goal
 
 abbrev pub decreases-apply : goal.decreases-apply
-decreases-apply l = 3 * l.room + 1
+decreases-apply l = 4 * l.room + 1
 
 abbrev pub decreases-apply_above : goal.decreases-apply_above
-decreases-apply_above l = 3 * l.room
+decreases-apply_above l = 4 * l.room
 
 abbrev pub decreases-apply_branches : goal.decreases-apply_branches
-decreases-apply_branches l = 3 * l.room + 1
+decreases-apply_branches l = 4 * l.room + 1
 
 abbrev pub decreases-apply_two : goal.decreases-apply_two
-decreases-apply_two l = 3 * l.room + 1
+decreases-apply_two l = 4 * l.room + 1
 
 abbrev pub decreases-put_in : goal.decreases-put_in
-decreases-put_in l = 3 * l.room + 1
+decreases-put_in l = 4 * l.room + 1
 
 abbrev pub decreases-substitute : goal.decreases-substitute
-decreases-substitute l = 3 * l.room
+decreases-substitute l = 4 * l.room
+
+abbrev pub decreases-substitute_node : goal.decreases-substitute_node
+decreases-substitute_node l = 4 * l.room + 3
+
+abbrev pub decreases-apply_node : goal.decreases-apply_node
+decreases-apply_node l = 4 * l.room + 2
 
 abbrev pub decreases-substitute_apply : goal.decreases-substitute_apply
-decreases-substitute_apply l = 3 * l.room + 2
+decreases-substitute_apply l = 4 * l.room + 2
 
 abbrev pub decreases-substitute_box : goal.decreases-substitute_box
-decreases-substitute_box l = 3 * l.room + 1
+decreases-substitute_box l = 4 * l.room + 1
 
 abbrev pub decreases-substitute_field : goal.decreases-substitute_field
-decreases-substitute_field l = 3 * l.room + 1
+decreases-substitute_field l = 4 * l.room + 1
 
 abbrev pub decreases-substitute_one : goal.decreases-substitute_one
-decreases-substitute_one l = 3 * l.room + 2
+decreases-substitute_one l = 4 * l.room + 2
 
 abbrev pub decreases-substitute_choice : goal.decreases-substitute_choice
-decreases-substitute_choice l = 3 * l.room + 2
+decreases-substitute_choice l = 4 * l.room + 2
 
 abbrev pub decreases-substitute_function : goal.decreases-substitute_function
-decreases-substitute_function l = 3 * l.room + 2
+decreases-substitute_function l = 4 * l.room + 2
 
 abbrev pub decreases-substitute_two : goal.decreases-substitute_two
-decreases-substitute_two l = 3 * l.room + 2
+decreases-substitute_two l = 4 * l.room + 2
 
 abbrev pub decreases-substitute_fields : goal.decreases-substitute_fields
-decreases-substitute_fields l = 3 * l.room + 1
+decreases-substitute_fields l = 4 * l.room + 1
 
 abbrev pub invariant-substitute_fields-loop-last : goal.invariant-substitute_fields-loop-last
 invariant-substitute_fields-loop-last l =

@@ -7,6 +7,9 @@ use Rattle.unfold.proofs.walk.+walk.Given as goal
 abbrev pub decreases-walk : goal.decreases-walk
 decreases-walk l = 5 * l.room
 
+abbrev pub decreases-walk_node : goal.decreases-walk_node
+decreases-walk_node l = 5 * l.room + 4
+
 abbrev pub decreases-walk_box : goal.decreases-walk_box
 decreases-walk_box l = 5 * l.room + 1
 
