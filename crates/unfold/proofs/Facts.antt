@@ -59,6 +59,10 @@ pub walked_field : (r n : ℕ) (es : List Entry) (p q : ℕ) (l : List ℕ) (fs 
 walked_field r n es p q l fs t e =
     sym (ap (λ o. or_else o (at p (PlacedNode.field (at q (PlacedNode.rec (walk_each r n es fs))) l))) (picked_each r n es l fs ∙ ap (option_map (walk_in r n es)) e))
 
+-- a choice between equal terms
+pub same_branches : (p : ℕ) (x y n v w : PlacedTerm) → y ≡ v → n ≡ w → at p (PlacedNode.choose x y n) ≡ at p (PlacedNode.choose x v w)
+same_branches p x y n v w e f = ap (λ z. at p (PlacedNode.choose x z n)) e ∙ ap (λ z. at p (PlacedNode.choose x v z)) f
+
 -- a record over fields to which something was done
 pub record_made : (f : PlacedTerm → PlacedTerm) (each : PlacedFields → PlacedFields) → ((p : ℕ) (fs : PlacedFields) → f (at p (PlacedNode.rec fs)) ≡ at p (PlacedNode.rec (each fs))) → ((fs : List (List ℕ × PlacedTerm)) → each (placed_fields_of fs) ≡ placed_fields_of (map (λ x. (x.0, f x.1)) fs)) → (t : Term) (fs gs : List (List ℕ × Term)) → t.node ≡ Rec fs → fields_with_places gs ≡ map (λ x. (x.0, f x.1)) (fields_with_places fs) → at t.place (PlacedNode.rec (placed_fields gs)) ≡ f (placed t)
 record_made f each is of t fs gs old h =

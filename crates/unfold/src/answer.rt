@@ -36,9 +36,8 @@ pub(crate) fn unfold_by_rank(alloc: Global, term: Term) -> Result<Term, Memory>
     ensures shallow { IfOk result (λ t. term_depth (term_tree t) ≤ 2000) }
 {
     let (rank, uses) = counted(alloc, &term)?;
-    let Built { term, deep: _deep } = walk_query(alloc, rank, uses, term)?;
-    refuse_deeper(&term)?;
-    Ok(term)
+    let done = walk_query(alloc, rank, uses, term)?;
+    shallow(done)
 }
 
 // What a walk has to know of the term before it begins.
@@ -48,6 +47,16 @@ fn counted(alloc: Global, term: &Term) -> Result<(u64, Vec<u64>), Memory>
     let rank = fuel(term)?;
     let uses = count_uses(alloc, term)?;
     Ok((rank, uses))
+}
+
+// The term, where it is not deeper than what is answered.
+fn shallow(done: Built<Term>) -> Result<Term, Memory>
+    ensures exact { IfOk result (λ t. t ≡ done.term) }
+    ensures shallow { IfOk result (λ t. term_depth (term_tree t) ≤ 2000) }
+{
+    let Built { term, deep: _deep } = done;
+    refuse_deeper(&term)?;
+    Ok(term)
 }
 
 fn refuse_deeper(term: &Term) -> Result<(), Memory>

@@ -354,6 +354,22 @@ fn walk_parts(
     ensures { IfOk result (λ b. Keeps scope.old scope.new (λ es. placed b.term ≡ apply_at rank place (walk_in rank level es (placed func)) (walk_in rank level es (placed arg.value)))) }
 {
     let room = further(room, ARGUMENT)?;
+    walk_both(alloc, rank, room, level, scope, place, func, arg)
+}
+
+#[cycle(walk)]
+fn walk_both(
+    alloc: Global,
+    rank: u64,
+    room: u64,
+    level: u64,
+    scope: &mut Scope,
+    place: u64,
+    func: Term,
+    arg: Box<Term>,
+) -> Result<Built<Term>, Memory>
+    ensures { IfOk result (λ b. Keeps scope.old scope.new (λ es. placed b.term ≡ apply_at rank place (walk_in rank level es (placed func)) (walk_in rank level es (placed arg.value)))) }
+{
     let func = walk(alloc, rank, room, level, scope, func)?;
     let arg = walk(alloc, rank, room, level, scope, Box::into_inner(arg))?;
     apply(alloc, rank, room, place, func, arg)

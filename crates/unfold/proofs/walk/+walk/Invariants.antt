@@ -37,6 +37,9 @@ decreases-walk_given l = 5 * l.room + 2
 abbrev pub decreases-walk_parts : goal.decreases-walk_parts
 decreases-walk_parts l = 5 * l.room + 2
 
+abbrev pub decreases-walk_both : goal.decreases-walk_both
+decreases-walk_both l = 5 * l.room + 1
+
 abbrev pub decreases-walk_apply : goal.decreases-walk_apply
 decreases-walk_apply l = 5 * l.room + 3
 
