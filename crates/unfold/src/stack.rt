@@ -28,6 +28,8 @@ pub(crate) const BIND: u64 = 1_000;
 pub(crate) const FIELD: u64 = 1_500;
 
 /// What is left of the room after a call that takes so many bytes.
+///
+/// It is asked for while a term is whole. What takes the term apart is a function of its own.
 pub(crate) fn further(room: u64, frame: u64) -> Result<u64, Memory>
     ensures { IfOk result (λ left. left + frame ≡ room) }
 {

@@ -396,6 +396,24 @@ fn apply_two(
     ensures { IfOk result (λ b. (placed b.0.term ≡ apply_by (substitute (apply_at rank) 0) place (placed yes.value) (placed arg.term)) × (placed b.1.term ≡ apply_by (substitute (apply_at rank) 0) place (placed no.value) (placed arg.term))) }
 {
     let again = arg.copy(alloc)?;
+    apply_each(alloc, rank, room, place, deep, yes, again, no, arg)
+}
+
+// The same, to an argument each.
+#[cycle(hereditary)]
+fn apply_each(
+    alloc: Global,
+    rank: u64,
+    room: u64,
+    place: u64,
+    deep: u64,
+    yes: Box<Term>,
+    again: Built<Term>,
+    no: Box<Term>,
+    arg: Built<Term>,
+) -> Result<(Built<Term>, Built<Term>), Memory>
+    ensures { IfOk result (λ b. (placed b.0.term ≡ apply_by (substitute (apply_at rank) 0) place (placed yes.value) (placed again.term)) × (placed b.1.term ≡ apply_by (substitute (apply_at rank) 0) place (placed no.value) (placed arg.term))) }
+{
     let yes = apply_above(alloc, rank, room, place, opened(yes, deep), again)?;
     let no = apply_above(alloc, rank, room, place, opened(no, deep), arg)?;
     Ok((yes, no))

@@ -1,7 +1,7 @@
 use Rattle.std.proofs.Common.{◌≡◌, ◌-◌, refl, reverse, sym, ap, ◌∙◌, subst as along, IfOk}
 use Rattle.std.proofs.lemmas.Result.{IfOk-weaker}
-use Rattle.nq_model.specs.Terms.{PlacedNode, at, placed, placed_node}
-use Rattle.nq_model.proofs.Terms.{placed_term, node_fun, node_choose, node_apply, node_binary, node_bind, node_empty, node_field, node_for, node_guard, node_single, node_unary, node_union, node_var}
+use Rattle.nq_model.specs.Terms.{placed, placed_node}
+use Rattle.nq_model.proofs.Terms.{node_fun, node_choose, node_apply, node_binary, node_bind, node_empty, node_field, node_for, node_guard, node_single, node_unary, node_union, node_var}
 use Rattle.unfold.specs.Hereditary.{substitute, substitute_fields, apply_by, apply_at}
 use Rattle.unfold.specs.Slots.{Puts}
 use Rattle.unfold.proofs.Facts.{apply_more, record_made, substitute_fields-of, turned, placed_as}
@@ -12,6 +12,10 @@ apply_node-returns-in-Fun t c =
     let old = placed_as c.args.func.term (ap placed_node c.in-Fun.is ∙ node_fun c.in-Fun._taken c.in-Fun.body) in
     let m = ap (λ z. apply_by (substitute (apply_at c.args.rank) 0) c.args.place z (placed c.args.arg.term)) old ∙ ap (λ z. substitute (apply_at c.args.rank) 0 (placed c.args.arg.term) (placed z)) (sym c.into_inner.ensures) in
     IfOk-weaker c.put_in.result _ (λ b. placed b.term ≡ apply_by (substitute (apply_at c.args.rank) 0) c.args.place (placed c.args.func.term) (placed c.args.arg.term)) (λ b h. h ∙ sym m) c.put_in.ensures
+
+pub apply_two-returns : goal.apply_two-returns
+apply_two-returns t c =
+    along (λ z. IfOk c.apply_each.result (λ b. (placed b.0.term ≡ apply_by (substitute (apply_at c.args.rank) 0) c.args.place (placed c.args.yes.value) z) × (placed b.1.term ≡ apply_by (substitute (apply_at c.args.rank) 0) c.args.place (placed c.args.no.value) (placed c.args.arg.term)))) c.in_ok-again.ensures c.apply_each.ensures
 
 pub put_in-returns : goal.put_in-returns
 put_in-returns t c =

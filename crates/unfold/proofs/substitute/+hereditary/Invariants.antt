@@ -14,7 +14,10 @@ abbrev pub decreases-apply_branches : goal.decreases-apply_branches
 decreases-apply_branches l = 4 * l.room + 1
 
 abbrev pub decreases-apply_two : goal.decreases-apply_two
-decreases-apply_two l = 4 * l.room + 1
+decreases-apply_two l = 4 * l.room + 2
+
+abbrev pub decreases-apply_each : goal.decreases-apply_each
+decreases-apply_each l = 4 * l.room + 1
 
 abbrev pub decreases-put_in : goal.decreases-put_in
 decreases-put_in l = 4 * l.room + 1
