@@ -58,6 +58,7 @@ fn field_of_node(
 }
 
 // A field of a record, whose own place that is.
+#[inline(never)]
 fn field_of_record(
     alloc: Global,
     place: u64,
@@ -107,8 +108,8 @@ fn field_of_choice(
 {
     let again = label.copy(alloc)?;
     let yes = opened(yes, deep);
-    let no = opened(no, deep);
     let yes = field(alloc, room, place, again, yes)?;
+    let no = opened(no, deep);
     let no = field(alloc, room, place, label, no)?;
     chosen(alloc, place, deep, test, yes, no)
 }

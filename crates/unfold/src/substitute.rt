@@ -377,11 +377,10 @@ fn apply_branches(
     ensures { IfOk result (λ b. placed b.term ≡ at place (PlacedNode.choose (placed test.value) (apply_by (substitute (apply_at rank) 0) place (placed yes.value) (placed arg.term)) (apply_by (substitute (apply_at rank) 0) place (placed no.value) (placed arg.term)))) }
 {
     let room = further(room, APPLY_BRANCHES)?;
-    let (yes, no) = apply_two(alloc, rank, room, place, deep, yes, no, arg)?;
-    chosen(alloc, place, deep, test, yes, no)
+    apply_two(alloc, rank, room, place, deep, test, yes, no, arg)
 }
 
-// The applications of two functions that were `deep` deep.
+// The argument is copied for the first of the two.
 #[cycle(hereditary)]
 fn apply_two(
     alloc: Global,
@@ -389,14 +388,15 @@ fn apply_two(
     room: u64,
     place: u64,
     deep: u64,
+    test: Box<Term>,
     yes: Box<Term>,
     no: Box<Term>,
     arg: Built<Term>,
-) -> Result<(Built<Term>, Built<Term>), Memory>
-    ensures { IfOk result (λ b. (placed b.0.term ≡ apply_by (substitute (apply_at rank) 0) place (placed yes.value) (placed arg.term)) × (placed b.1.term ≡ apply_by (substitute (apply_at rank) 0) place (placed no.value) (placed arg.term))) }
+) -> Result<Built<Term>, Memory>
+    ensures { IfOk result (λ b. placed b.term ≡ at place (PlacedNode.choose (placed test.value) (apply_by (substitute (apply_at rank) 0) place (placed yes.value) (placed arg.term)) (apply_by (substitute (apply_at rank) 0) place (placed no.value) (placed arg.term)))) }
 {
     let again = arg.copy(alloc)?;
-    apply_each(alloc, rank, room, place, deep, yes, again, no, arg)
+    apply_each(alloc, rank, room, place, deep, test, yes, again, no, arg)
 }
 
 // The same, to an argument each.
@@ -407,14 +407,17 @@ fn apply_each(
     room: u64,
     place: u64,
     deep: u64,
+    test: Box<Term>,
     yes: Box<Term>,
     again: Built<Term>,
     no: Box<Term>,
     arg: Built<Term>,
-) -> Result<(Built<Term>, Built<Term>), Memory>
-    ensures { IfOk result (λ b. (placed b.0.term ≡ apply_by (substitute (apply_at rank) 0) place (placed yes.value) (placed again.term)) × (placed b.1.term ≡ apply_by (substitute (apply_at rank) 0) place (placed no.value) (placed arg.term))) }
+) -> Result<Built<Term>, Memory>
+    ensures { IfOk result (λ b. placed b.term ≡ at place (PlacedNode.choose (placed test.value) (apply_by (substitute (apply_at rank) 0) place (placed yes.value) (placed again.term)) (apply_by (substitute (apply_at rank) 0) place (placed no.value) (placed arg.term)))) }
 {
-    let yes = apply_above(alloc, rank, room, place, opened(yes, deep), again)?;
-    let no = apply_above(alloc, rank, room, place, opened(no, deep), arg)?;
-    Ok((yes, no))
+    let yes = opened(yes, deep);
+    let yes = apply_above(alloc, rank, room, place, yes, again)?;
+    let no = opened(no, deep);
+    let no = apply_above(alloc, rank, room, place, no, arg)?;
+    chosen(alloc, place, deep, test, yes, no)
 }

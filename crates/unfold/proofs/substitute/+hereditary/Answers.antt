@@ -1,10 +1,10 @@
 use Rattle.std.proofs.Common.{◌≡◌, ◌-◌, refl, reverse, sym, ap, ◌∙◌, subst as along, IfOk}
 use Rattle.std.proofs.lemmas.Result.{IfOk-weaker}
-use Rattle.nq_model.specs.Terms.{placed, placed_node}
+use Rattle.nq_model.specs.Terms.{PlacedNode, at, placed, placed_node}
 use Rattle.nq_model.proofs.Terms.{node_fun, node_choose, node_apply, node_binary, node_bind, node_empty, node_field, node_for, node_guard, node_single, node_unary, node_union, node_var}
 use Rattle.unfold.specs.Hereditary.{substitute, substitute_fields, apply_by, apply_at}
 use Rattle.unfold.specs.Slots.{Puts}
-use Rattle.unfold.proofs.Facts.{apply_more, record_made, substitute_fields-of, turned, placed_as}
+use Rattle.unfold.proofs.Facts.{apply_more, record_made, same_branches, substitute_fields-of, turned, placed_as}
 use Rattle.unfold.proofs.substitute.+hereditary.Goals as goal
 
 pub apply_node-returns-in-Fun : goal.apply_node-returns-in-Fun
@@ -15,7 +15,14 @@ apply_node-returns-in-Fun t c =
 
 pub apply_two-returns : goal.apply_two-returns
 apply_two-returns t c =
-    along (λ z. IfOk c.apply_each.result (λ b. (placed b.0.term ≡ apply_by (substitute (apply_at c.args.rank) 0) c.args.place (placed c.args.yes.value) z) × (placed b.1.term ≡ apply_by (substitute (apply_at c.args.rank) 0) c.args.place (placed c.args.no.value) (placed c.args.arg.term)))) c.in_ok-again.ensures c.apply_each.ensures
+    along (λ z. IfOk c.apply_each.result (λ b. placed b.term ≡ at c.args.place (PlacedNode.choose (placed c.args.test.value) (apply_by (substitute (apply_at c.args.rank) 0) c.args.place (placed c.args.yes.value) z) (apply_by (substitute (apply_at c.args.rank) 0) c.args.place (placed c.args.no.value) (placed c.args.arg.term))))) c.in_ok-again.ensures c.apply_each.ensures
+
+pub apply_each-returns : goal.apply_each-returns
+apply_each-returns t c =
+    let y : placed c.in_ok-yes.yes.term ≡ apply_by (substitute (apply_at c.args.rank) 0) c.args.place (placed c.args.yes.value) (placed c.args.again.term) = c.in_ok-yes.ensures ∙ ap (λ z. apply_by (substitute (apply_at c.args.rank) 0) c.args.place z (placed c.args.again.term)) c.opened-yes.ensures in
+    let n : placed c.in_ok-no.no.term ≡ apply_by (substitute (apply_at c.args.rank) 0) c.args.place (placed c.args.no.value) (placed c.args.arg.term) = c.in_ok-no.ensures ∙ ap (λ z. apply_by (substitute (apply_at c.args.rank) 0) c.args.place z (placed c.args.arg.term)) c.opened-no.ensures in
+    let w : at c.args.place (PlacedNode.choose (placed c.args.test.value) (placed c.in_ok-yes.yes.term) (placed c.in_ok-no.no.term)) ≡ at c.args.place (PlacedNode.choose (placed c.args.test.value) (apply_by (substitute (apply_at c.args.rank) 0) c.args.place (placed c.args.yes.value) (placed c.args.again.term)) (apply_by (substitute (apply_at c.args.rank) 0) c.args.place (placed c.args.no.value) (placed c.args.arg.term))) = same_branches c.args.place (placed c.args.test.value) (placed c.in_ok-yes.yes.term) (placed c.in_ok-no.no.term) (apply_by (substitute (apply_at c.args.rank) 0) c.args.place (placed c.args.yes.value) (placed c.args.again.term)) (apply_by (substitute (apply_at c.args.rank) 0) c.args.place (placed c.args.no.value) (placed c.args.arg.term)) y n in
+    IfOk-weaker c.chosen.result (λ b. placed b.term ≡ at c.args.place (PlacedNode.choose (placed c.args.test.value) (placed c.in_ok-yes.yes.term) (placed c.in_ok-no.no.term))) (λ b. placed b.term ≡ at c.args.place (PlacedNode.choose (placed c.args.test.value) (apply_by (substitute (apply_at c.args.rank) 0) c.args.place (placed c.args.yes.value) (placed c.args.again.term)) (apply_by (substitute (apply_at c.args.rank) 0) c.args.place (placed c.args.no.value) (placed c.args.arg.term)))) (λ b h. h ∙ w) c.chosen.ensures
 
 pub put_in-returns : goal.put_in-returns
 put_in-returns t c =
