@@ -19,6 +19,7 @@ pub(crate) struct Built<T> {
 
 impl Built<Term> {
     /// A copy of the term.
+    #[inline(never)]
     pub(crate) fn copy(&self, alloc: Global) -> Result<Built<Term>, Memory>
         ensures { IfOk result (λ copy. placed copy.term ≡ placed self.now.term) }
     {
