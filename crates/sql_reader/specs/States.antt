@@ -1,8 +1,10 @@
 -- The states of the reader as what it keeps.
-use Rattle.std.specs.Prelude.{◌≡◌, ⊤, Option, Some, None, Result, Ok, Err}
+use Rattle.std.specs.Prelude.{◌≡◌, ⊤, List, Option, Some, None, Result, Ok, Err}
 use Rattle.nq_model.specs.declared.memory.Memory.{Memory}
 use Rattle.sql_reader.specs.Stacks.{forms}
+use Rattle.sql_reader.specs.Parts.{Base}
 use Rattle.sql_reader.specs.Steps as reader
+use Rattle.sql_reader.specs.Steps.{Form}
 use Rattle.sql_reader.specs.Views.{base_view, begun_view, name_view, part_view, selects_view, value_view}
 use Rattle.sql_reader.specs.declared.state.Position.{Position}
 use Rattle.sql_reader.specs.declared.state.Position.TheVariants as at
@@ -40,13 +42,19 @@ position_view (at.Ready q) = reader.Ready (selects_view q)
 abbrev pub state_view : State → reader.State
 state_view s = reader.On (base_view s.base) (forms s.stack.levels) (position_view s.at)
 
--- the answer of a step: the state behind the token, or none where it may not stand; want of memory is free
-abbrev pub Steps : Result (Option State) Memory → Option reader.State → Type 0
-Steps (Ok (Some s)) o = o ≡ Some (state_view s)
-Steps (Ok None) o = o ≡ None
-Steps (Err e) o = ⊤
+-- what stands round a position
+abbrev pub Withs : Type 0
+Withs = Base
 
--- the same of a step that takes no memory
-abbrev pub Stays : Option State → Option reader.State → Type 0
-Stays (Some s) o = o ≡ Some (state_view s)
-Stays None o = o ≡ None
+abbrev pub Forms : Type 0
+Forms = List Form
+
+-- the position behind a token, inside these forms, or none where the token may not stand there
+abbrev pub Leads : Option Position → Base → List Form → Option reader.State → Type 0
+Leads (Some p) b k o = o ≡ Some (reader.On b k (position_view p))
+Leads None b k o = o ≡ None
+
+-- the same of what may take memory, want of which is free
+abbrev pub Turns : Result (Option Position) Memory → Base → List Form → Option reader.State → Type 0
+Turns (Ok r) b k o = Leads r b k o
+Turns (Err e) b k o = ⊤

@@ -1,13 +1,13 @@
 // Parts of a query that were read, of which more may come.
 ghost use Rattle.std.specs.Prelude.{◌≡◌, [], map, Option, None, Some, IfOk};
 ghost use Rattle.sql_profile.specs.Trees.{PlacedKeep, keep_of, placed_expr};
-ghost use Rattle.sql_reader.specs.Parts.{add_item, add_key, add_select, add_source, add_with, begun, no_keys, no_selects, numbering, plain};
-ghost use Rattle.sql_reader.specs.Views.{base_view, begun_view, kept_tree, keys_view, name_view, part_view, selects_view, value_view};
+ghost use Rattle.sql_reader.specs.Parts.{add_item, add_key, add_select, add_source, begun, no_keys, no_selects, numbering, plain};
+ghost use Rattle.sql_reader.specs.Views.{begun_view, kept_tree, keys_view, name_view, part_view, selects_view, value_view};
 
 use crate::extent::{Extent, enclosed, greater, nothing};
 use crate::part::Part;
 use nq_model::{Label, List, Memory};
-use sql_profile::{Expr, Item, ItemValue, Query, Select, Source, With};
+use sql_profile::{Expr, Item, ItemValue, Select, Source, With};
 use std::alloc::Global;
 
 /// A name and its place.
@@ -154,32 +154,6 @@ pub fn add_select(
     Ok(Selects {
         selects,
         extent: deepest,
-    })
-}
-
-/// The WITH queries with the one of this name, which is being read.
-#[tactic(auto, using(crate::proofs::Putting::withs_put))]
-pub fn add_with(
-    withs: List<With>,
-    extent: Extent,
-    name: Name,
-    query: Selects,
-) -> Result<Base, Memory>
-    ensures { IfOk result (λ more. base_view more ≡ add_with (base_view (record { withs = withs; extent = extent; name = Some name })) (name_view name) (selects_view query)) }
-{
-    let whole = enclosed(query.extent)?;
-    let mut withs = withs;
-    withs.push(With {
-        name: name.label,
-        place: name.place,
-        query: Query {
-            selects: query.selects,
-        },
-    })?;
-    Ok(Base {
-        withs,
-        extent: greater(extent, whole),
-        name: None,
     })
 }
 

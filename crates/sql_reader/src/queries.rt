@@ -1,35 +1,34 @@
 // A token behind a whole query.
-ghost use Rattle.std.specs.Prelude.{◌≡◌, []};
+ghost use Rattle.std.specs.Prelude.{◌≡◌, [], cond, Some, None};
 ghost use Rattle.sql_reader.specs.Stacks.{forms};
-ghost use Rattle.sql_reader.specs.States.{Stays, Steps, position_view};
-ghost use Rattle.sql_reader.specs.Steps.{after_query, close_query, end_def, end_main};
+ghost use Rattle.sql_reader.specs.States.{Leads, Turns, position_view};
+ghost use Rattle.sql_reader.specs.Steps.{On, Position as ReaderPosition, after_query, close_query, end_def, end_main};
 ghost use Rattle.sql_reader.specs.Symbols.{token_view};
 ghost use Rattle.sql_reader.specs.Views.{base_view, selects_view};
 
+use crate::extent::{enclosed, greater};
 use crate::form::Form;
-use crate::lists::{Base, Selects, add_with};
+use crate::lists::{Base, Selects};
 use crate::part::not_exists;
 use crate::stack::Stack;
-use crate::state::{Position, State};
+use crate::state::Position;
 use crate::token::{Mark, Symbol, Token};
 use nq_model::Memory;
+use sql_profile::{Query, With};
 use std::alloc::Global;
 
 /// A token behind a whole query: UNION, or the end of what it stands in.
 pub fn after_query(
     alloc: Global,
-    base: Base,
-    stack: Stack,
+    base: &mut Base,
+    stack: &mut Stack,
     query: Selects,
     token: Token<'_>,
-) -> Result<Option<State>, Memory>
-    ensures { Steps result (after_query (base_view base) (forms stack.levels) (selects_view query) (token_view token.entry)) }
+) -> Result<Option<Position>, Memory>
+    ensures { Turns result (base_view base.new) (forms stack.new.levels) (after_query (base_view base.old) (forms stack.old.levels) (selects_view query) (token_view token.entry)) }
 {
     match token.symbol {
-        Symbol::Mark(Mark::Union) => {
-            let at = Position::AtUnion { before: query };
-            Ok(Some(State { base, stack, at }))
-        }
+        Symbol::Mark(Mark::Union) => Ok(Some(Position::AtUnion { before: query })),
         Symbol::Mark(Mark::Closing) => close_query(alloc, base, stack, query),
         Symbol::Mark(Mark::Semicolon) => Ok(end_main(base, stack, Position::AtSemi { query })),
         Symbol::End => Ok(end_main(base, stack, Position::Ready { query })),
@@ -40,50 +39,57 @@ pub fn after_query(
 // A `)` behind a whole query: of NOT EXISTS, or of a WITH query.
 fn close_query(
     alloc: Global,
-    base: Base,
-    stack: Stack,
+    base: &mut Base,
+    stack: &mut Stack,
     query: Selects,
-) -> Result<Option<State>, Memory>
-    ensures { Steps result (close_query (forms stack.levels) (base_view base) (selects_view query)) }
+) -> Result<Option<Position>, Memory>
+    ensures { Turns result (base_view base.new) (forms stack.new.levels) (close_query (forms stack.old.levels) (base_view base.old) (selects_view query)) }
 {
-    let mut stack = stack;
-    match stack.pop() {
-        Some(Form::NotExists { place }) => {
+    let Some(form) = stack.pop() else {
+        return end_def(base, query);
+    };
+    match form {
+        Form::NotExists { place } => {
             let part = not_exists(alloc, place, query)?;
-            let at = Position::Have { part };
-            Ok(Some(State { base, stack, at }))
+            Ok(Some(Position::Have { part }))
         }
-        Some(_) => Ok(None),
-        None => end_def(base, stack, query),
+        _ => Ok(None),
     }
 }
 
 // The WITH query that is being read is whole, if one is.
-fn end_def(base: Base, stack: Stack, query: Selects) -> Result<Option<State>, Memory>
-    requires outermost { forms stack.levels ≡ [] }
-    ensures { Steps result (end_def (base_view base).name (base_view base) (selects_view query)) }
+#[tactic(auto, using(crate::proofs::Putting::withs_put))]
+fn end_def(base: &mut Base, query: Selects) -> Result<Option<Position>, Memory>
+    ensures { Turns result (base_view base.new) [] (end_def (base_view base.old).name (base_view base.old) (selects_view query)) }
 {
-    let Base {
-        withs,
-        extent,
-        name,
-    } = base;
-    match name {
-        Some(name) => {
-            let base = add_with(withs, extent, name, query)?;
-            let at = Position::BehindWith;
-            Ok(Some(State { base, stack, at }))
-        }
-        None => Ok(None),
-    }
+    let Some(name) = base.name.take() else {
+        return Ok(None);
+    };
+    let whole = enclosed(query.extent)?;
+    base.extent = greater(base.extent, whole);
+    base.withs.push(With {
+        name: name.label,
+        place: name.place,
+        query: Query {
+            selects: query.selects,
+        },
+    })?;
+    Ok(Some(Position::BehindWith))
 }
 
 // The main query is whole, if that is what is read.
-fn end_main(base: Base, stack: Stack, at: Position) -> Option<State>
-    ensures { Stays result (end_main (forms stack.levels) (base_view base) (position_view at)) }
+fn end_main(base: &Base, stack: &Stack, at: Position) -> Option<Position>
+    ensures { Leads result (base_view base.now) (forms stack.now.levels) (end_main (forms stack.now.levels) (base_view base.now) (position_view at)) }
+{
+    if is_main(base, stack) { Some(at) } else { None }
+}
+
+// Whether nothing stands round the query, so that it is the main query.
+fn is_main(base: &Base, stack: &Stack) -> bool
+    ensures { (at : ReaderPosition) → end_main (forms stack.now.levels) (base_view base.now) at ≡ cond result (Some (On (base_view base.now) (forms stack.now.levels) at)) None }
 {
     match (stack.top(), &base.name) {
-        (None, None) => Some(State { base, stack, at }),
-        _ => None,
+        (None, None) => true,
+        _ => false,
     }
 }

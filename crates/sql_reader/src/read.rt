@@ -1,5 +1,6 @@
 // Reads tokens, one after the other.
 ghost use Rattle.std.specs.Prelude.{◌≡◌, map};
+ghost use Rattle.std.specs.Result.{result_map_both};
 ghost use Rattle.sql_reader.specs.Reading.{Advances, Ends, IsTextOf, Reads};
 ghost use Rattle.sql_reader.specs.States.{state_view};
 ghost use Rattle.sql_reader.specs.Steps.{start_state};
@@ -16,6 +17,7 @@ use crate::token::Token;
 use nq_model::List;
 use sql_profile::{Query, SqlText};
 use std::alloc::Global;
+use std::mem;
 
 /// The tree that the tokens of a text spell at a depth. `Unexpected` and `Deep` come at the first token with
 /// which the tokens begin no text of that depth; `Memory` where there is too little memory, or the tree would
@@ -29,7 +31,7 @@ pub fn read(alloc: Global, tokens: &[Token<'_>], depth: u64) -> Result<SqlText, 
 {
     let mut state = start_state(alloc);
     for token in tokens {
-        state = advance(alloc, state, *token, depth)?;
+        advance(alloc, &mut state, *token, depth)?;
     }
     match whole_text(state) {
         Some(text) => Ok(text),
@@ -51,20 +53,20 @@ fn start_state(alloc: Global) -> State
     }
 }
 
-// The state behind the token, which begins a text of this depth.
-fn advance(alloc: Global, state: State, token: Token<'_>, depth: u64) -> Result<State, SqlFault>
-    ensures { Advances result depth (state_view state) (token_view token.entry) }
+// Goes to the state behind the token, which begins a text of this depth.
+fn advance(alloc: Global, state: &mut State, token: Token<'_>, depth: u64) -> Result<(), SqlFault>
+    ensures { Advances (result_map_both (λ u. state.new) (λ e. e) result) depth (state_view state.old) (token_view token.entry) }
 {
     let place = token.place;
-    match step(alloc, state, token)? {
-        Some(next) => {
-            if fits(&next, depth)? {
-                Ok(next)
-            } else {
-                Err(SqlFault::Deep { place })
-            }
-        }
-        None => Err(SqlFault::Unexpected { place }),
+    let at = mem::replace(&mut state.at, Position::Want);
+    match step(alloc, &mut state.base, &mut state.stack, at, token)? {
+        Some(next) => state.at = next,
+        None => return Err(SqlFault::Unexpected { place }),
+    }
+    if fits(state, depth)? {
+        Ok(())
+    } else {
+        Err(SqlFault::Deep { place })
     }
 }
 

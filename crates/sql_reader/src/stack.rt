@@ -105,20 +105,23 @@ impl Stack {
         }
     }
 
+    // How deep the text is at least with one more form inside the others, and how many levels they are then.
+    fn with(&self, form: &Form) -> Result<(u64, u64), Memory>
+        ensures { IfOk result (λ more. more ≡ (needs (form_view form.now ∷ forms self.now.levels), height (form_view form.now ∷ forms self.now.levels))) }
+    {
+        let around = self.height();
+        let deep = held(form)?;
+        match (deep.checked_add(around), size(form).checked_add(around)) {
+            (Some(deep), Some(height)) => Ok((self.needs().max(deep), height)),
+            _ => Err(Memory),
+        }
+    }
+
     /// With one more form, inside the others.
     pub fn push(&mut self, form: Form) -> Result<(), Memory>
         ensures { IfOk result (λ u. forms self.new.levels ≡ form_view form ∷ forms self.old.levels) }
     {
-        let around = self.height();
-        let deep = match held(&form)?.checked_add(around) {
-            Some(deep) => deep,
-            None => return Err(Memory),
-        };
-        let height = match size(&form).checked_add(around) {
-            Some(height) => height,
-            None => return Err(Memory),
-        };
-        let needs = self.needs().max(deep);
+        let (needs, height) = self.with(&form)?;
         self.levels.push(Level {
             form,
             needs,
