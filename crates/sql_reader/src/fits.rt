@@ -2,25 +2,26 @@
 ghost use Rattle.std.specs.Prelude.{◌≡◌, IfOk};
 ghost use Rattle.sql_reader.specs.Needs.{base_needs, fits, hole, want_hole};
 ghost use Rattle.sql_reader.specs.Stacks.{forms};
-ghost use Rattle.sql_reader.specs.States.{position_view, state_view};
+ghost use Rattle.sql_reader.specs.States.{position_view};
+ghost use Rattle.sql_reader.specs.Steps.{On};
 ghost use Rattle.sql_reader.specs.Views.{base_view};
 
 use crate::form::Form;
 use crate::lists::Base;
 use crate::stack::{Stack, begun_depth};
-use crate::state::{Position, State};
+use crate::state::Position;
 use nq_model::Memory;
 
 /// Whether a text of at most this depth begins with what was read.
-pub fn fits(state: &State, limit: u64) -> Result<bool, Memory>
-    ensures { IfOk result (λ fit. fit ≡ fits limit (state_view state.now)) }
+pub fn fits(base: &Base, stack: &Stack, at: &Position, limit: u64) -> Result<bool, Memory>
+    ensures { IfOk result (λ fit. fit ≡ fits limit (On (base_view base.now) (forms stack.now.levels) (position_view at.now))) }
 {
-    let hole = hole(&state.at, &state.stack)?;
-    let deep = match hole.checked_add(state.stack.height()) {
-        Some(deep) => deep.max(state.stack.needs()),
+    let hole = hole(at, stack)?;
+    let deep = match hole.checked_add(stack.height()) {
+        Some(deep) => deep.max(stack.needs()),
         None => return Err(Memory),
     };
-    Ok(deep.max(base_needs(&state.base)) <= limit)
+    Ok(deep.max(base_needs(base)) <= limit)
 }
 
 // How deep the WITH queries make the text, and the main query that has to come behind them.

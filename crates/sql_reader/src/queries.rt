@@ -1,7 +1,7 @@
 // A token behind a whole query.
 ghost use Rattle.std.specs.Prelude.{◌≡◌, [], cond, Some, None};
 ghost use Rattle.sql_reader.specs.Stacks.{forms};
-ghost use Rattle.sql_reader.specs.States.{Leads, Turns, position_view};
+ghost use Rattle.sql_reader.specs.States.{Turns};
 ghost use Rattle.sql_reader.specs.Steps.{On, Position as ReaderPosition, after_query, close_query, end_def, end_main};
 ghost use Rattle.sql_reader.specs.Symbols.{token_view};
 ghost use Rattle.sql_reader.specs.Views.{base_view, selects_view};
@@ -30,8 +30,20 @@ pub fn after_query(
     match token.symbol {
         Symbol::Mark(Mark::Union) => Ok(Some(Position::AtUnion { before: query })),
         Symbol::Mark(Mark::Closing) => close_query(alloc, base, stack, query),
-        Symbol::Mark(Mark::Semicolon) => Ok(end_main(base, stack, Position::AtSemi { query })),
-        Symbol::End => Ok(end_main(base, stack, Position::Ready { query })),
+        Symbol::Mark(Mark::Semicolon) => {
+            if is_main(base, stack) {
+                Ok(Some(Position::AtSemi { query }))
+            } else {
+                Ok(None)
+            }
+        }
+        Symbol::End => {
+            if is_main(base, stack) {
+                Ok(Some(Position::Ready { query }))
+            } else {
+                Ok(None)
+            }
+        }
         _ => Ok(None),
     }
 }
@@ -75,13 +87,6 @@ fn end_def(base: &mut Base, query: Selects) -> Result<Option<Position>, Memory>
         },
     })?;
     Ok(Some(Position::BehindWith))
-}
-
-// The main query is whole, if that is what is read.
-fn end_main(base: &Base, stack: &Stack, at: Position) -> Option<Position>
-    ensures { Leads result (base_view base.now) (forms stack.now.levels) (end_main (forms stack.now.levels) (base_view base.now) (position_view at)) }
-{
-    if is_main(base, stack) { Some(at) } else { None }
 }
 
 // Whether nothing stands round the query, so that it is the main query.

@@ -2,9 +2,11 @@
 ghost use Rattle.std.specs.Prelude.{◌≡◌, map};
 ghost use Rattle.std.specs.Result.{result_map_both};
 ghost use Rattle.sql_reader.specs.Reading.{Advances, Ends, IsTextOf, Reads};
-ghost use Rattle.sql_reader.specs.States.{state_view};
-ghost use Rattle.sql_reader.specs.Steps.{start_state};
+ghost use Rattle.sql_reader.specs.Stacks.{forms};
+ghost use Rattle.sql_reader.specs.States.{position_view, state_view};
+ghost use Rattle.sql_reader.specs.Steps.{On, start_state};
 ghost use Rattle.sql_reader.specs.Symbols.{token_view};
+ghost use Rattle.sql_reader.specs.Views.{base_view};
 
 use crate::extent::nothing;
 use crate::fault::SqlFault;
@@ -17,7 +19,6 @@ use crate::token::Token;
 use nq_model::List;
 use sql_profile::{Query, SqlText};
 use std::alloc::Global;
-use std::mem;
 
 /// The tree that the tokens of a text spell at a depth. `Unexpected` and `Deep` come at the first token with
 /// which the tokens begin no text of that depth; `Memory` where there is too little memory, or the tree would
@@ -29,11 +30,15 @@ pub fn read(alloc: Global, tokens: &[Token<'_>], depth: u64) -> Result<SqlText, 
     requires { Ends (map token_view tokens.now) }
     ensures { Reads result depth (map token_view tokens.now) }
 {
-    let mut state = start_state(alloc);
+    let State {
+        mut base,
+        mut stack,
+        mut at,
+    } = start_state(alloc);
     for token in tokens {
-        advance(alloc, &mut state, *token, depth)?;
+        at = advance(alloc, &mut base, &mut stack, at, *token, depth)?;
     }
-    match whole_text(state) {
+    match whole_text(State { base, stack, at }) {
         Some(text) => Ok(text),
         None => unreachable!(),
     }
@@ -53,20 +58,27 @@ fn start_state(alloc: Global) -> State
     }
 }
 
-// Goes to the state behind the token, which begins a text of this depth.
-fn advance(alloc: Global, state: &mut State, token: Token<'_>, depth: u64) -> Result<(), SqlFault>
-    ensures { Advances (result_map_both (λ u. state.new) (λ e. e) result) depth (state_view state.old) (token_view token.entry) }
+// The position behind the token, which begins a text of this depth.
+fn advance(
+    alloc: Global,
+    base: &mut Base,
+    stack: &mut Stack,
+    at: Position,
+    token: Token<'_>,
+    depth: u64,
+) -> Result<Position, SqlFault>
+    ensures { Advances (result_map_both (λ next. record { base = base.new; stack = stack.new; at = next }) (λ e. e) result) depth (On (base_view base.old) (forms stack.old.levels) (position_view at)) (token_view token.entry) }
 {
     let place = token.place;
-    let at = mem::replace(&mut state.at, Position::Want);
-    match step(alloc, &mut state.base, &mut state.stack, at, token)? {
-        Some(next) => state.at = next,
-        None => return Err(SqlFault::Unexpected { place }),
-    }
-    if fits(state, depth)? {
-        Ok(())
-    } else {
-        Err(SqlFault::Deep { place })
+    match step(alloc, base, stack, at, token)? {
+        Some(next) => {
+            if fits(base, stack, &next, depth)? {
+                Ok(next)
+            } else {
+                Err(SqlFault::Deep { place })
+            }
+        }
+        None => Err(SqlFault::Unexpected { place }),
     }
 }
 

@@ -1,4 +1,4 @@
-use Rattle.std.proofs.Common.{◌≡◌, sym, ◌∙◌, ap, subst}
+use Rattle.std.proofs.Common.{sym, ◌∙◌, subst}
 use Rattle.sql_reader.specs.Stacks.{forms}
 use Rattle.sql_reader.specs.States.{Leads, position_view}
 use Rattle.sql_reader.specs.Steps.{On, step_at}
@@ -9,16 +9,13 @@ use Rattle.sql_reader.proofs.read.advance.Goals as goal
 
 pub returns-else-branch : goal.returns-else-branch
 returns-else-branch c =
-    let base = base_view c.args.state.now.base in
-    let around = forms c.args.state.now.stack.levels in
-    let token = token_view c.args.token in
-    let base_then = base_view c.step.new.base in
-    let around_then = forms c.step.new.stack.levels in (
+    let base = base_view c.step.new.base in
+    let around = forms c.step.new.stack.levels in
+    let stepped = step_at (position_view c.args.at) (base_view c.args.base.now) (forms c.args.stack.now.levels) (token_view c.args.token) in (
       sym (place_there c.args.token.place c.args.token.symbol),
       (
-        On base_then around_then (position_view c.in-Some.next),
-        ap (λ at. step_at (position_view at) base around token) (sym c.replace-at.ensures.value)
-        ∙ subst (λ r. Leads r base_then around_then (step_at (position_view c.replace-at.result) base around token)) c.in-Some.is c.in_ok-next.ensures,
-        sym c.in_ok-fits.ensures ∙ c.if-branch.false,
+        On base around (position_view c.in-Some.next),
+        subst (λ r. Leads r base around stepped) c.in-Some.is c.in_ok-next.ensures,
+        sym c.in_ok-fits-in-Some.ensures ∙ c.if-branch.false,
       ),
     )
