@@ -88,7 +88,6 @@ pub fn begin_select(alloc: Global, before: Selects, place: u64) -> Begun
 }
 
 /// The SELECT with one more item.
-#[tactic(auto, using(crate::proofs::Putting::items_put))]
 pub fn add_item(begun: Begun, value: Value, name: Name) -> Result<Begun, Memory>
     ensures { IfOk result (λ more. begun_view more ≡ add_item (begun_view begun) (value_view value) (name_view name)) }
 {
