@@ -1,7 +1,7 @@
 // Reads tokens, one after the other.
 ghost use Rattle.std.specs.Prelude.{◌≡◌, map};
 ghost use Rattle.std.specs.Result.{result_map_both};
-ghost use Rattle.sql_reader.specs.Reading.{Advances, Ends, IsTextOf, Reads};
+ghost use Rattle.sql_reader.specs.Reading.{Advances, Ends, Reads};
 ghost use Rattle.sql_reader.specs.Stacks.{forms};
 ghost use Rattle.sql_reader.specs.States.{position_view, state_view};
 ghost use Rattle.sql_reader.specs.Steps.{On, start_state};
@@ -38,9 +38,14 @@ pub fn read(alloc: Global, tokens: &[Token<'_>], depth: u64) -> Result<SqlText, 
     for token in tokens {
         at = advance(alloc, &mut base, &mut stack, at, *token, depth)?;
     }
-    match whole_text(State { base, stack, at }) {
-        Some(text) => Ok(text),
-        None => unreachable!(),
+    match at {
+        Position::Ready { query } => Ok(SqlText {
+            withs: base.withs,
+            main: Query {
+                selects: query.selects,
+            },
+        }),
+        _ => unreachable!(),
     }
 }
 
@@ -79,21 +84,5 @@ fn advance(
             }
         }
         None => Err(SqlFault::Unexpected { place }),
-    }
-}
-
-// The tree of the text that was read, at its end.
-fn whole_text(state: State) -> Option<SqlText>
-    ensures { IsTextOf result (state_view state) }
-{
-    let State { base, stack: _, at } = state;
-    match at {
-        Position::Ready { query } => Some(SqlText {
-            withs: base.withs,
-            main: Query {
-                selects: query.selects,
-            },
-        }),
-        _ => None,
     }
 }
