@@ -196,12 +196,7 @@ pub fn at_source(
 }
 
 /// AS behind the name of a table.
-pub fn at_source_name(
-    begun: Begun,
-    from: List<Source>,
-    table: Name,
-    token: Token<'_>,
-) -> Option<Position>
+pub fn at_table(begun: Begun, from: List<Source>, table: Name, token: Token<'_>) -> Option<Position>
     ensures { (b : Withs) (k : Forms) → Leads result b k (at_source_name (begun_view begun) from (name_view table) b k (token_view token.entry)) }
 {
     match token.symbol {
@@ -211,7 +206,7 @@ pub fn at_source_name(
 }
 
 /// The alias of a source.
-pub fn at_source_as(
+pub fn at_alias(
     alloc: Global,
     begun: Begun,
     from: List<Source>,

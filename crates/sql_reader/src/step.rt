@@ -13,8 +13,7 @@ use crate::between::{
 use crate::lists::Base;
 use crate::numbering::{at_order, at_over, at_row, at_row_close, at_row_open, at_value, in_over};
 use crate::selects::{
-    at_as, at_source, at_source_as, at_source_name, at_start, at_union, behind_with, have_items,
-    start_select,
+    at_alias, at_as, at_source, at_start, at_table, at_union, behind_with, have_items, start_select,
 };
 use crate::stack::Stack;
 use crate::state::Position;
@@ -56,12 +55,8 @@ pub fn step(
         Position::AtAs { value } => at_as(alloc, stack, value, token),
         Position::HaveItems { begun, from } => have_items(alloc, base, stack, begun, from, token),
         Position::AtSource { begun, from } => at_source(alloc, begun, from, token),
-        Position::AtSourceName { begun, from, table } => {
-            Ok(at_source_name(begun, from, table, token))
-        }
-        Position::AtSourceAs { begun, from, table } => {
-            at_source_as(alloc, begun, from, table, token)
-        }
+        Position::AtSourceName { begun, from, table } => Ok(at_table(begun, from, table, token)),
+        Position::AtSourceAs { begun, from, table } => at_alias(alloc, begun, from, table, token),
         Position::AtSemi { query } => Ok(at_semi(query, token)),
         Position::Ready { .. } => Ok(None),
     }
