@@ -16,9 +16,9 @@ pub(crate) const WALK: u64 = 2_300;
 /// `substitute` with the largest of the calls that lie between it and the next one.
 pub(crate) const SUBSTITUTE: u64 = 1_600;
 
-pub(crate) const APPLY: u64 = 1_000;
+pub(crate) const APPLY: u64 = 900;
 
-pub(crate) const APPLY_BRANCHES: u64 = 1_400;
+pub(crate) const APPLY_BRANCHES: u64 = 1_500;
 
 /// `walk_parts` or `substitute_apply`.
 pub(crate) const ARGUMENT: u64 = 800;
