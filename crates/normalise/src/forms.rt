@@ -1,5 +1,5 @@
 // Bodies of each form of term, over the bodies of its parts. None of these calls the walk.
-ghost use Rattle.std.specs.Prelude.{◌≡◌, IfOk, [], map};
+ghost use Rattle.std.specs.Prelude.{◌≡◌, IfOk, []};
 ghost use Rattle.nq_model.specs.Orders.{by_label};
 ghost use Rattle.nq_model.specs.declared.table.Cell.TheVariants as cell;
 ghost use Rattle.nq_ir.specs.RawForms.{append_raw, no_raw, no_raw_body, no_raw_comp, raw_bag, raw_binary, raw_comp, raw_empty, raw_literal, raw_plain, raw_rec, raw_unary, where_raw};

@@ -1,5 +1,5 @@
 // The numbers of the generators in base terms.
-ghost use Rattle.std.specs.Prelude.{◌≡◌, ◌+◌, IfOk, length, map};
+ghost use Rattle.std.specs.Prelude.{◌≡◌, ◌+◌, IfOk, map};
 ghost use Rattle.nq_ir.specs.NormalForms.{gens_in_base, number_base, number_gens};
 ghost use Rattle.nq_ir.specs.Trees.{base_tree, test_part as numbered_part};
 ghost use Rattle.normalise.specs.Raw.{moved_base, raw_base, test_part};

@@ -36,13 +36,12 @@ IsReady (On b k (Ready q)) = ⊤
 IsReady st = ⊥
 
 -- the tree, where the text has ended
-abbrev pub IsTextOf : Option SqlText → State → Type 0
-IsTextOf (Some t) st = (b : Base) × (k : List Form) × (q : Selects) × (st ≡ On b k (Ready q)) × (placed t ≡ whole b q)
-IsTextOf None st = IsReady st → ⊥
+abbrev pub IsTextOf : SqlText → State → Type 0
+IsTextOf t st = (b : Base) × (k : List Form) × (q : Selects) × (st ≡ On b k (Ready q)) × (placed t ≡ whole b q)
 
 -- the tree of the text that the reader reads to its end, or its fault; want of memory is free
 abbrev pub Reads : Result SqlText SqlFault → ℕ → List Token → Type 0
-Reads (Ok t) d ts = (st : State) × (run d ts start_state ≡ Reached st) × IsTextOf (Some t) st
+Reads (Ok t) d ts = (st : State) × (run d ts start_state ≡ Reached st) × IsTextOf t st
 Reads (Err code.Memory) d ts = ⊤
 Reads (Err (code.Unexpected p)) d ts = (t : Token) × (p ≡ place_of t) × (run d ts start_state ≡ Faulty t Unexpected)
 Reads (Err (code.Deep p)) d ts = (t : Token) × (p ≡ place_of t) × (run d ts start_state ≡ Faulty t Deep)

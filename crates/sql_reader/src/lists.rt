@@ -1,6 +1,5 @@
 // Parts of a query that were read, of which more may come.
-ghost use Rattle.std.specs.Prelude.{◌≡◌, [], map, Option, None, Some, IfOk};
-ghost use Rattle.sql_profile.specs.Trees.{PlacedKeep, keep_of, placed_expr};
+ghost use Rattle.std.specs.Prelude.{◌≡◌, Option, IfOk};
 ghost use Rattle.sql_reader.specs.Parts.{add_item, add_key, add_select, add_source, begun, no_keys, no_selects, numbering, plain};
 ghost use Rattle.sql_reader.specs.Views.{begun_view, kept_tree, keys_view, name_view, part_view, selects_view, value_view};
 

@@ -1,5 +1,5 @@
 // A token between the parts of a SELECT.
-ghost use Rattle.std.specs.Prelude.{◌≡◌, ◌∷◌, Some};
+ghost use Rattle.std.specs.Prelude.{◌∷◌, Some};
 ghost use Rattle.sql_reader.specs.Parts.{begun};
 ghost use Rattle.sql_reader.specs.Stacks.{forms};
 ghost use Rattle.sql_reader.specs.States.{Forms, Leads, Turns, Withs};
