@@ -250,41 +250,33 @@ fn shown(alloc: Global, rows: &[List<Cell>]) -> Result<String, Memory> {
     Ok(text)
 }
 
-// Compares the rows with those of the plain evaluator, for each way to number ties.
+// Compares the rows with those of the plain evaluator.
 fn check_plain(
     rt: &impl Abort,
     alloc: Global,
     held: &[Loaded],
     text: &SqlText,
-    row: &Row,
+    ties: Ties,
+    want: &str,
 ) -> Result<(), Memory> {
-    for (ties, want) in [Ties::AsTheyArise, Ties::Reversed]
-        .iter()
-        .zip(row.rows.iter())
-    {
-        let rows = evaluate_text(alloc, held, text, *ties)?;
-        assert_eq!(rt; shown(alloc, rows.as_slice())?.as_str(), *want);
-    }
+    let rows = evaluate_text(alloc, held, text, ties)?;
+    assert_eq!(rt; shown(alloc, rows.as_slice())?.as_str(), want);
     Ok(())
 }
 
-// Compares the rows with those of the evaluator, for each arrangement and each way to join.
+// Compares the rows with those of the evaluator, for each way to join.
 fn check_evaluator(
     rt: &impl Abort,
     alloc: Global,
     held: &[Loaded],
     text: &SqlText,
-    row: &Row,
+    arrangement: Arrangement,
+    want: &str,
 ) -> Result<(), Memory> {
-    for (arrangement, want) in [Arrangement::AsTheyArise, Arrangement::Reversed]
-        .iter()
-        .zip([row.rows[0], row.rows[2]].iter())
-    {
-        for joining in &[Joining::NestedLoops, Joining::HashTables] {
-            let rows = evaluate(alloc, held, text, *joining, *arrangement)?;
-            let list = listed(alloc, &rows)?;
-            assert_eq!(rt; shown(alloc, list.as_slice())?.as_str(), *want);
-        }
+    for joining in [Joining::NestedLoops, Joining::HashTables] {
+        let rows = evaluate(alloc, held, text, joining, arrangement)?;
+        let list = listed(alloc, &rows)?;
+        assert_eq!(rt; shown(alloc, list.as_slice())?.as_str(), want);
     }
     Ok(())
 }
@@ -293,10 +285,14 @@ fn check_evaluator(
 fn gives(rt: HostRuntime) -> Result<(), Memory> {
     let alloc = rt.alloc();
     let held = organisation(alloc)?;
+    let held = held.as_slice();
     for row in &ROWS {
         let text = text_of(alloc, row.with.as_ref(), row.main)?;
-        check_plain(&rt, alloc, held.as_slice(), &text, row)?;
-        check_evaluator(&rt, alloc, held.as_slice(), &text, row)?;
+        let [arising, tied, reversed] = row.rows;
+        check_plain(&rt, alloc, held, &text, Ties::AsTheyArise, arising)?;
+        check_plain(&rt, alloc, held, &text, Ties::Reversed, tied)?;
+        check_evaluator(&rt, alloc, held, &text, Arrangement::AsTheyArise, arising)?;
+        check_evaluator(&rt, alloc, held, &text, Arrangement::Reversed, reversed)?;
     }
     Ok(())
 }
