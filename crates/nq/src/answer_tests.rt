@@ -1,7 +1,8 @@
 // Whole runs that write the rows of SQL texts.
 use crate::nested_tests::{CONTACTS, ORG, WHOLE};
-use crate::runs::{self, Engine, Wanted, check_run, padded};
+use crate::runs::{Engine, Wanted, check_run, padded};
 use nq_edge::HeldInputs;
+use nq_model::{List, Text};
 use std::alloc::Global;
 use std::test::Fail;
 
@@ -87,17 +88,22 @@ const ROWS: [Row; 10] = [
 
 // The inputs of a row, with so many spaces before its SQL text.
 fn inputs_of(alloc: Global, row: &Row, blanks: usize) -> Result<HeldInputs, Fail> {
+    let mut files = List::new(alloc);
+    let schema = padded(alloc, 0, row.schema)?;
+    files.push((Text::from_str(alloc, "org")?, schema))?;
     let sql = padded(alloc, blanks, row.sql)?;
-    let texts: [(&str, &[u8]); 7] = [
-        ("org", row.schema.as_bytes()),
-        ("s", sql.as_slice()),
-        ("data/departments.csv", WHOLE.departments.as_bytes()),
-        ("data/employees.csv", WHOLE.employees.as_bytes()),
-        ("data/tasks.csv", WHOLE.tasks.as_bytes()),
-        ("data/contacts.csv", CONTACTS.as_bytes()),
-        ("data/t.csv", b"a\n5\n6\n"),
-    ];
-    runs::inputs_of(alloc, &texts, &[])
+    files.push((Text::from_str(alloc, "s")?, sql))?;
+    let text = padded(alloc, 0, WHOLE.departments)?;
+    files.push((Text::from_str(alloc, "data/departments.csv")?, text))?;
+    let text = padded(alloc, 0, WHOLE.employees)?;
+    files.push((Text::from_str(alloc, "data/employees.csv")?, text))?;
+    let text = padded(alloc, 0, WHOLE.tasks)?;
+    files.push((Text::from_str(alloc, "data/tasks.csv")?, text))?;
+    let text = padded(alloc, 0, CONTACTS)?;
+    files.push((Text::from_str(alloc, "data/contacts.csv")?, text))?;
+    let text = padded(alloc, 0, "a\n5\n6\n")?;
+    files.push((Text::from_str(alloc, "data/t.csv")?, text))?;
+    Ok(HeldInputs::new(alloc, files, List::new(alloc))?)
 }
 
 // What is wanted of a run of a row.

@@ -1,6 +1,7 @@
 // Whole runs of nested queries, over each server.
-use crate::runs::{self, Engine, Wanted, check_run};
+use crate::runs::{Engine, Wanted, check_run, padded};
 use nq_edge::HeldInputs;
+use nq_model::{List, Text};
 use std::alloc::Global;
 use std::process::Abort;
 use std::test::Fail;
@@ -154,15 +155,20 @@ pub fn inputs_of(alloc: Global, nested: &Nested) -> Result<HeldInputs, Fail> {
 
 /// The inputs of a query, of which the fetches with these numbers fail.
 pub fn inputs_failing(alloc: Global, nested: &Nested, failing: &[u64]) -> Result<HeldInputs, Fail> {
-    let texts: [(&str, &[u8]); 6] = [
-        ("org", ORG.as_bytes()),
-        ("q", nested.query.as_bytes()),
-        ("data/departments.csv", nested.departments.as_bytes()),
-        ("data/employees.csv", nested.employees.as_bytes()),
-        ("data/tasks.csv", nested.tasks.as_bytes()),
-        ("data/contacts.csv", CONTACTS.as_bytes()),
-    ];
-    runs::inputs_of(alloc, &texts, failing)
+    let mut files = List::new(alloc);
+    files.push((Text::from_str(alloc, "org")?, padded(alloc, 0, ORG)?))?;
+    let query = padded(alloc, 0, nested.query)?;
+    files.push((Text::from_str(alloc, "q")?, query))?;
+    let departments = padded(alloc, 0, nested.departments)?;
+    files.push((Text::from_str(alloc, "data/departments.csv")?, departments))?;
+    let employees = padded(alloc, 0, nested.employees)?;
+    files.push((Text::from_str(alloc, "data/employees.csv")?, employees))?;
+    let tasks = padded(alloc, 0, nested.tasks)?;
+    files.push((Text::from_str(alloc, "data/tasks.csv")?, tasks))?;
+    let contacts = padded(alloc, 0, CONTACTS)?;
+    files.push((Text::from_str(alloc, "data/contacts.csv")?, contacts))?;
+    let failing = List::from_slice(alloc, failing)?;
+    Ok(HeldInputs::new(alloc, files, failing)?)
 }
 
 // What is wanted of a run of it.
@@ -178,13 +184,8 @@ fn wanted(nested: &Nested) -> Wanted {
 
 fn check_each(rt: &impl Abort, alloc: Global, engine: Engine) -> Result<(), Fail> {
     for nested in &NESTED {
-        check_run(
-            rt,
-            alloc,
-            engine,
-            inputs_of(alloc, nested)?,
-            &wanted(nested),
-        )?;
+        let inputs = inputs_of(alloc, nested)?;
+        check_run(rt, alloc, engine, inputs, &wanted(nested))?;
     }
     Ok(())
 }

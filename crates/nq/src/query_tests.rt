@@ -1,7 +1,7 @@
 // Whole runs that read and type queries.
-use crate::runs::{self, Engine, Wanted, check_run, padded};
+use crate::runs::{Engine, Wanted, check_run, padded};
 use nq_edge::HeldInputs;
-use nq_model::List;
+use nq_model::{List, Text};
 use std::alloc::Global;
 use std::process::Abort;
 use std::test::Fail;
@@ -336,15 +336,19 @@ const ROWS: [Row; 43] = [
 
 /// The inputs of a row, whose query is this text.
 pub fn inputs_of(alloc: Global, row: &Row, query: List<u8>) -> Result<HeldInputs, Fail> {
-    let texts: [(&str, &[u8]); 6] = [
-        ("org", ORG.as_bytes()),
-        ("q", query.as_slice()),
-        ("data/departments.csv", DEPARTMENTS.as_bytes()),
-        ("data/employees.csv", EMPLOYEES.as_bytes()),
-        ("data/tasks.csv", TASKS.as_bytes()),
-        ("data/contacts.csv", CONTACTS.as_bytes()),
-    ];
-    runs::inputs_of(alloc, &texts, row.failing)
+    let failing = List::from_slice(alloc, row.failing)?;
+    let mut files = List::new(alloc);
+    files.push((Text::from_str(alloc, "org")?, padded(alloc, 0, ORG)?))?;
+    files.push((Text::from_str(alloc, "q")?, query))?;
+    let departments = padded(alloc, 0, DEPARTMENTS)?;
+    files.push((Text::from_str(alloc, "data/departments.csv")?, departments))?;
+    let employees = padded(alloc, 0, EMPLOYEES)?;
+    files.push((Text::from_str(alloc, "data/employees.csv")?, employees))?;
+    let tasks = padded(alloc, 0, TASKS)?;
+    files.push((Text::from_str(alloc, "data/tasks.csv")?, tasks))?;
+    let contacts = padded(alloc, 0, CONTACTS)?;
+    files.push((Text::from_str(alloc, "data/contacts.csv")?, contacts))?;
+    Ok(HeldInputs::new(alloc, files, failing)?)
 }
 
 /// Runs a row, whose query is this text.
@@ -356,13 +360,8 @@ pub fn run_row(rt: &impl Abort, alloc: Global, row: &Row, query: List<u8>) -> Re
         out: row.out,
         note: row.note,
     };
-    check_run(
-        rt,
-        alloc,
-        Engine::Plain,
-        inputs_of(alloc, row, query)?,
-        &wanted,
-    )
+    let inputs = inputs_of(alloc, row, query)?;
+    check_run(rt, alloc, Engine::Plain, inputs, &wanted)
 }
 
 // A text, so many opening brackets, another text, and as many closing ones.

@@ -3,7 +3,7 @@ ghost use Rattle.std.specs.Prelude.{◌≡◌, [], IfOk};
 
 use fast_engine::FastServer;
 use nq_edge::{HeldInputs, HeldSink};
-use nq_model::{List, Text};
+use nq_model::List;
 use nq_top::{nq_lent, nq_main};
 use plain_engine::{CrookedServer, PlainServer};
 use sql_profile::SqlServer;
@@ -31,20 +31,6 @@ pub fn padded(alloc: Global, blanks: usize, text: &str) -> Result<List<u8>, Fail
         bytes.push(*byte)?;
     }
     Ok(bytes)
-}
-
-/// Inputs that are these texts under these names, of which the fetches with these numbers fail.
-pub fn inputs_of(
-    alloc: Global,
-    texts: &[(&str, &[u8])],
-    failing: &[u64],
-) -> Result<HeldInputs, Fail> {
-    let mut files = List::new(alloc);
-    for (name, text) in texts {
-        files.push((Text::from_str(alloc, name)?, List::from_slice(alloc, text)?))?;
-    }
-    let failing = List::from_slice(alloc, failing)?;
-    Ok(HeldInputs::new(alloc, files, failing)?)
 }
 
 // The words of a run.
@@ -107,12 +93,20 @@ pub enum Engine {
 pub fn server_of(alloc: Global, engine: Engine) -> Result<Box<dyn SqlServer>, Fail>
     ensures { IfOk result (λ server. loaded server ≡ []) }
 {
-    let server: Box<dyn SqlServer> = match engine {
-        Engine::Plain => Box::new(alloc, PlainServer::new(alloc))?,
-        Engine::Crooked => Box::new(alloc, CrookedServer::new(alloc))?,
-        Engine::Fast => Box::new(alloc, FastServer::new(alloc))?,
-    };
-    Ok(server)
+    match engine {
+        Engine::Plain => {
+            let server: Box<dyn SqlServer> = Box::new(alloc, PlainServer::new(alloc))?;
+            Ok(server)
+        }
+        Engine::Crooked => {
+            let server: Box<dyn SqlServer> = Box::new(alloc, CrookedServer::new(alloc))?;
+            Ok(server)
+        }
+        Engine::Fast => {
+            let server: Box<dyn SqlServer> = Box::new(alloc, FastServer::new(alloc))?;
+            Ok(server)
+        }
+    }
 }
 
 /// Runs the program over these inputs and a server of its own.

@@ -1,7 +1,7 @@
 // Whole runs over inputs and outputs in memory.
-use crate::runs::{self, Engine, Wanted, check_run, padded};
+use crate::runs::{Engine, Wanted, check_run, padded};
 use nq_edge::HeldInputs;
-use nq_model::List;
+use nq_model::{List, Text};
 use std::alloc::Global;
 use std::process::Abort;
 use std::test::Fail;
@@ -160,17 +160,21 @@ fn inputs_of(
     before_query: usize,
     before_t: usize,
 ) -> Result<HeldInputs, Fail> {
+    let org = padded(alloc, 0, case.schema)?;
     let query = padded(alloc, before_query, case.query)?;
     let t = padded(alloc, before_t, case.t)?;
-    let org = ("org", case.schema.as_bytes());
-    let query = ("q", query.as_slice());
-    let t = ("data/t.csv", t.as_slice());
+    let failing = List::from_slice(alloc, case.failing)?;
+    let mut files = List::new(alloc);
+    files.push((Text::from_str(alloc, "org")?, org))?;
+    files.push((Text::from_str(alloc, "q")?, query))?;
+    files.push((Text::from_str(alloc, "data/t.csv")?, t))?;
     match case.departments {
         Some(rows) => {
-            let departments = ("data/departments.csv", rows.as_bytes());
-            runs::inputs_of(alloc, &[org, query, t, departments], case.failing)
+            let rows = padded(alloc, 0, rows)?;
+            files.push((Text::from_str(alloc, "data/departments.csv")?, rows))?;
+            Ok(HeldInputs::new(alloc, files, failing)?)
         }
-        None => runs::inputs_of(alloc, &[org, query, t], case.failing),
+        None => Ok(HeldInputs::new(alloc, files, failing)?),
     }
 }
 
@@ -325,16 +329,22 @@ const REFUSALS: [Refusal; 11] = [
 
 // The texts of a refusal as inputs.
 fn texts_of(alloc: Global, case: &Refusal) -> Result<HeldInputs, Fail> {
-    let texts: [(&str, &[u8]); 7] = [
-        ("org", case.schema.as_bytes()),
-        ("q", case.query.as_bytes()),
-        ("data/departments.csv", b"name\nSales\n"),
-        ("data/employees.csv", case.employees.as_bytes()),
-        ("data/tasks.csv", b"employee,task\n"),
-        ("data/t.csv", b"a,b\n1,x\n2,y\n1,z\n"),
-        ("data/contacts.csv", case.contacts.as_bytes()),
-    ];
-    runs::inputs_of(alloc, &texts, &[])
+    let schema = List::from_slice(alloc, case.schema.as_bytes())?;
+    let query = List::from_slice(alloc, case.query.as_bytes())?;
+    let employees = List::from_slice(alloc, case.employees.as_bytes())?;
+    let contacts = List::from_slice(alloc, case.contacts.as_bytes())?;
+    let departments = List::from_slice(alloc, b"name\nSales\n")?;
+    let tasks = List::from_slice(alloc, b"employee,task\n")?;
+    let t = List::from_slice(alloc, b"a,b\n1,x\n2,y\n1,z\n")?;
+    let mut files = List::new(alloc);
+    files.push((Text::from_str(alloc, "org")?, schema))?;
+    files.push((Text::from_str(alloc, "q")?, query))?;
+    files.push((Text::from_str(alloc, "data/departments.csv")?, departments))?;
+    files.push((Text::from_str(alloc, "data/employees.csv")?, employees))?;
+    files.push((Text::from_str(alloc, "data/tasks.csv")?, tasks))?;
+    files.push((Text::from_str(alloc, "data/t.csv")?, t))?;
+    files.push((Text::from_str(alloc, "data/contacts.csv")?, contacts))?;
+    Ok(HeldInputs::new(alloc, files, List::new(alloc))?)
 }
 
 // Runs the texts of a refusal.
@@ -346,7 +356,8 @@ fn check_refusal(rt: &impl Abort, alloc: Global, case: &Refusal) -> Result<(), F
         out: "",
         note: case.note,
     };
-    check_run(rt, alloc, Engine::Plain, texts_of(alloc, case)?, &wanted)
+    let inputs = texts_of(alloc, case)?;
+    check_run(rt, alloc, Engine::Plain, inputs, &wanted)
 }
 
 #[test]
@@ -370,7 +381,8 @@ fn tables_text(alloc: Global, count: u64) -> Result<List<u8>, Fail> {
 #[test]
 fn refuses_a_schema_of_more_tables_than_the_limit(rt: HostRuntime) -> Result<(), Fail> {
     let alloc = rt.alloc();
-    let schema = tables_text(alloc, 65)?;
+    let mut files = List::new(alloc);
+    files.push((Text::from_str(alloc, "org")?, tables_text(alloc, 65)?))?;
     let wanted = Wanted {
         words: RUN,
         room: 10,
@@ -378,6 +390,6 @@ fn refuses_a_schema_of_more_tables_than_the_limit(rt: HostRuntime) -> Result<(),
         out: "",
         note: "nq: schema refused: OverLimit at 1213\n",
     };
-    let inputs = runs::inputs_of(alloc, &[("org", schema.as_slice())], &[])?;
+    let inputs = HeldInputs::new(alloc, files, List::new(alloc))?;
     check_run(&rt, alloc, Engine::Plain, inputs, &wanted)
 }
