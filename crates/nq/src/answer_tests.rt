@@ -1,8 +1,8 @@
 // Whole runs that write the rows of SQL texts.
 use crate::nested_tests::{CONTACTS, ORG, WHOLE};
-use crate::runs::{Engine, Wanted, check_run, padded};
+use crate::runs::{Engine, Wanted, check_run, held, padded, put};
 use nq_edge::HeldInputs;
-use nq_model::{List, Text};
+use nq_model::List;
 use std::alloc::Global;
 use std::test::Fail;
 
@@ -88,22 +88,26 @@ const ROWS: [Row; 10] = [
 
 // The inputs of a row, with so many spaces before its SQL text.
 fn inputs_of(alloc: Global, row: &Row, blanks: usize) -> Result<HeldInputs, Fail> {
-    let mut files = List::new(alloc);
-    let schema = padded(alloc, 0, row.schema)?;
-    files.push((Text::from_str(alloc, "org")?, schema))?;
     let sql = padded(alloc, blanks, row.sql)?;
-    files.push((Text::from_str(alloc, "s")?, sql))?;
-    let text = padded(alloc, 0, WHOLE.departments)?;
-    files.push((Text::from_str(alloc, "data/departments.csv")?, text))?;
-    let text = padded(alloc, 0, WHOLE.employees)?;
-    files.push((Text::from_str(alloc, "data/employees.csv")?, text))?;
-    let text = padded(alloc, 0, WHOLE.tasks)?;
-    files.push((Text::from_str(alloc, "data/tasks.csv")?, text))?;
-    let text = padded(alloc, 0, CONTACTS)?;
-    files.push((Text::from_str(alloc, "data/contacts.csv")?, text))?;
-    let text = padded(alloc, 0, "a\n5\n6\n")?;
-    files.push((Text::from_str(alloc, "data/t.csv")?, text))?;
-    Ok(HeldInputs::new(alloc, files, List::new(alloc))?)
+    let mut files = List::new(alloc);
+    put(alloc, &mut files, "org", row.schema.as_bytes())?;
+    put(alloc, &mut files, "s", sql.as_slice())?;
+    put(
+        alloc,
+        &mut files,
+        "data/departments.csv",
+        WHOLE.departments.as_bytes(),
+    )?;
+    put(
+        alloc,
+        &mut files,
+        "data/employees.csv",
+        WHOLE.employees.as_bytes(),
+    )?;
+    put(alloc, &mut files, "data/tasks.csv", WHOLE.tasks.as_bytes())?;
+    put(alloc, &mut files, "data/contacts.csv", CONTACTS.as_bytes())?;
+    put(alloc, &mut files, "data/t.csv", b"a\n5\n6\n")?;
+    held(alloc, files, &[])
 }
 
 // What is wanted of a run of a row.

@@ -1,8 +1,8 @@
 // Whole runs of the queries in examples/company, with the outputs that stand beside them. `.ci/examples` writes this
 // file, and the gate compares it.
-use crate::runs::{Engine, Wanted, check_run, padded};
+use crate::runs::{Engine, Wanted, check_run, held, put};
 use nq_edge::HeldInputs;
-use nq_model::{List, Text};
+use nq_model::List;
 use std::alloc::Global;
 use std::test::Fail;
 
@@ -123,19 +123,23 @@ for (d <- table departments)
 // The inputs of a query.
 fn inputs_of(alloc: Global, query: &str) -> Result<HeldInputs, Fail> {
     let mut files = List::new(alloc);
-    let query = padded(alloc, 0, query)?;
-    files.push((Text::from_str(alloc, "q")?, query))?;
-    let text = padded(alloc, 0, SCHEMA)?;
-    files.push((Text::from_str(alloc, "org")?, text))?;
-    let text = padded(alloc, 0, CONTACTS)?;
-    files.push((Text::from_str(alloc, "data/contacts.csv")?, text))?;
-    let text = padded(alloc, 0, DEPARTMENTS)?;
-    files.push((Text::from_str(alloc, "data/departments.csv")?, text))?;
-    let text = padded(alloc, 0, EMPLOYEES)?;
-    files.push((Text::from_str(alloc, "data/employees.csv")?, text))?;
-    let text = padded(alloc, 0, TASKS)?;
-    files.push((Text::from_str(alloc, "data/tasks.csv")?, text))?;
-    Ok(HeldInputs::new(alloc, files, List::new(alloc))?)
+    put(alloc, &mut files, "q", query.as_bytes())?;
+    put(alloc, &mut files, "org", SCHEMA.as_bytes())?;
+    put(alloc, &mut files, "data/contacts.csv", CONTACTS.as_bytes())?;
+    put(
+        alloc,
+        &mut files,
+        "data/departments.csv",
+        DEPARTMENTS.as_bytes(),
+    )?;
+    put(
+        alloc,
+        &mut files,
+        "data/employees.csv",
+        EMPLOYEES.as_bytes(),
+    )?;
+    put(alloc, &mut files, "data/tasks.csv", TASKS.as_bytes())?;
+    held(alloc, files, &[])
 }
 
 #[test]

@@ -1,7 +1,7 @@
 // Whole runs of nested queries, over each server.
-use crate::runs::{Engine, Wanted, check_run, padded};
+use crate::runs::{Engine, Wanted, check_run, held, put};
 use nq_edge::HeldInputs;
-use nq_model::{List, Text};
+use nq_model::List;
 use std::alloc::Global;
 use std::process::Abort;
 use std::test::Fail;
@@ -156,19 +156,23 @@ pub fn inputs_of(alloc: Global, nested: &Nested) -> Result<HeldInputs, Fail> {
 /// The inputs of a query, of which the fetches with these numbers fail.
 pub fn inputs_failing(alloc: Global, nested: &Nested, failing: &[u64]) -> Result<HeldInputs, Fail> {
     let mut files = List::new(alloc);
-    files.push((Text::from_str(alloc, "org")?, padded(alloc, 0, ORG)?))?;
-    let query = padded(alloc, 0, nested.query)?;
-    files.push((Text::from_str(alloc, "q")?, query))?;
-    let departments = padded(alloc, 0, nested.departments)?;
-    files.push((Text::from_str(alloc, "data/departments.csv")?, departments))?;
-    let employees = padded(alloc, 0, nested.employees)?;
-    files.push((Text::from_str(alloc, "data/employees.csv")?, employees))?;
-    let tasks = padded(alloc, 0, nested.tasks)?;
-    files.push((Text::from_str(alloc, "data/tasks.csv")?, tasks))?;
-    let contacts = padded(alloc, 0, CONTACTS)?;
-    files.push((Text::from_str(alloc, "data/contacts.csv")?, contacts))?;
-    let failing = List::from_slice(alloc, failing)?;
-    Ok(HeldInputs::new(alloc, files, failing)?)
+    put(alloc, &mut files, "org", ORG.as_bytes())?;
+    put(alloc, &mut files, "q", nested.query.as_bytes())?;
+    put(
+        alloc,
+        &mut files,
+        "data/departments.csv",
+        nested.departments.as_bytes(),
+    )?;
+    put(
+        alloc,
+        &mut files,
+        "data/employees.csv",
+        nested.employees.as_bytes(),
+    )?;
+    put(alloc, &mut files, "data/tasks.csv", nested.tasks.as_bytes())?;
+    put(alloc, &mut files, "data/contacts.csv", CONTACTS.as_bytes())?;
+    held(alloc, files, failing)
 }
 
 // What is wanted of a run of it.

@@ -1,7 +1,7 @@
 // Whole runs that read and type queries.
-use crate::runs::{Engine, Wanted, check_run, padded};
+use crate::runs::{Engine, Wanted, check_run, held, padded, put};
 use nq_edge::HeldInputs;
-use nq_model::{List, Text};
+use nq_model::List;
 use std::alloc::Global;
 use std::process::Abort;
 use std::test::Fail;
@@ -336,19 +336,24 @@ const ROWS: [Row; 43] = [
 
 /// The inputs of a row, whose query is this text.
 pub fn inputs_of(alloc: Global, row: &Row, query: List<u8>) -> Result<HeldInputs, Fail> {
-    let failing = List::from_slice(alloc, row.failing)?;
     let mut files = List::new(alloc);
-    files.push((Text::from_str(alloc, "org")?, padded(alloc, 0, ORG)?))?;
-    files.push((Text::from_str(alloc, "q")?, query))?;
-    let departments = padded(alloc, 0, DEPARTMENTS)?;
-    files.push((Text::from_str(alloc, "data/departments.csv")?, departments))?;
-    let employees = padded(alloc, 0, EMPLOYEES)?;
-    files.push((Text::from_str(alloc, "data/employees.csv")?, employees))?;
-    let tasks = padded(alloc, 0, TASKS)?;
-    files.push((Text::from_str(alloc, "data/tasks.csv")?, tasks))?;
-    let contacts = padded(alloc, 0, CONTACTS)?;
-    files.push((Text::from_str(alloc, "data/contacts.csv")?, contacts))?;
-    Ok(HeldInputs::new(alloc, files, failing)?)
+    put(alloc, &mut files, "org", ORG.as_bytes())?;
+    put(alloc, &mut files, "q", query.as_slice())?;
+    put(
+        alloc,
+        &mut files,
+        "data/departments.csv",
+        DEPARTMENTS.as_bytes(),
+    )?;
+    put(
+        alloc,
+        &mut files,
+        "data/employees.csv",
+        EMPLOYEES.as_bytes(),
+    )?;
+    put(alloc, &mut files, "data/tasks.csv", TASKS.as_bytes())?;
+    put(alloc, &mut files, "data/contacts.csv", CONTACTS.as_bytes())?;
+    held(alloc, files, row.failing)
 }
 
 /// Runs a row, whose query is this text.
@@ -385,6 +390,12 @@ fn runs_each_row(rt: HostRuntime) -> Result<(), Fail> {
     for row in &ROWS {
         run_row(&rt, alloc, row, padded(alloc, 0, row.query)?)?;
     }
+    Ok(())
+}
+
+#[test]
+fn runs_up_to_the_limits(rt: HostRuntime) -> Result<(), Fail> {
+    let alloc = rt.alloc();
     // The greatest depth is 200, and a number has depth 1.
     run_row(&rt, alloc, &CHECK, brackets(alloc, "", 199, "1")?)?;
     let deep = Row {

@@ -1,9 +1,10 @@
 // Whole runs over inputs and outputs in memory, and what is wanted of them.
-ghost use Rattle.std.specs.Prelude.{◌≡◌, [], IfOk};
+ghost use Rattle.std.specs.Prelude.{◌≡◌, ◌++◌, ◌∷◌, [], IfOk, OnOk, map};
+ghost use Rattle.nq_model.specs.Orders.{AreDistinct};
 
 use fast_engine::FastServer;
 use nq_edge::{HeldInputs, HeldSink};
-use nq_model::List;
+use nq_model::{List, Text};
 use nq_top::{nq_lent, nq_main};
 use plain_engine::{CrookedServer, PlainServer};
 use sql_profile::SqlServer;
@@ -31,6 +32,33 @@ pub fn padded(alloc: Global, blanks: usize, text: &str) -> Result<List<u8>, Fail
         bytes.push(*byte)?;
     }
     Ok(bytes)
+}
+
+/// Puts a text under its name behind the inputs so far.
+pub fn put(
+    alloc: Global,
+    files: &mut List<(Text, List<u8>)>,
+    name: &str,
+    text: &[u8],
+) -> Result<(), Fail>
+    ensures { OnOk result (map (λ file. file.0) files.new ≡ map (λ file. file.0) files.old ++ name.now ∷ []) }
+{
+    let name = Text::from_str(alloc, name)?;
+    let text = List::from_slice(alloc, text)?;
+    files.push((name, text))?;
+    Ok(())
+}
+
+/// Inputs that are these texts, of which the fetches with these numbers fail.
+pub fn held(
+    alloc: Global,
+    files: List<(Text, List<u8>)>,
+    failing: &[u64],
+) -> Result<HeldInputs, Fail>
+    requires { AreDistinct (map (λ file. file.0) files) }
+{
+    let failing = List::from_slice(alloc, failing)?;
+    Ok(HeldInputs::new(alloc, files, failing)?)
 }
 
 // The words of a run.

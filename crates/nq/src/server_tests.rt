@@ -78,18 +78,12 @@ const DEPARTMENTS: Nested = Nested {
     ..WHOLE
 };
 
-// A cell of an answer.
-#[derive(Clone, Copy)]
-enum Given {
-    Int(i64),
-    Text(&'static str),
-}
-
-// A query and the answers of a script, each of rows of cells; and the status, the output and the note that are wanted.
+// A query and the answers of a script, each of rows, whose cells are words: a word that is no number is a text. And the
+// status, the output and the note that are wanted.
 #[derive(Clone, Copy)]
 struct Script {
     query: Nested,
-    answers: &'static [&'static [&'static [Given]]],
+    answers: &'static [&'static [&'static str]],
     status: u8,
     out: &'static str,
     note: &'static str,
@@ -97,7 +91,7 @@ struct Script {
 
 const MOON: Script = Script {
     query: DEPARTMENTS,
-    answers: &[&[&[Given::Int(0), Given::Int(1), Given::Text("Moon")]]],
+    answers: &[&["0 1 Moon"]],
     status: 0,
     out: "{(name = 'Moon')}\n",
     note: "",
@@ -113,95 +107,56 @@ const SCRIPTS: [Script; 7] = [
     MOON,
     // A row under an index that no row gives is not used.
     Script {
-        answers: &[&[
-            &[Given::Int(0), Given::Int(1), Given::Text("Moon")],
-            &[Given::Int(9), Given::Int(9), Given::Text("Sun")],
-        ]],
+        answers: &[&["0 1 Moon", "9 9 Sun"]],
         ..MOON
     },
     // Rows under one index belong to each row that gives it.
     Script {
         query: TWICE,
-        answers: &[
-            &[
-                &[
-                    Given::Int(0),
-                    Given::Int(1),
-                    Given::Text("P"),
-                    Given::Int(1),
-                    Given::Int(1),
-                ],
-                &[
-                    Given::Int(0),
-                    Given::Int(1),
-                    Given::Text("Q"),
-                    Given::Int(1),
-                    Given::Int(1),
-                ],
-            ],
-            &[
-                &[Given::Int(1), Given::Int(1), Given::Text("Alex")],
-                &[Given::Int(1), Given::Int(3), Given::Text("Bert")],
-            ],
-        ],
+        answers: &[&["0 1 P 1 1", "0 1 Q 1 1"], &["1 1 Alex", "1 3 Bert"]],
         out: "{(d = 'P', es = {'Alex'}), (d = 'Q', es = {'Alex'})}\n",
         ..MOON
     },
     Script {
-        answers: &[&[&[Given::Int(0), Given::Int(1), Given::Int(5)]]],
+        answers: &[&["0 1 5"]],
         note: "nq: bad answer: text 1 row 1 column 3\n",
         ..MISFIT
     },
     Script {
-        answers: &[&[&[
-            Given::Int(0),
-            Given::Int(1),
-            Given::Text("a"),
-            Given::Int(7),
-        ]]],
+        answers: &[&["0 1 a 7"]],
         note: "nq: bad answer: text 1 row 1 column 4\n",
         ..MISFIT
     },
     Script {
         query: TWICE,
-        answers: &[
-            &[&[
-                Given::Int(0),
-                Given::Int(1),
-                Given::Text("P"),
-                Given::Int(1),
-                Given::Int(1),
-            ]],
-            &[&[Given::Int(1), Given::Int(1)]],
-        ],
+        answers: &[&["0 1 P 1 1"], &["1 1"]],
         note: "nq: bad answer: text 2 row 1 column 3\n",
         ..MISFIT
     },
     Script {
         query: TWICE,
-        answers: &[&[&[
-            Given::Int(0),
-            Given::Int(1),
-            Given::Text("P"),
-            Given::Int(1),
-            Given::Int(1),
-        ]]],
+        answers: &[&["0 1 P 1 1"]],
         status: 9,
         note: "nq: server failed: text 2\n",
         ..MISFIT
     },
 ];
 
+// The cell that a word is.
+fn cell(alloc: Global, word: &str) -> Result<Cell, Fail> {
+    match word.parse::<i64>() {
+        Ok(number) => Ok(Cell::Int(number)),
+        Err(_) => Ok(Cell::Text(Text::from_str(alloc, word)?)),
+    }
+}
+
 // An answer of these rows.
-fn answer(alloc: Global, given: &[&[Given]]) -> Result<Answer, Fail> {
+fn answer(alloc: Global, given: &[&str]) -> Result<Answer, Fail> {
     let mut rows = Rows::new(alloc);
-    for cells in given {
+    for words in given {
         let mut row = List::new(alloc);
-        for cell in *cells {
-            row.push(match cell {
-                Given::Int(number) => Cell::Int(*number),
-                Given::Text(text) => Cell::Text(Text::from_str(alloc, text)?),
-            })?;
+        for word in words.split(' ') {
+            row.push(cell(alloc, word)?)?;
         }
         rows.push(row.as_slice())?;
     }

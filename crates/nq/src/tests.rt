@@ -1,5 +1,5 @@
 // Whole runs over inputs and outputs in memory.
-use crate::runs::{Engine, Wanted, check_run, padded};
+use crate::runs::{Engine, Wanted, check_run, held, padded, put};
 use nq_edge::HeldInputs;
 use nq_model::{List, Text};
 use std::alloc::Global;
@@ -7,13 +7,14 @@ use std::process::Abort;
 use std::test::Fail;
 
 // The words, the texts of the schema, the query, `data/departments.csv` and `data/t.csv`, the numbers of
-// the calls that fail and the room of the output; and the status, the output and the note that are wanted.
+// the calls that fail and the room of the output; and the status, the output and the note that are wanted. There is no
+// file of departments where its text is empty.
 #[derive(Clone, Copy)]
 struct Case {
     words: &'static [&'static str],
     schema: &'static str,
     query: &'static str,
-    departments: Option<&'static str>,
+    departments: &'static str,
     t: &'static str,
     failing: &'static [u64],
     room: u64,
@@ -30,7 +31,7 @@ const ONE: Case = Case {
     words: RUN,
     schema: DEPARTMENTS,
     query: "table departments",
-    departments: Some("name\nSales\nProduct\nProduct\n"),
+    departments: "name\nSales\nProduct\nProduct\n",
     t: "b,a\n2,x\n-1,y\n",
     failing: &[],
     room: 200,
@@ -60,14 +61,14 @@ const CASES: [Case; 18] = [
         ..ONE
     },
     Case {
-        departments: None,
+        departments: "",
         status: 7,
         out: "",
         note: "nq: input failed: data/departments.csv\n",
         ..ONE
     },
     Case {
-        departments: Some("name\n"),
+        departments: "name\n",
         out: "{}\n",
         ..ONE
     },
@@ -100,7 +101,7 @@ const CASES: [Case; 18] = [
         ..ONE
     },
     Case {
-        departments: Some("name\nSales,2\n"),
+        departments: "name\nSales,2\n",
         status: 6,
         out: "",
         note: "nq: table departments refused: Width row 1\n",
@@ -120,12 +121,12 @@ const CASES: [Case; 18] = [
     },
     // Rows that begin alike, and numbers on both sides of 0.
     Case {
-        departments: Some("name\ndepartment 3\ndepartment 10\ndepartment\ndepartment 1\n"),
+        departments: "name\ndepartment 3\ndepartment 10\ndepartment\ndepartment 1\n",
         out: "{(name = 'department'), (name = 'department 1'), (name = 'department 10'), (name = 'department 3')}\n",
         ..ONE
     },
     Case {
-        departments: Some("name\nz\n\u{e9}\na\0\ndep\na\ndepartment\n"),
+        departments: "name\nz\n\u{e9}\na\0\ndep\na\ndepartment\n",
         out: "{(name = 'a'), (name = 'a\0'), (name = 'dep'), (name = 'department'), (name = 'z'), (name = '\u{e9}')}\n",
         ..ONE
     },
@@ -160,22 +161,18 @@ fn inputs_of(
     before_query: usize,
     before_t: usize,
 ) -> Result<HeldInputs, Fail> {
-    let org = padded(alloc, 0, case.schema)?;
     let query = padded(alloc, before_query, case.query)?;
     let t = padded(alloc, before_t, case.t)?;
-    let failing = List::from_slice(alloc, case.failing)?;
     let mut files = List::new(alloc);
-    files.push((Text::from_str(alloc, "org")?, org))?;
-    files.push((Text::from_str(alloc, "q")?, query))?;
-    files.push((Text::from_str(alloc, "data/t.csv")?, t))?;
-    match case.departments {
-        Some(rows) => {
-            let rows = padded(alloc, 0, rows)?;
-            files.push((Text::from_str(alloc, "data/departments.csv")?, rows))?;
-            Ok(HeldInputs::new(alloc, files, failing)?)
-        }
-        None => Ok(HeldInputs::new(alloc, files, failing)?),
+    put(alloc, &mut files, "org", case.schema.as_bytes())?;
+    put(alloc, &mut files, "q", query.as_slice())?;
+    put(alloc, &mut files, "data/t.csv", t.as_slice())?;
+    if case.departments.is_empty() {
+        return held(alloc, files, case.failing);
     }
+    let departments = case.departments.as_bytes();
+    put(alloc, &mut files, "data/departments.csv", departments)?;
+    held(alloc, files, case.failing)
 }
 
 // Runs a case with so many spaces before its query and before the text of `t`.
@@ -329,22 +326,25 @@ const REFUSALS: [Refusal; 11] = [
 
 // The texts of a refusal as inputs.
 fn texts_of(alloc: Global, case: &Refusal) -> Result<HeldInputs, Fail> {
-    let schema = List::from_slice(alloc, case.schema.as_bytes())?;
-    let query = List::from_slice(alloc, case.query.as_bytes())?;
-    let employees = List::from_slice(alloc, case.employees.as_bytes())?;
-    let contacts = List::from_slice(alloc, case.contacts.as_bytes())?;
-    let departments = List::from_slice(alloc, b"name\nSales\n")?;
-    let tasks = List::from_slice(alloc, b"employee,task\n")?;
-    let t = List::from_slice(alloc, b"a,b\n1,x\n2,y\n1,z\n")?;
     let mut files = List::new(alloc);
-    files.push((Text::from_str(alloc, "org")?, schema))?;
-    files.push((Text::from_str(alloc, "q")?, query))?;
-    files.push((Text::from_str(alloc, "data/departments.csv")?, departments))?;
-    files.push((Text::from_str(alloc, "data/employees.csv")?, employees))?;
-    files.push((Text::from_str(alloc, "data/tasks.csv")?, tasks))?;
-    files.push((Text::from_str(alloc, "data/t.csv")?, t))?;
-    files.push((Text::from_str(alloc, "data/contacts.csv")?, contacts))?;
-    Ok(HeldInputs::new(alloc, files, List::new(alloc))?)
+    put(alloc, &mut files, "org", case.schema.as_bytes())?;
+    put(alloc, &mut files, "q", case.query.as_bytes())?;
+    put(alloc, &mut files, "data/departments.csv", b"name\nSales\n")?;
+    put(
+        alloc,
+        &mut files,
+        "data/employees.csv",
+        case.employees.as_bytes(),
+    )?;
+    put(alloc, &mut files, "data/tasks.csv", b"employee,task\n")?;
+    put(alloc, &mut files, "data/t.csv", b"a,b\n1,x\n2,y\n1,z\n")?;
+    put(
+        alloc,
+        &mut files,
+        "data/contacts.csv",
+        case.contacts.as_bytes(),
+    )?;
+    held(alloc, files, &[])
 }
 
 // Runs the texts of a refusal.
