@@ -12,15 +12,8 @@ pub enum Shape {
     Bag(&'static Shape),
 }
 
-/// A cell.
-#[derive(Clone, Copy)]
-pub enum Given {
-    Int(i64),
-    Text(&'static str),
-}
-
-/// The rows of an answer.
-pub type Listed = &'static [&'static [Given]];
+/// The rows of an answer. Their cells are words, and a word that is no number is a text.
+pub type Listed = &'static [&'static str];
 
 /// The type.
 #[cycle(types)]
@@ -42,19 +35,19 @@ fn fields_of(alloc: Global, fields: &[(&'static str, Shape)]) -> Result<List<(La
     Ok(made)
 }
 
-fn cell_of(alloc: Global, given: Given) -> Result<Cell, Memory> {
-    match given {
-        Given::Int(number) => Ok(Cell::Int(number)),
-        Given::Text(word) => Ok(Cell::Text(Text::from_str(alloc, word)?)),
+fn cell_of(alloc: Global, word: &str) -> Result<Cell, Memory> {
+    match word.parse::<i64>() {
+        Ok(number) => Ok(Cell::Int(number)),
+        Err(_) => Ok(Cell::Text(Text::from_str(alloc, word)?)),
     }
 }
 
-fn answer_of(alloc: Global, listed: &[&[Given]]) -> Result<Answer, Memory> {
+fn answer_of(alloc: Global, listed: &[&str]) -> Result<Answer, Memory> {
     let mut rows = Rows::new(alloc);
-    for given in listed {
+    for words in listed {
         let mut row = List::new(alloc);
-        for cell in *given {
-            row.push(cell_of(alloc, *cell)?)?;
+        for word in words.split(' ') {
+            row.push(cell_of(alloc, word)?)?;
         }
         rows.push(row.as_slice())?;
     }

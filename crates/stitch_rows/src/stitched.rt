@@ -1,6 +1,5 @@
 // Answers, each with the canonical text of the value that they are stitched to.
-use crate::given::Given::{Int, Text};
-use crate::given::{Given, Listed, Shape, answers_of, type_of};
+use crate::given::{Listed, Shape, answers_of, type_of};
 use canon::{sort_deep, write};
 use nq_model::{CellRef, List, Memory, Ty, Value, boxed};
 use rows::Rows;
@@ -47,22 +46,13 @@ const CASES: [Case; 12] = [
         element: &ORGANISATION,
         answers: &[
             &[
-                &[Int(0), Int(1), Text("Product"), Int(1), Int(1)],
-                &[Int(0), Int(1), Text("Quality"), Int(1), Int(2)],
-                &[Int(0), Int(1), Text("Research"), Int(1), Int(3)],
-                &[Int(0), Int(1), Text("Sales"), Int(1), Int(4)],
+                "0 1 Product 1 1",
+                "0 1 Quality 1 2",
+                "0 1 Research 1 3",
+                "0 1 Sales 1 4",
             ],
-            &[
-                &[Int(1), Int(1), Text("Alex"), Int(2), Int(1)],
-                &[Int(1), Int(1), Text("Bert"), Int(2), Int(2)],
-                &[Int(1), Int(4), Text("Erik"), Int(2), Int(3)],
-            ],
-            &[
-                &[Int(2), Int(1), Text("build")],
-                &[Int(2), Int(2), Text("build")],
-                &[Int(2), Int(3), Text("call")],
-                &[Int(2), Int(3), Text("enthuse")],
-            ],
+            &["1 1 Alex 2 1", "1 1 Bert 2 2", "1 4 Erik 2 3"],
+            &["2 1 build", "2 2 build", "2 3 call", "2 3 enthuse"],
         ],
         text: FOUR,
     },
@@ -71,176 +61,95 @@ const CASES: [Case; 12] = [
         element: &ORGANISATION,
         answers: &[
             &[
-                &[Int(0), Int(1), Text("Sales"), Int(1), Int(1)],
-                &[Int(0), Int(1), Text("Research"), Int(1), Int(2)],
-                &[Int(0), Int(1), Text("Quality"), Int(1), Int(3)],
-                &[Int(0), Int(1), Text("Product"), Int(1), Int(4)],
+                "0 1 Sales 1 1",
+                "0 1 Research 1 2",
+                "0 1 Quality 1 3",
+                "0 1 Product 1 4",
             ],
-            &[
-                &[Int(1), Int(4), Text("Bert"), Int(2), Int(1)],
-                &[Int(1), Int(1), Text("Erik"), Int(2), Int(2)],
-                &[Int(1), Int(4), Text("Alex"), Int(2), Int(3)],
-            ],
-            &[
-                &[Int(2), Int(2), Text("enthuse")],
-                &[Int(2), Int(3), Text("build")],
-                &[Int(2), Int(2), Text("call")],
-                &[Int(2), Int(1), Text("build")],
-            ],
+            &["1 4 Bert 2 1", "1 1 Erik 2 2", "1 4 Alex 2 3"],
+            &["2 2 enthuse", "2 3 build", "2 2 call", "2 1 build"],
         ],
         text: FOUR,
     },
     // Parents with one number, told apart by their tags.
     Case {
         element: &NAMED,
-        answers: &[
-            &[
-                &[Int(0), Int(1), Int(1), Int(1), Text("a")],
-                &[Int(0), Int(1), Int(3), Int(1), Text("b")],
-            ],
-            &[&[Int(1), Int(1), Text("Erik")]],
-        ],
+        answers: &[&["0 1 1 1 a", "0 1 3 1 b"], &["1 1 Erik"]],
         text: "{(b = {}, n = 'b'), (b = {'Erik'}, n = 'a')}\n",
     },
     Case {
         element: &NAMED,
-        answers: &[
-            &[
-                &[Int(0), Int(1), Int(3), Int(2), Text("b")],
-                &[Int(0), Int(1), Int(1), Int(2), Text("a")],
-            ],
-            &[&[Int(1), Int(2), Text("Erik")]],
-        ],
+        answers: &[&["0 1 3 2 b", "0 1 1 2 a"], &["1 2 Erik"]],
         text: "{(b = {}, n = 'b'), (b = {'Erik'}, n = 'a')}\n",
     },
     // Ties, numbered in two ways.
     Case {
         element: &STAFF,
         answers: &[
-            &[
-                &[Int(0), Int(1), Text("Product"), Int(1), Int(1)],
-                &[Int(0), Int(1), Text("Product"), Int(1), Int(2)],
-            ],
-            &[
-                &[Int(1), Int(1), Text("Alex")],
-                &[Int(1), Int(2), Text("Alex")],
-                &[Int(1), Int(1), Text("Bert")],
-                &[Int(1), Int(2), Text("Bert")],
-            ],
+            &["0 1 Product 1 1", "0 1 Product 1 2"],
+            &["1 1 Alex", "1 2 Alex", "1 1 Bert", "1 2 Bert"],
         ],
         text: TWICE,
     },
     Case {
         element: &STAFF,
         answers: &[
-            &[
-                &[Int(0), Int(1), Text("Product"), Int(1), Int(2)],
-                &[Int(0), Int(1), Text("Product"), Int(1), Int(1)],
-            ],
-            &[
-                &[Int(1), Int(2), Text("Bert")],
-                &[Int(1), Int(2), Text("Alex")],
-                &[Int(1), Int(1), Text("Bert")],
-                &[Int(1), Int(1), Text("Alex")],
-            ],
+            &["0 1 Product 1 2", "0 1 Product 1 1"],
+            &["1 2 Bert", "1 2 Alex", "1 1 Bert", "1 1 Alex"],
         ],
         text: TWICE,
     },
     Case {
         element: &ORGANISATION,
         answers: &[
+            &["0 1 Product 1 1", "0 1 Product 1 2"],
             &[
-                &[Int(0), Int(1), Text("Product"), Int(1), Int(1)],
-                &[Int(0), Int(1), Text("Product"), Int(1), Int(2)],
+                "1 1 Alex 2 1",
+                "1 2 Alex 2 2",
+                "1 1 Bert 2 3",
+                "1 2 Bert 2 4",
             ],
-            &[
-                &[Int(1), Int(1), Text("Alex"), Int(2), Int(1)],
-                &[Int(1), Int(2), Text("Alex"), Int(2), Int(2)],
-                &[Int(1), Int(1), Text("Bert"), Int(2), Int(3)],
-                &[Int(1), Int(2), Text("Bert"), Int(2), Int(4)],
-            ],
-            &[
-                &[Int(2), Int(1), Text("build")],
-                &[Int(2), Int(2), Text("build")],
-                &[Int(2), Int(3), Text("call")],
-                &[Int(2), Int(4), Text("call")],
-            ],
+            &["2 1 build", "2 2 build", "2 3 call", "2 4 call"],
         ],
         text: TWO_TASKS,
     },
     Case {
         element: &ORGANISATION,
         answers: &[
+            &["0 1 Product 1 2", "0 1 Product 1 1"],
             &[
-                &[Int(0), Int(1), Text("Product"), Int(1), Int(2)],
-                &[Int(0), Int(1), Text("Product"), Int(1), Int(1)],
+                "1 2 Bert 2 4",
+                "1 1 Bert 2 3",
+                "1 2 Alex 2 1",
+                "1 1 Alex 2 2",
             ],
-            &[
-                &[Int(1), Int(2), Text("Bert"), Int(2), Int(4)],
-                &[Int(1), Int(1), Text("Bert"), Int(2), Int(3)],
-                &[Int(1), Int(2), Text("Alex"), Int(2), Int(1)],
-                &[Int(1), Int(1), Text("Alex"), Int(2), Int(2)],
-            ],
-            &[
-                &[Int(2), Int(4), Text("call")],
-                &[Int(2), Int(3), Text("call")],
-                &[Int(2), Int(2), Text("build")],
-                &[Int(2), Int(1), Text("build")],
-            ],
+            &["2 4 call", "2 3 call", "2 2 build", "2 1 build"],
         ],
         text: TWO_TASKS,
     },
     // Parents that share an index, and a row under an index that none has.
     Case {
         element: &STAFF,
-        answers: &[
-            &[
-                &[Int(0), Int(1), Text("P"), Int(1), Int(1)],
-                &[Int(0), Int(1), Text("Q"), Int(1), Int(1)],
-            ],
-            &[
-                &[Int(1), Int(1), Text("Alex")],
-                &[Int(1), Int(3), Text("Bert")],
-            ],
-        ],
+        answers: &[&["0 1 P 1 1", "0 1 Q 1 1"], &["1 1 Alex", "1 3 Bert"]],
         text: "{(d = 'P', es = {'Alex'}), (d = 'Q', es = {'Alex'})}\n",
     },
     // A row that does not stand in the whole value.
     Case {
         element: &Shape::Rec(&[("name", Shape::Text)]),
-        answers: &[&[
-            &[Int(0), Int(1), Text("Moon")],
-            &[Int(9), Int(9), Text("Sun")],
-        ]],
+        answers: &[&["0 1 Moon", "9 9 Sun"]],
         text: "{(name = 'Moon')}\n",
     },
     Case {
         element: &Shape::Rec(&[]),
-        answers: &[&[
-            &[Int(0), Int(1)],
-            &[Int(0), Int(1)],
-            &[Int(1), Int(1)],
-            &[Int(0), Int(1)],
-        ]],
+        answers: &[&["0 1", "0 1", "1 1", "0 1"]],
         text: "{(), (), ()}\n",
     },
     Case {
         element: &BAGS,
         answers: &[
-            &[
-                &[Int(0), Int(1), Int(1), Int(2)],
-                &[Int(0), Int(1), Int(1), Int(1)],
-            ],
-            &[
-                &[Int(1), Int(1), Int(2), Int(1)],
-                &[Int(1), Int(1), Int(2), Int(2)],
-                &[Int(1), Int(2), Int(2), Int(3)],
-            ],
-            &[
-                &[Int(2), Int(3), Int(8)],
-                &[Int(2), Int(1), Int(7)],
-                &[Int(2), Int(3), Int(8)],
-            ],
+            &["0 1 1 2", "0 1 1 1"],
+            &["1 1 2 1", "1 1 2 2", "1 2 2 3"],
+            &["2 3 8", "2 1 7", "2 3 8"],
         ],
         text: "{{{}, {7}}, {{8, 8}}}\n",
     },
