@@ -1,7 +1,8 @@
-// The cells that fields spell, and the rows that records spell.
-ghost use Rattle.std.specs.Prelude.{◌≡◌, ◌≢◌, ◌↔◌, IsTrue, IfOk, IfErr, MatchOption, true, false, slice_index};
+// The cells that fields spell, and the rows that records spell. Their texts are lent from the records.
+ghost use Rattle.std.specs.Prelude.{◌≡◌, ◌≢◌, ◌↔◌, IsTrue, IfOk, IfErr, MatchOption, true, false, map, slice_index};
 ghost use Rattle.std.specs.Str.{is_utf8};
 ghost use Rattle.csv.specs.Records.{fields_of};
+ghost use Rattle.nq_model.specs.CellRefs.{cell_seen};
 ghost use Rattle.nq_model.specs.Tables.{types_of};
 ghost use Rattle.table_reader.specs.Spelling.{int_of, bool_of, cell_at, row_at};
 ghost use Rattle.table_reader.specs.declared.TableFault.TheVariants as fault;
@@ -9,7 +10,7 @@ ghost use Rattle.table_reader.specs.declared.TableFault.TheVariants as fault;
 use crate::TableFault;
 use crate::records::field_at;
 use csv::ByteRecord;
-use nq_model::{Cell, ColumnType, Label, List, Text};
+use nq_model::{CellRef, ColumnType, Label, Memory};
 use std::alloc::Global;
 use std::str;
 
@@ -55,14 +56,13 @@ fn bool_of(text: &str) -> Option<bool>
 
 // The cell that the field at a row and a column spells.
 #[tactic(auto, unfolding(crate::specs::Spelling::cell_at))]
-fn read_cell(
-    alloc: Global,
+fn read_cell<'f>(
     row: u64,
     column: u64,
     column_type: ColumnType,
-    field: &[u8],
-) -> Result<Cell, TableFault>
-    ensures ok { IfOk result (λ cell. cell_at row column column_type field.now ≡ Ok cell) }
+    field: &'f [u8],
+) -> Result<CellRef<'f>, TableFault>
+    ensures ok { IfOk result (λ cell. cell_at row column column_type field.now ≡ Ok (cell_seen cell)) }
     ensures err { IfErr result (λ e. e ≢ fault.Memory → cell_at row column column_type field.now ≡ Err e) }
 {
     let Some(text) = utf8_of(field) else {
@@ -70,35 +70,36 @@ fn read_cell(
     };
     match column_type {
         ColumnType::Int => match int_of(text) {
-            Some(number) => Ok(Cell::Int(number)),
+            Some(number) => Ok(CellRef::Int(number)),
             None => Err(TableFault::BadInt { row, column }),
         },
         ColumnType::Bool => match bool_of(text) {
-            Some(truth) => Ok(Cell::Bool(truth)),
+            Some(truth) => Ok(CellRef::Bool(truth)),
             None => Err(TableFault::BadBool { row, column }),
         },
-        ColumnType::Text => Ok(Cell::Text(Text::from_str(alloc, text)?)),
+        ColumnType::Text => Ok(CellRef::Text(text)),
     }
 }
 
 // The row that a record spells.
 #[tactic(auto, unfolding(crate::specs::Spelling::row_at))]
-pub(crate) fn read_row(
+pub(crate) fn read_row<'f>(
     alloc: Global,
     columns: &[(Label, ColumnType)],
-    fields: &ByteRecord,
+    fields: &'f ByteRecord,
     row: u64,
-) -> Result<List<Cell>, TableFault>
-    ensures ok { IfOk result (λ cells. row_at row (types_of columns.now) (fields_of fields.now) ≡ Ok cells) }
+) -> Result<Vec<CellRef<'f>>, TableFault>
+    ensures ok { IfOk result (λ cells. row_at row (types_of columns.now) (fields_of fields.now) ≡ Ok (map cell_seen cells.items)) }
     ensures err { IfErr result (λ e. e ≢ fault.Memory → row_at row (types_of columns.now) (fields_of fields.now) ≡ Err e) }
 {
     if fields.len() != columns.len() {
         return Err(TableFault::Width { row });
     }
-    let mut cells = List::with_capacity(alloc, columns.len())?;
+    let mut cells = Vec::with_capacity(alloc, columns.len()).map_err(|_| Memory)?;
     for (at, column) in columns.iter().enumerate() {
         let field = field_at(fields, at);
-        cells.push(read_cell(alloc, row, at as u64 + 1, column.1, field)?)?;
+        let cell = read_cell(row, at as u64 + 1, column.1, field)?;
+        cells.push(cell).map_err(|_| Memory)?;
     }
     Ok(cells)
 }

@@ -2,9 +2,10 @@
 // a polynomial over what the cells hold, modulo 2^32. The last number enters it unscaled, so keys that
 // follow one another mostly have neighbouring codes, and an ordered table fills the index in order.
 ghost use Rattle.std.specs.Prelude.{◌≡◌};
+ghost use Rattle.nq_model.specs.CellRefs.{cell_seen};
 ghost use Rattle.table_reader.specs.Codes.{cell_code, code_with, int_code, text_code};
 
-use nq_model::Cell;
+use nq_model::CellRef;
 
 // 2^32 divided by the golden ratio, Knuth's multiplier for hashes: its multiples spread evenly, so that
 // small differences in several cells do not cancel.
@@ -40,12 +41,12 @@ fn text_code(code: u32, text: &str) -> u32
 }
 
 // The code of a key with one more cell, from the code of the cells before it.
-pub(crate) fn cell_code(code: u32, cell: &Cell) -> u32
-    ensures { result ≡ cell_code code cell.now }
+pub(crate) fn cell_code(code: u32, cell: &CellRef<'_>) -> u32
+    ensures { result ≡ cell_code code (cell_seen cell.now) }
 {
     match cell {
-        Cell::Int(number) => int_code(code, *number),
-        Cell::Bool(truth) => code_with(code, u32::from(*truth)),
-        Cell::Text(text) => text_code(code, text.as_str()),
+        CellRef::Int(number) => int_code(code, *number),
+        CellRef::Bool(truth) => code_with(code, u32::from(*truth)),
+        CellRef::Text(text) => text_code(code, text),
     }
 }

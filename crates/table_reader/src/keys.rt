@@ -1,6 +1,7 @@
 // Keys, and the first row of each.
-ghost use Rattle.std.specs.Prelude.{◌≡◌, ◌+◌, [], map, IfOk, option_copied};
+ghost use Rattle.std.specs.Prelude.{◌≡◌, ◌+◌, [], map, IfOk, option_copied, option_map, slice_index_or};
 ghost use Rattle.std.specs.Option.{unwrap_or};
+ghost use Rattle.nq_model.specs.CellRefs.{cell_seen};
 ghost use Rattle.nq_model.specs.NamedRows.{no_cell};
 ghost use Rattle.nq_model.specs.declared.table.TableShape.{TableShape};
 ghost use Rattle.table_reader.specs.Codes.{cell_code, key_code};
@@ -8,7 +9,7 @@ ghost use Rattle.table_reader.specs.FirstRows.{cell_at, cell_of_key, cells_at, k
 
 use crate::code_map::{CodeMap, slots_for};
 use crate::codes::cell_code;
-use nq_model::{Cell, ColumnType, Label, List, Memory, TableShape};
+use nq_model::{CellRef, ColumnType, Label, Memory, TableShape};
 use rows::Rows;
 use std::alloc::Global;
 use std::collections::BTreeMap;
@@ -37,16 +38,16 @@ fn column_named(columns: &[(Label, ColumnType)], name: &str) -> Option<usize>
 }
 
 // A cell of a key, where that of a row is this one. A column that is not there counts as FALSE.
-fn key_cell(alloc: Global, cell: Option<&Cell>) -> Result<KeyCell, Memory>
-    ensures { IfOk result (λ key. cell_of_key key ≡ unwrap_or (option_copied cell.entry) no_cell) }
+fn key_cell(alloc: Global, cell: Option<&CellRef<'_>>) -> Result<KeyCell, Memory>
+    ensures { IfOk result (λ key. cell_of_key key ≡ unwrap_or (option_map cell_seen (option_copied cell.entry)) no_cell) }
 {
     let Some(cell) = cell else {
         return Ok(KeyCell::Bool(false));
     };
     match cell {
-        Cell::Int(number) => Ok(KeyCell::Int(*number)),
-        Cell::Bool(truth) => Ok(KeyCell::Bool(*truth)),
-        Cell::Text(text) => Ok(KeyCell::Text(String::from_str(alloc, text.as_str())?)),
+        CellRef::Int(number) => Ok(KeyCell::Int(*number)),
+        CellRef::Bool(truth) => Ok(KeyCell::Bool(*truth)),
+        CellRef::Text(text) => Ok(KeyCell::Text(String::from_str(alloc, text)?)),
     }
 }
 
@@ -63,20 +64,31 @@ fn key_places(alloc: Global, shape: &TableShape) -> Result<Vec<Option<usize>>, M
 }
 
 // The code of a key with one more cell, where that of a row is this one.
-fn code_with_cell(code: u32, cell: Option<&Cell>) -> u32
-    ensures { result ≡ cell_code code (unwrap_or (option_copied cell.entry) no_cell) }
+fn code_with_cell(code: u32, cell: Option<&CellRef<'_>>) -> u32
+    ensures { result ≡ cell_code code (unwrap_or (option_map cell_seen (option_copied cell.entry)) no_cell) }
 {
     let Some(cell) = cell else {
-        return cell_code(code, &Cell::Bool(false));
+        return cell_code(code, &CellRef::Bool(false));
     };
     cell_code(code, cell)
 }
 
 // The cell of a row at the place of a column, if there is one.
-fn cell_at(row: &List<Cell>, place: Option<usize>) -> Option<&Cell>
-    ensures { option_copied result ≡ cell_at row.now place }
+fn cell_at<'r, 'f>(row: &'r [CellRef<'f>], place: Option<usize>) -> Option<&'r CellRef<'f>>
+    ensures { option_map cell_seen (option_copied result) ≡ cell_at (map cell_seen row.now) place }
 {
     row.get(place?)
+}
+
+// The cells of a row, lent to be read.
+fn cells_of(alloc: Global, rows: &Rows, row: usize) -> Result<Vec<CellRef<'_>>, Memory>
+    ensures { IfOk result (λ cells. map cell_seen cells.items ≡ slice_index_or rows.now row []) }
+{
+    let mut cells = Vec::with_capacity(alloc, rows.width(row))?;
+    for column in 0..rows.width(row) {
+        cells.push(rows.cell(row, column))?;
+    }
+    Ok(cells)
 }
 
 // The number of a row in messages, where rows are counted from 1.
@@ -107,8 +119,8 @@ impl KeyIndex {
 
     // The code of the key of a row.
     #[tactic(auto, using(crate::proofs::KeyFacts::code_none))]
-    fn code_of(&self, row: &List<Cell>) -> u32
-        ensures { result ≡ key_code (cells_at row.now self.now.columns.items) }
+    fn code_of(&self, row: &[CellRef<'_>]) -> u32
+        ensures { result ≡ key_code (cells_at (map cell_seen row.now) self.now.columns.items) }
     {
         let mut code = 0;
         for place in &self.columns {
@@ -118,8 +130,8 @@ impl KeyIndex {
     }
 
     // The key of a row.
-    fn key_of(&self, alloc: Global, row: &List<Cell>) -> Result<Vec<KeyCell>, Memory>
-        ensures { IfOk result (λ key. map cell_of_key key.items ≡ cells_at row.now self.now.columns.items) }
+    fn key_of(&self, alloc: Global, row: &[CellRef<'_>]) -> Result<Vec<KeyCell>, Memory>
+        ensures { IfOk result (λ key. map cell_of_key key.items ≡ cells_at (map cell_seen row.now) self.now.columns.items) }
     {
         let mut key = Vec::with_capacity(alloc, self.columns.len())?;
         for place in &self.columns {
@@ -134,10 +146,10 @@ impl KeyIndex {
         &mut self,
         alloc: Global,
         rows: &Rows,
-        row: &List<Cell>,
+        row: &[CellRef<'_>],
     ) -> Result<Option<u64>, Memory>
         ensures { IfOk result (λ found. (shape : TableShape)
-            → Indexes shape rows.now self.old → Enters shape rows.now row.now self.new found) }
+            → Indexes shape rows.now self.old → Enters shape rows.now (map cell_seen row.now) self.new found) }
     {
         let place = u32::try_from(rows.len()).map_err(|_| Memory)?;
         let code = self.code_of(row);
@@ -146,8 +158,8 @@ impl KeyIndex {
             return Ok(None);
         };
         let key = self.key_of(alloc, row)?;
-        let first_row = rows.row(alloc, first as usize)?;
-        let first_key = self.key_of(alloc, &first_row)?;
+        let first_row = cells_of(alloc, rows, first as usize)?;
+        let first_key = self.key_of(alloc, first_row.as_slice())?;
         if key == first_key {
             return Ok(Some(number_of(first)));
         }

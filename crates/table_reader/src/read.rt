@@ -1,8 +1,10 @@
 // The rows of a table text.
-ghost use Rattle.std.specs.Prelude.{◌≡◌, ◌≢◌, ◌+◌, ℕ, List, [], ◌∷◌, ◌++◌, length, IfOk, IfErr};
+ghost use Rattle.std.specs.Prelude.{◌≡◌, ◌≢◌, ◌+◌, ℕ, List, [], ◌∷◌, ◌++◌, length, map, IfOk, IfErr, None};
 ghost use Rattle.csv.specs.Records.{fields_of};
+ghost use Rattle.nq_model.specs.CellRefs.{cell_seen};
 ghost use Rattle.nq_model.specs.SchemaTables.{IsTableOf};
 ghost use Rattle.table_reader.specs.FirstRows.{KeepsIndex};
+ghost use Rattle.table_reader.specs.Keys.{twin_of};
 ghost use Rattle.table_reader.specs.Records.{HasRead};
 ghost use Rattle.table_reader.specs.Progress.{ReadsHeader};
 ghost use Rattle.table_reader.specs.Tables.{is_header, next_row, table_of};
@@ -13,7 +15,7 @@ use crate::cells::read_row;
 use crate::keys::KeyIndex;
 use crate::records::{field_at, read_next, reader_of};
 use csv::{ByteRecord, Reader};
-use nq_model::{Cell, List, Memory, TableShape};
+use nq_model::{CellRef, Memory, TableShape};
 use rows::{Rows, Table};
 use std::alloc::Global;
 
@@ -33,26 +35,44 @@ fn is_header(shape: &TableShape, fields: &ByteRecord) -> bool
     true
 }
 
-// The row that a record spells after earlier ones, which the index then knows too.
-#[tactic(auto, unfolding(crate::specs::Tables::next_row, crate::specs::Keys::twin_of))]
-fn next_row(
+// The number of the first of these rows that has the key of a row, where the table has a key. If none has it,
+// the index then knows the row too.
+#[tactic(auto, unfolding(crate::specs::Keys::twin_of))]
+fn earlier_twin(
     alloc: Global,
     shape: &TableShape,
     rows: &Rows,
     index: &mut KeyIndex,
-    fields: &ByteRecord,
+    row: &[CellRef<'_>],
+) -> Result<Option<u64>, Memory>
+    ensures twin { IfOk result (λ found. KeepsIndex shape.now rows.now index.old → twin_of shape.now (map cell_seen row.now) rows.now ≡ found) }
+    ensures keeps { IfOk result (λ found. KeepsIndex shape.now rows.now index.old → found ≡ None
+        → KeepsIndex shape.now (rows.now ++ map cell_seen row.now ∷ []) index.new) }
+{
+    if shape.key.is_empty() {
+        return Ok(None);
+    }
+    index.enter(alloc, rows, row)
+}
+
+// The row that a record spells after earlier ones, which the index then knows too. Its texts are lent from
+// the record.
+#[tactic(auto, unfolding(crate::specs::Tables::next_row))]
+fn next_row<'f>(
+    alloc: Global,
+    shape: &TableShape,
+    rows: &Rows,
+    index: &mut KeyIndex,
+    fields: &'f ByteRecord,
     row: u64,
-) -> Result<List<Cell>, TableFault>
+) -> Result<Vec<CellRef<'f>>, TableFault>
     ensures ok { IfOk result (λ cells. KeepsIndex shape.now rows.now index.old → row ≡ length rows.now + 1
-        → (next_row shape.now rows.now (fields_of fields.now) ≡ Ok cells) × KeepsIndex shape.now (rows.now ++ cells ∷ []) index.new) }
+        → (next_row shape.now rows.now (fields_of fields.now) ≡ Ok (map cell_seen cells.items)) × KeepsIndex shape.now (rows.now ++ map cell_seen cells.items ∷ []) index.new) }
     ensures err { IfErr result (λ e. KeepsIndex shape.now rows.now index.old → row ≡ length rows.now + 1
         → e ≢ fault.Memory → next_row shape.now rows.now (fields_of fields.now) ≡ Err e) }
 {
     let cells = read_row(alloc, shape.columns.as_slice(), fields, row)?;
-    if shape.key.is_empty() {
-        return Ok(cells);
-    }
-    match index.enter(alloc, rows, &cells)? {
+    match earlier_twin(alloc, shape, rows, index, cells.as_slice())? {
         Some(earlier) => Err(TableFault::TwiceKey { row, earlier }),
         None => Ok(cells),
     }
@@ -97,7 +117,7 @@ pub fn read_table(alloc: Global, shape: &TableShape, text: &[u8]) -> Result<Tabl
             return Ok(Table { rows });
         }
         let cells = next_row(alloc, shape, &rows, &mut index, &fields, row)?;
-        rows.push(cells.as_slice())?;
+        rows.push_lent(cells.as_slice())?;
     }
     // No memory holds so many rows.
     Err(TableFault::Memory)

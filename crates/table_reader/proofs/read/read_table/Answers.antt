@@ -1,6 +1,7 @@
-use Rattle.std.proofs.Common.{◌∷◌, refl, arith, length-append}
+use Rattle.std.proofs.Common.{◌∷◌, refl, arith, length-append, map}
 use Rattle.std.proofs.lemmas.Result.{err_from_is_err_and}
 use Rattle.csv.specs.Records.{fields_of}
+use Rattle.nq_model.specs.CellRefs.{cell_seen}
 use Rattle.table_reader.proofs.ReadFacts.{rows_end, rows_more, rows_stop}
 use Rattle.table_reader.proofs.FitFacts.{table_given}
 use Rattle.table_reader.proofs.read.read_table.Goals as goal
@@ -39,9 +40,14 @@ loop-row-preserved c =
     let has = c.loop-row.invariant.has in
     let given = rw c.if-not-branch-2.false at (c.in_ok-read_next.ensures c.args.text.now (has.header ∷ has.body) has.given) in
     let row = c.in_ok-cells.ensures.ok c.loop-row.invariant.keeps c.loop-row.invariant.number in
-    let more = rw c.as_slice.ensures at c.in_ok-push.ensures.ok in
+    let more = rw c.as_slice.ensures.value at c.in_ok-push_lent.ensures.ok in
     record {
-      has = rw more (rows_more c.args.shape.now c.args.text.now c.loop-row.reader c.read_next.new.reader c.loop-row.rows has (fields_of c.read_next.new.fields) given c.in_ok-cells.cells row.0);
+      has = rw more (rows_more c.args.shape.now c.args.text.now c.loop-row.reader c.read_next.new.reader c.loop-row.rows has (fields_of c.read_next.new.fields) given (map cell_seen c.in_ok-cells.cells.items) row.0);
       keeps = rw more row.1;
       number = rw (more, length-append) (omega arith);
     }
+
+pub returns-in_err-push_lent-clause-fault : goal.returns-in_err-push_lent-clause-fault
+returns-in_err-push_lent-clause-fault c =
+    let told = err_from_is_err_and c.from_residual-in_err-push_lent.result c.from_residual-in_err-push_lent.ensures.1 in
+    rw (told.1, told.2) (λ other. absurd (other refl))
