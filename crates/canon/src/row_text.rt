@@ -85,6 +85,9 @@ fn put_rows_in_order(
     Ok(sorted)
 }
 
+// Inlined, as is what it calls for a text: a cell that is passed through memory is copied there, which waits for whatever
+// was read before it. For rows in no order that is a text that is not in the cache, and each would be waited for alone.
+#[inline(always)]
 pub(crate) fn write_cell(text: &mut String, cell: &CellRef<'_>) -> Result<(), Memory>
     ensures { OnOk result (string_bytes text.new ≡ string_bytes text.old ++ cell_text (cell_seen cell.now)) }
 {

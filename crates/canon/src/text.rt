@@ -37,6 +37,7 @@ fn write_value(text: &mut String, value: &Value) -> Result<(), Memory>
 }
 
 // The text between single quotes, with each single quote doubled.
+#[inline(always)]
 pub(crate) fn write_quoted(text: &mut String, quoted: &str) -> Result<(), Memory>
     ensures { OnOk result (string_bytes text.new ≡ string_bytes text.old ++ cell_text (cell.Text quoted.now)) }
 {

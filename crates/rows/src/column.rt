@@ -45,7 +45,8 @@ impl Column {
         }
     }
 
-    // The cell at a place.
+    // The cell at a place. Inlined into the look-up of a row's cell.
+    #[inline(always)]
     pub(crate) fn get(&self, at: usize) -> CellRef<'_>
         requires { at < length self.now }
         ensures { cell_seen result ≡ slice_index_or self.now at (cell.Int (pos 0)) }

@@ -121,6 +121,9 @@ impl Rows {
     }
 
     /// The cell at a row and a column, both counted from 0.
+    // Inlined: runs look up cells more than they do anything else, and a cell that is given back through memory is copied
+    // there, which waits for whatever was read before it.
+    #[inline(always)]
     pub fn cell(&self, row: usize, column: usize) -> CellRef<'_>
         requires { column < length (slice_index_or self.now row []) }
         ensures { cell_seen result ≡ slice_index_or (slice_index_or self.now row []) column (cell.Int (pos 0)) }
