@@ -1,11 +1,10 @@
 -- Rows in the order of their cells, and the lines that are written of them.
-use Rattle.std.proofs.Common.{◌≡◌, ◌<◌, ◌≤◌, ◌+◌, ℕ, zero, suc, List, [], ◌∷◌, ◌++◌, length, map, take, drop, get_or, All, IsPermutation, codes, refl, sym, ap, ap₂, ◌∙◌, subst, arith, append_assoc, add-zero}
-use Rattle.std.specs.List.{flat_map, join_with_byte}
+use Rattle.std.proofs.Common.{◌≡◌, ◌<◌, ◌+◌, ℕ, zero, suc, List, [], ◌∷◌, ◌++◌, length, map, take, get_or, All, IsPermutation, codes, refl, sym, ap, ap₂, ◌∙◌, subst, arith, append_assoc, add-zero}
+use Rattle.std.specs.List.{join_with_byte}
 use Rattle.std.specs.List.Sorted.{IsSortedByKey}
 use Rattle.std.specs.Cmp.Lexicographic.{lists_total}
 use Rattle.std.specs.Ordering.{is_lt}
 use Rattle.std.proofs.lemmas.List.{take_more, length-map}
-use Rattle.std.proofs.lemmas.List.Elements.{All-nil, All-cons}
 use Rattle.std.proofs.lemmas.List.Sorted.{All-permutation}
 use Rattle.nq_model.specs.Canonical.{cell_text}
 use Rattle.nq_model.specs.Cells.{cell_cmp, column_type_of, RowFits}
@@ -20,7 +19,7 @@ use Rattle.rows.specs.Places.{row_at, rows_at}
 use Rattle.row_order.specs.Keys.{key_of, keys_at}
 use Rattle.row_order.proofs.Rising.{rises_next}
 use Rattle.canon.proofs.Sorting.{sorted_by_key}
-use Rattle.canon.specs.RowTexts.{bar, row_cmp, row_line}
+use Rattle.canon.specs.RowTexts.{bar, row_cmp}
 
 -- 1. lines
 

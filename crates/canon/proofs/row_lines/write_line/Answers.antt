@@ -1,7 +1,6 @@
-use Rattle.std.proofs.Common.{◌≡◌, ◌<◌, ◌∙◌, length, arith}
+use Rattle.std.proofs.Common.{◌<◌, ◌∙◌, length, arith}
 use Rattle.std.proofs.lemmas.List.{get_or_default}
 use Rattle.nq_model.specs.CellRefs.{cell_seen}
-use Rattle.nq_model.specs.NamedRows.{no_cell}
 use Rattle.rows.specs.Places.{row_at}
 use Rattle.canon.proofs.RowTexts.{cells_more}
 use Rattle.canon.proofs.Writing.{appended}

@@ -1,4 +1,4 @@
-use Rattle.std.proofs.Common.{◌≡◌, ◌-◌, ◌++◌, ◌∙◌, ℕ, List, length, ap, sym, subst, arith, codes, decimal, append_assoc, rules, string_bytes}
+use Rattle.std.proofs.Common.{◌≡◌, ◌-◌, ◌++◌, ◌∙◌, ℕ, List, length, ap, subst, arith, codes, decimal, append_assoc, rules, string_bytes}
 use Rattle.std.specs.List.{flat_map}
 use Rattle.nq_model.specs.Numberings.{Rises, count_from, key_lt}
 use Rattle.rows.specs.Places.{rows_at}
