@@ -4,8 +4,8 @@ use Rattle.std.proofs.lemmas.List.{take_all}
 use Rattle.std.proofs.lemmas.Bool.Decides.{nat_tests}
 use Rattle.std.specs.List.{prefix_len}
 use Rattle.nq_model.specs.QueryTokens.{is_digit, value_from}
-use Rattle.text_fronts.specs.Digits.{IsDigit}
-use Rattle.text_fronts.proofs.Fronts.{all_run}
+use Rattle.lexical.specs.Digits.{IsDigit}
+use Rattle.lexical.proofs.Fronts.{all_run}
 use Rattle.generated_inputs.specs.Sizes.{size_of}
 
 -- a word of digits alone

@@ -2,7 +2,7 @@
 ghost use Rattle.std.specs.Prelude.{◌≡◌, IfSome};
 ghost use Rattle.generated_inputs.specs.Sizes.{IsSize, size_of};
 
-use text_fronts::{digits_len, value_of};
+use lexical::{digits_len, value_of};
 
 // The greatest size.
 const GREATEST: u64 = 5000;

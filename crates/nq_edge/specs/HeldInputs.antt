@@ -1,6 +1,6 @@
 -- What a clause reads of the inputs in memory, and which of their calls fail.
 use Rattle.std.specs.Prelude.{ℕ, Bool, true, false, ◌||◌, List, length, Option, Some, None, is_none}
-use Rattle.listed_calls.specs.Calls.{is_listed, number_after}
+use Rattle.failing_calls.specs.Calls.{is_listed, number_after}
 use Rattle.nq_edge.specs.Edge.{Files, bytes_at}
 use Rattle.nq_edge.specs.declared.inputs.FetchFault.{FetchFault}
 use Rattle.nq_edge.specs.declared.inputs.FetchFault.TheVariants.{Memory, Failed, Long}

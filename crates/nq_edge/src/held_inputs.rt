@@ -4,7 +4,7 @@ ghost use Rattle.nq_model.specs.Orders.{AreDistinct};
 ghost use Rattle.nq_edge.specs.Edge.{bytes_at, FetchCounts, FetchTells, FetchAnswers};
 
 use crate::inputs::{FetchFault, Inputs};
-use listed_calls::is_next_listed;
+use failing_calls::is_next_listed;
 use nq_model::{List, Memory, Text};
 use std::alloc::Global;
 
@@ -18,7 +18,7 @@ pub struct HeldInputs {
 }
 
 impl HeldInputs {
-    ghost use Rattle.listed_calls.specs.Calls.{FailsWhere};
+    ghost use Rattle.failing_calls.specs.Calls.{FailsWhere};
     ghost use Rattle.nq_edge.specs.HeldInputs.{held_files, held_failing, fails_next, is_failure};
 
     /// Inputs that hold these files. The calls with these numbers fail, and so do those with a name
@@ -85,7 +85,7 @@ fn bytes_under<'a>(files: &'a [(Text, List<u8>)], name: &str) -> Option<&'a List
 }
 
 impl Inputs for HeldInputs {
-    ghost use Rattle.listed_calls.specs.Calls.{FailsWhere};
+    ghost use Rattle.failing_calls.specs.Calls.{FailsWhere};
     ghost use Rattle.nq_edge.specs.HeldInputs.{held_files, held_failing, held_fetched, held_faults, fails_next, is_failure};
 
     ghost held = { λ inputs. Some (held_files inputs) };

@@ -12,8 +12,8 @@ use Rattle.nq_model.specs.declared.table.Schema.{Schema}
 use Rattle.nq_ir.specs.Paths.{paths}
 use Rattle.shred_types.specs.Columns.{columns_at}
 use Rattle.sql_profile.specs.declared.server.Loaded.{Loaded}
-use Rattle.nq_serve.specs.Plans.{Finish, Plan, plan_view, IsServable}
-use Rattle.nq_serve.specs.declared.plan.Plan.{Plan as Asked}
+use Rattle.nq_execute.specs.Plans.{Finish, Plan, plan_view, IsServable}
+use Rattle.nq_execute.specs.declared.plan.Plan.{Plan as Asked}
 use Rattle.nq_top.specs.Gathering.{HoldsPlan, IsTyped}
 use Rattle.nq_top.specs.Plans.{AreReadFor, Question, plan_to, generated_plan, generated_question}
 use Rattle.nq_top.specs.Reading.{PlainReading, refused_as, ill_typed, type_read}

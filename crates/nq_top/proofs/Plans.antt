@@ -44,12 +44,12 @@ use Rattle.stitcher.specs.Schemes.{AnswerRows, stitched}
 use Rattle.stitcher.specs.Stitching.{rows_of}
 use Rattle.unfold.specs.Hereditary.{unfolded}
 use Rattle.unfold.proofs.Whole.{is_unfolding}
-use Rattle.nq_serve.specs.Loading.{CanLoad}
-use Rattle.nq_serve.specs.Plans.{Finish, Plan, plan_view, answered_value, value_text, summary_text, finished, AsksFor, ArePathsOf, CanFinish, IsServable}
-use Rattle.nq_serve.specs.Serving.{Allowed}
-use Rattle.nq_serve.specs.Summaries.{summary_of}
-use Rattle.nq_serve.specs.declared.plan.Plan.{Plan as Asked}
-use Rattle.nq_serve.proofs.Summaries.{summary_same}
+use Rattle.nq_execute.specs.Loading.{CanLoad}
+use Rattle.nq_execute.specs.Plans.{Finish, Plan, plan_view, answered_value, value_text, summary_text, finished, AsksFor, ArePathsOf, CanFinish, IsServable}
+use Rattle.nq_execute.specs.Serving.{Allowed}
+use Rattle.nq_execute.specs.Summaries.{summary_of}
+use Rattle.nq_execute.specs.declared.plan.Plan.{Plan as Asked}
+use Rattle.nq_execute.proofs.Summaries.{summary_same}
 use Rattle.nq_top.specs.Gathering.{HoldsPlan}
 use Rattle.nq_top.specs.Plans.{AreReadFor, plan_to, query_plan, sql_plan, Question, IsMeant, IsSummed, IsAllowed, IsSound}
 use Rattle.nq_top.specs.Reading.{PlainReading, type_read}

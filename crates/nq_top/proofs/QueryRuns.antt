@@ -12,8 +12,8 @@ use Rattle.nq_ir.specs.Paths.{paths}
 use Rattle.shred_types.specs.Columns.{columns_at}
 use Rattle.sql_profile.specs.declared.server.Loaded.{Loaded}
 use Rattle.nq_compile.specs.Shreds.{IsScopedText}
-use Rattle.nq_serve.specs.Plans.{Finish, Plan, plan_view, IsServable}
-use Rattle.nq_serve.specs.declared.plan.Plan.{Plan as Asked}
+use Rattle.nq_execute.specs.Plans.{Finish, Plan, plan_view, IsServable}
+use Rattle.nq_execute.specs.declared.plan.Plan.{Plan as Asked}
 use Rattle.nq_top.specs.Gathering.{Told, IsTyped, Accepts, ComesTo, HoldsPlan, GatherTells, TablesTell, ReadsBehind, RefusalTells}
 use Rattle.nq_top.specs.Judging.{Judgement, Verdict, planned, tables_judged, run_judged, rows_judged}
 use Rattle.nq_top.specs.Plans.{AreReadFor, Question, query_plan, sql_plan}

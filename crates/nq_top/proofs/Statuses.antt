@@ -4,12 +4,12 @@ use Rattle.nq_edge.specs.Edge.{Files}
 use Rattle.sql_profile.specs.Servers.{RoseBelow}
 use Rattle.refusals.specs.Noting.{Notes}
 use Rattle.refusals.specs.Refusals.{refused_status, status_of}
-use Rattle.nq_serve.specs.Serving.{ServerState}
+use Rattle.nq_execute.specs.Serving.{ServerState}
 use Rattle.nq_top.specs.Running.{Answer, InputCount, OutputCount, ServerCount, PutsOnly, Keeps, AskedOnly, Blames, RoseAt, ServerRoseAt, PutsAt, KeepsAt, AskedAt, Comes}
 use Rattle.refusals.specs.declared.refusal.Refused.{Refused}
 use Rattle.refusals.specs.declared.refusal.Refused.TheVariants as refused
 use Rattle.refusals.specs.declared.refusal.InputRefusal.TheVariants as input
-use Rattle.nq_serve.specs.declared.refusal.ServerRefusal.TheVariants as server
+use Rattle.nq_execute.specs.declared.refusal.ServerRefusal.TheVariants as server
 use Rattle.refusals.specs.declared.refusal.Refusal.TheVariants as refusal
 
 -- what holds of the statuses of refused inputs

@@ -11,7 +11,7 @@ use Rattle.sql_profile.specs.declared.server.Loaded.{Loaded}
 use Rattle.command_words.specs.Commands.{Aim, run, check, show_types, show_normal, show_paths, show_sql, Command, help, version, of_query, answer, generated, command_of}
 use Rattle.nq_top.specs.Lines.{file_of, accepted_line, type_line}
 use Rattle.command_words.specs.Help.{help_text, version_text}
-use Rattle.nq_serve.specs.Plans.{Plan}
+use Rattle.nq_execute.specs.Plans.{Plan}
 use Rattle.nq_top.specs.Plans.{Question, query_plan, sql_plan, generated_plan, generated_question}
 use Rattle.nq_top.specs.Reading.{PlainReading, Reading, SqlColumns, schema_read, term_read, type_read, rows_read, sql_read}
 use Rattle.nq_top.specs.Shown.{Shown, shown_form, form_line, shown_texts, shown_frames}

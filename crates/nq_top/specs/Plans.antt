@@ -19,9 +19,9 @@ use Rattle.sql_profile.specs.declared.answer.Answer.{Answer}
 use Rattle.sql_profile.specs.declared.server.Loaded.{Loaded}
 use Rattle.stitcher.specs.Stitching.{rows_of}
 use Rattle.generated_inputs.specs.Generated.{generated_schema, generated_query, generated_type, generated_tables}
-use Rattle.nq_serve.specs.Plans.{Finish, Plan, finished}
-use Rattle.nq_serve.specs.Serving.{Allowed}
-use Rattle.nq_serve.specs.Summaries.{summary_of}
+use Rattle.nq_execute.specs.Plans.{Finish, Plan, finished}
+use Rattle.nq_execute.specs.Serving.{Allowed}
+use Rattle.nq_execute.specs.Summaries.{summary_of}
 use Rattle.canon.specs.RowTexts.{rows_text}
 use Rattle.nq_top.specs.Reading.{PlainReading}
 use Rattle.nq_top.specs.Shown.{shown_texts}

@@ -2,7 +2,7 @@
 ghost use Rattle.std.specs.Prelude.{◌≡◌, ◌≢◌, ◌∷◌, [], true, IfOk, IfSome, Err};
 ghost use Rattle.nq_compile.specs.Shreds.{IsScopedText};
 ghost use Rattle.nq_model.specs.Tables.{IsProperSchema};
-ghost use Rattle.nq_serve.specs.Plans.{plan_view, rows};
+ghost use Rattle.nq_execute.specs.Plans.{plan_view, rows};
 ghost use Rattle.nq_top.specs.Reading.{Reading};
 ghost use Rattle.nq_top.specs.Judging.{rows_judged, sql_judged, answer_judged};
 ghost use Rattle.nq_top.specs.Gathering.{InputCounts, GatherTells, CanServe, gathered_asks};
@@ -12,8 +12,8 @@ use crate::gathered::Gathered;
 use crate::read::{columns_of, schema_of};
 use crate::tables::{TABLES_LIMIT, gather_tables};
 use nq_edge::Inputs;
+use nq_execute::{Finish, Plan};
 use nq_model::{ColumnType, List, Memory, Schema, Text};
-use nq_serve::{Finish, Plan};
 use refusals::{InputRefusal, Refused};
 use sql_profile::Loaded;
 use std::alloc::Global;

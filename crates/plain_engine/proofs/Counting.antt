@@ -2,7 +2,7 @@
 use Rattle.std.proofs.Common.{◌≡◌, ℕ, suc, ◌+◌, ◌-◌, ◌^◌, ◌≤◌, nat_le, nat_lt, ◌==◌, ◌||◌, Some, None, Bool, true, false, cond, List, [], ◌∷◌, length, filter, refl, sym, subst, arith}
 use Rattle.std.proofs.lemmas.Bool.{eqb-true, leb-true, le-leb, lt-leb, ltb-true}
 use Rattle.std.specs.List.{list_any}
-use Rattle.listed_calls.specs.Calls.{is_listed, number_after}
+use Rattle.failing_calls.specs.Calls.{is_listed, number_after}
 use Rattle.plain_engine.specs.Counting.{listed_up_to, next_count}
 
 pub listed_within : (listed : List ℕ) (calls : ℕ) → listed_up_to listed calls ≤ length listed

@@ -1,6 +1,6 @@
 -- What a clause reads of the failing server, and which of its calls fail.
 use Rattle.std.specs.Prelude.{ℕ, Bool, List}
-use Rattle.listed_calls.specs.Calls.{is_listed, number_after}
+use Rattle.failing_calls.specs.Calls.{is_listed, number_after}
 use Rattle.sql_profile.specs.declared.server.Loaded.{Loaded}
 use Rattle.plain_engine.specs.declared.failing.FailingServer.{FailingServer}
 

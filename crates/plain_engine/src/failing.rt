@@ -9,7 +9,7 @@ ghost use Rattle.sql_profile.specs.Texts.{IsAskable, TextAllows};
 ghost use Rattle.sql_profile.specs.Tokens.{First};
 
 use crate::answering::answer_text;
-use listed_calls::is_next_listed;
+use failing_calls::is_next_listed;
 use nq_model::List;
 use sql_eval::{Arrangement, Joining};
 use sql_profile::{Answer, Loaded, ServerFault, SqlServer};
@@ -83,7 +83,7 @@ impl FailingServer {
 
 impl SqlServer for FailingServer {
     ghost use Rattle.plain_engine.specs.Failing.{calls_of, failing_of, fails_next, failures_of, held_tables};
-    ghost use Rattle.listed_calls.specs.Calls.{FailsWhere};
+    ghost use Rattle.failing_calls.specs.Calls.{FailsWhere};
 
     ghost loaded = { held_tables };
 

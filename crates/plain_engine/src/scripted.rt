@@ -3,7 +3,7 @@ ghost use Rattle.std.specs.Prelude.{◌≡◌, ◌≤◌, ◌<◌, ◌+◌, ◌^
 ghost use Rattle.nq_model.specs.Cells.{RowFits};
 ghost use Rattle.nq_model.specs.Orders.{AreDistinct};
 ghost use Rattle.nq_model.specs.Tables.{names_of, types_of};
-ghost use Rattle.listed_calls.specs.Calls.{FailsWhere};
+ghost use Rattle.failing_calls.specs.Calls.{FailsWhere};
 ghost use Rattle.plain_engine.specs.Counting.{is_failure};
 ghost use Rattle.sql_profile.specs.Servers.{CountsFault, table_names, with_ask};
 ghost use Rattle.sql_profile.specs.Texts.{IsAskable};

@@ -4,7 +4,7 @@ use Rattle.std.specs.List.{AllByRecursion as Each, prefix_len}
 use Rattle.std.proofs.lemmas.Bool.Decides.{nat_tests}
 use Rattle.std.proofs.lemmas.List.{length-drop}
 use Rattle.std.proofs.lemmas.List.Sums.{prefix_len-le-length}
-use Rattle.text_fronts.proofs.Literals.{literal_within}
+use Rattle.lexical.proofs.Literals.{literal_within}
 use Rattle.nq_model.specs.SchemaTokens.{is_white, begins_word, is_word_byte, is_comment_byte}
 use Rattle.nq_model.specs.QueryTokens.{Token, Word, Value, Number, is_order_mark, value_from, Stop, NoToken, TooLarge, Front, Gap, Takes, Stops, is_digit, is_quote, begins_with, symbols, symbol_front, word_front, number_front, literal_len, literal_front, front, with_token, go_on, tokens_from}
 

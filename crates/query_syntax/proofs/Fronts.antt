@@ -8,7 +8,7 @@ use Rattle.std.proofs.lemmas.List.{drop-drop, get_or-drop, length-drop}
 use Rattle.std.proofs.lemmas.List.Elements.{All-cons, All-nil}
 use Rattle.std.proofs.lemmas.Str.{IsUtf8-from_ascii}
 use Rattle.nq_model.specs.SchemaTokens.{is_white, begins_word, is_word_byte, is_comment_byte}
-use Rattle.text_fronts.proofs.Fronts.{longer}
+use Rattle.lexical.proofs.Fronts.{longer}
 use Rattle.std.specs.Cmp.Lexicographic.{pointwise}
 use Rattle.nq_model.specs.QueryTokens.{Gap, Takes, begins_with, is_digit, is_quote, is_order_mark, front, word_front, number_front, literal_front, literal_len, symbols, symbol_front, value_from}
 use Rattle.query_syntax.specs.Fronts.{mark_token, table_view}

@@ -3,15 +3,15 @@ ghost use Rattle.std.specs.Prelude.{◌≡◌, ◌<◌, ◌≤◌, ◌+◌, ◌^
 ghost use Rattle.std.specs.Str.{IsUtf8};
 ghost use Rattle.nq_model.specs.QueryTokens.{front, word_front, number_front, literal_front, literal_len};
 ghost use Rattle.query_syntax.specs.Fronts.{front_view};
-ghost use Rattle.text_fronts.specs.Digits.{IsDigit};
+ghost use Rattle.lexical.specs.Digits.{IsDigit};
 
 use crate::marks::symbol_front;
 use crate::symbol::{Symbol, Whole};
-use std::str;
-use text_fronts::{
+use lexical::{
     begins_word, comment_len, digits_len, is_digit, is_order_mark, is_quote, is_white, literal_len,
     value_of, word_len,
 };
+use std::str;
 
 /// What stands at the front of a text.
 #[derive(Clone, Copy)]

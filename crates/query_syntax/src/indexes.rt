@@ -12,9 +12,9 @@ use crate::lower_labels;
 use crate::lower_type::lower_type;
 use crate::symbol::Operator;
 use crate::syntax::{FieldName, Syntax};
+use lexical::unquoted;
 use nq_model::{Label, List, Node, Term, boxed};
 use std::alloc::Global;
-use text_fronts::unquoted;
 
 /// The term of a syntax tree, in which the index of a variable is how many binders stand inside its own.
 /// `Unbound` or `TwiceLabel` at the first variable in the text that has no binder, or label that stands

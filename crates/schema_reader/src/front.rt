@@ -4,8 +4,8 @@ ghost use Rattle.std.specs.List.{prefix_len};
 ghost use Rattle.nq_model.specs.SchemaTokens.{is_word_byte};
 ghost use Rattle.schema_reader.specs.Fronts.{mark_of, mark_view, IsFront, BeginsWord};
 
+use lexical::{begins_word, comment_len, is_order_mark, is_white, word_len};
 use std::str;
-use text_fronts::{begins_word, comment_len, is_order_mark, is_white, word_len};
 
 /// A token that is no word.
 #[derive(Clone, Copy)]

@@ -5,7 +5,7 @@ use Rattle.std.proofs.lemmas.List.{length-drop, length-take}
 use Rattle.std.proofs.lemmas.List.Sums.{prefix_len-le-length}
 use Rattle.nq_model.specs.SchemaTokens.{is_word_byte, is_comment_byte}
 use Rattle.sql_profile.specs.Tokens.{First, Token, keywords, capital, same_bytes, begins_with, symbols, symbol_front, word_front, number_front, name_front, is_name_byte, literal_len, literal_front, is_digit, Stuck, NoToken, TooLarge, Front, Gap, Takes, Stops, front, with_token, go_on, tokens_from}
-use Rattle.text_fronts.proofs.Literals.{literal_within}
+use Rattle.lexical.proofs.Literals.{literal_within}
 use Rattle.sql_reader.proofs.Fronts.{same_literal}
 
 -- what is cut off of m bytes has a byte, and no more than there are

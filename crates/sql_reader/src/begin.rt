@@ -12,10 +12,10 @@ use crate::moves::{leaf, named, wants};
 use crate::stack::Stack;
 use crate::state::Position;
 use crate::token::{Mark, Symbol, Token};
+use lexical::unquoted;
 use nq_model::{Binary, Memory};
 use sql_profile::ExprNode;
 use std::alloc::Global;
-use text_fronts::unquoted;
 
 /// A token where an expression begins.
 #[tactic(auto, using(crate::proofs::Putting::same_text))]

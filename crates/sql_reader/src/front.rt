@@ -1,13 +1,13 @@
 // What stands at the front of an SQL text: a gap, a token, or none of these.
 ghost use Rattle.std.specs.Prelude.{◌≡◌, ◌<◌, ◌≤◌, ◌+◌, ◌^◌, ℕ, List, ◌∷◌, codes, length, drop, take, false, get_or, All};
 ghost use Rattle.std.specs.List.{prefix_len};
-ghost use Rattle.text_fronts.specs.Digits.{IsDigit};
+ghost use Rattle.lexical.specs.Digits.{IsDigit};
 ghost use Rattle.sql_profile.specs.Tokens.{First, begins_with, front, is_name_byte, literal_front, literal_len, name_front, number_front};
 ghost use Rattle.sql_reader.specs.Fronts.{front_view};
 
 use crate::marks::{keyword_front, symbol_front};
 use crate::token::{Symbol, Whole};
-use text_fronts::{
+use lexical::{
     begins_word, comment_len, digits_len, is_digit, is_order_mark, is_quote, is_white, literal_len,
     value_of, word_len,
 };

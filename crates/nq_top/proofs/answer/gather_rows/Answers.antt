@@ -1,8 +1,8 @@
 use Rattle.std.proofs.Common.{◌≡◌, ℕ, List, [], ◌∷◌, Result, Err, ap₂, ◌∙◌, sym, subst, rules}
 use Rattle.nq_model.specs.declared.table.ColumnType.{ColumnType}
 use Rattle.sql_profile.specs.declared.server.Loaded.{Loaded}
-use Rattle.nq_serve.specs.Plans.{Finish, Plan, plan_view}
-use Rattle.nq_serve.specs.declared.plan.Plan.{Plan as Asked}
+use Rattle.nq_execute.specs.Plans.{Finish, Plan, plan_view}
+use Rattle.nq_execute.specs.declared.plan.Plan.{Plan as Asked}
 use Rattle.nq_top.specs.Plans.{sql_plan}
 use Rattle.nq_top.specs.declared.gathered.Gathered.{Gathered}
 use Rattle.refusals.specs.declared.refusal.InputRefusal.{InputRefusal}

@@ -2,7 +2,7 @@ use Rattle.std.proofs.Common.{◌∙◌, sym, arith}
 use Rattle.std.proofs.lemmas.List.Sums.{prefix_len-le-length}
 use Rattle.nq_model.specs.SchemaTokens.{is_word_byte, is_comment_byte}
 use Rattle.nq_model.specs.QueryTokens.{is_digit}
-use Rattle.text_fronts.proofs.Fronts.{lengths, rest_there, digits_all}
+use Rattle.lexical.proofs.Fronts.{lengths, rest_there, digits_all}
 use Rattle.query_syntax.proofs.Fronts.{not_equal, word_there, word_utf8}
 use Rattle.query_syntax.proofs.front.front_of.Goals as goal
 

@@ -1,7 +1,7 @@
 use Rattle.std.proofs.Common.{◌∙◌, ap, sym, add-one, drop, arith}
 use Rattle.nq_model.specs.QueryTokens.{begins_with, symbol_front}
 use Rattle.query_syntax.specs.Fronts.{table_view}
-use Rattle.text_fronts.proofs.Fronts.{begins}
+use Rattle.lexical.proofs.Fronts.{begins}
 use Rattle.query_syntax.proofs.Fronts.{row_here, row_later}
 use Rattle.query_syntax.proofs.marks.first_of.Goals as goal
 

@@ -1,6 +1,6 @@
 use Rattle.std.proofs.Common.{◌∙◌, ◌+◌, sym, arith}
 use Rattle.std.proofs.lemmas.Str.{IsCharBoundary-after_ascii, IsCharBoundary-before_ascii}
-use Rattle.text_fronts.proofs.Literals.{closing}
+use Rattle.lexical.proofs.Literals.{closing}
 use Rattle.sql_reader.proofs.front.literal_front.Goals as goal
 
 pub overflow_add-result : goal.overflow_add-result

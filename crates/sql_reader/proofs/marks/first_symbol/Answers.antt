@@ -1,7 +1,7 @@
 use Rattle.std.proofs.Common.{◌∙◌, ap, sym, add-one, drop, arith}
 use Rattle.sql_profile.specs.Tokens.{begins_with, symbol_front}
 use Rattle.sql_reader.specs.Fronts.{table_view}
-use Rattle.text_fronts.proofs.Fronts.{begins}
+use Rattle.lexical.proofs.Fronts.{begins}
 use Rattle.sql_reader.proofs.Fronts.{same_begins, symbol_here, symbol_later}
 use Rattle.sql_reader.proofs.marks.first_symbol.Goals as goal
 

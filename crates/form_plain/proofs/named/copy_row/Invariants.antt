@@ -1,5 +1,0 @@
-use Rattle.std.proofs.Common.{◌≡◌, take}
-use Rattle.form_plain.proofs.named.copy_row.Given as goal
-
-abbrev pub invariant-loop-named : goal.invariant-loop-named
-invariant-loop-named l = l.copy ≡ take l.named-index l.row

@@ -1,6 +1,0 @@
-use Rattle.std.proofs.Common.{arith}
-use Rattle.form_plain.proofs.Loops.{row_ends}
-use Rattle.form_plain.proofs.named.named_row.Goals as goal
-
-pub returns : goal.returns
-returns c = row_ends c.args.columns.now c.args.cells.now c.loop-at.at c.loop-at.row (omega arith) c.loop-at.invariant

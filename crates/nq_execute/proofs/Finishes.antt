@@ -1,0 +1,68 @@
+-- Answers that fit are what finishing asks for.
+use Rattle.std.proofs.Common.{◌≡◌, ◌<◌, ℕ, ℤ, zero, suc, List, [], ◌∷◌, length, map, get_or, All, refl, sym, ap, ◌∙◌, subst, arith}
+use Rattle.std.proofs.lemmas.List.{length-map}
+use Rattle.std.proofs.lemmas.List.Elements.{All-nil}
+use Rattle.nq_model.specs.Cells.{RowFits}
+use Rattle.nq_model.specs.Types.{TypeTree, int}
+use Rattle.nq_model.specs.declared.table.ColumnType.{ColumnType}
+use Rattle.nq_ir.specs.Parts.{element_types}
+use Rattle.shred_types.specs.Columns.{answer_columns}
+use Rattle.sql_profile.specs.declared.answer.Answer.{Answer}
+use Rattle.stitcher.specs.FlatNumbers.{flat_numbers}
+use Rattle.stitcher.specs.Schemes.{Scheme, element_of}
+use Rattle.stitcher.specs.Stitching.{rows_of, AreAnswersOf}
+use Rattle.nq_execute.proofs.Asks.{both_length}
+use Rattle.nq_execute.specs.Plans.{ArePathsOf, IsOne, first_text}
+use Rattle.canon.specs.RowTexts.{rows_text}
+use Rattle.nq_execute.specs.Serving.{Fit}
+
+-- the rows of the answer at a path fit the columns there
+fit_at : (elements : List TypeTree) (answers : List Answer) → Fit (map answer_columns elements) answers → (q : ℕ) → All (RowFits (answer_columns (element_of elements q))) (get_or (rows_of answers) q [])
+fit_at [] [] fit q = All-nil (RowFits (answer_columns int))
+fit_at [] (a ∷ answers) fit q = absurd (cc)
+fit_at (e ∷ elements) [] fit q = absurd fit
+fit_at (e ∷ elements) (a ∷ answers) fit zero = fit.0
+fit_at (e ∷ elements) (a ∷ answers) fit (suc q) = fit_at elements answers fit.1 q
+
+-- answers of the columns of a type, for its scheme
+pub answers_of_type : (type : TypeTree) (scheme : Scheme (ℤ × ℤ)) (answers : List Answer) → scheme ≡ flat_numbers (element_types type) → Fit (map answer_columns (element_types type)) answers → AreAnswersOf scheme type (rows_of answers)
+answers_of_type type scheme answers is fit =
+    let P : Scheme (ℤ × ℤ) → Type 0 = λ s. AreAnswersOf s type (rows_of answers) in
+    let counted : length answers ≡ length (map answer_columns (element_types type)) = both_length (λ types answer. All (RowFits types) answer.rows) (map answer_columns (element_types type)) answers fit in
+    subst P (sym is) (record {
+      of_type = refl;
+      counted = length-map answers (λ a. a.rows) ∙ counted ∙ length-map (element_types type) answer_columns;
+      fitting = fit_at (element_types type) answers fit;
+    })
+
+-- answers of the columns at the paths of a type
+pub fit_paths : (type : TypeTree) (columns : List (List ColumnType)) (answers : List Answer) → ArePathsOf type columns → Fit columns answers → Fit (map answer_columns (element_types type)) answers
+fit_paths type columns answers paths fit = subst (λ (cs : List (List ColumnType)). Fit cs answers) paths.at_paths fit
+
+-- the rows of one answer
+pub one_answer : (columns : List (List ColumnType)) (answers : List Answer) (answer : Answer) (own : List ColumnType) → IsOne columns → Fit columns answers
+    → answer ≡ get_or answers 0 answer → own ≡ get_or columns 0 own → All (RowFits own) answer.rows
+one_answer columns answers answer own one fit is own_is =
+    let P : List (List ColumnType) → Type 0 = λ cs. Fit cs answers in
+    let same : own ≡ one.types = own_is ∙ ap (λ (cs : List (List ColumnType)). get_or cs 0 own) one.is in
+    subst (λ (ts : List ColumnType). All (RowFits ts) answer.rows) (sym same) (first answers (subst P one.is fit) is)
+  where
+    first : (given : List Answer) → Fit (one.types ∷ []) given → answer ≡ get_or given 0 answer → All (RowFits one.types) answer.rows
+    first [] fit is = absurd fit
+    first (a ∷ given) fit is = subst (λ (b : Answer). All (RowFits one.types) b.rows) (sym is) fit.0
+
+-- there is one
+pub has_one : (columns : List (List ColumnType)) (answers : List Answer) → IsOne columns → Fit columns answers → 0 < length answers
+has_one columns answers one fit =
+    let counted = both_length (λ types answer. All (RowFits types) answer.rows) columns answers fit in
+    omega (arith, counted, ap length one.is)
+
+pub has_columns : (columns : List (List ColumnType)) → IsOne columns → 0 < length columns
+has_columns columns one = omega (arith, ap length one.is)
+
+-- its text
+pub rows_finished : (answers : List Answer) (answer : Answer) (text : List ℕ) → 0 < length answers → answer ≡ get_or answers 0 answer → text ≡ rows_text answer.rows → text ≡ first_text (rows_of answers)
+rows_finished [] answer text some is written = absurd (omega (arith, some))
+rows_finished (a ∷ answers) answer text some is written = written ∙ ap (λ (b : Answer). rows_text b.rows) is
+
+pub ruleset finish_rules = (fit_paths, one_answer, has_one, has_columns, rows_finished)

@@ -1,0 +1,26 @@
+use Rattle.std.proofs.Common.{◌≡◌, Err, [], rules}
+use Rattle.nq_execute.specs.Plans.{finish_view, plan_view}
+use Rattle.nq_execute.proofs.Serves.{all_loaded, plan_refused, all_fit, finishable, text_serves}
+use Rattle.nq_execute.proofs.serving.serve.Goals as goal
+
+pub returns-in_err-answers-clause-tells : goal.returns-in_err-answers-clause-tells
+returns-in_err-answers-clause-tells g c =
+    let is : c.from_residual-in_err-answers.result ≡ Err c.in_err-answers.field-0.0 = search rules in
+    plan_refused (plan_view c.args.plan) _ _ _ _ _ _ _ _ c.as_slice.result.now c.as_slice-2.result.now
+    (all_loaded _ _ _ c.requires.empty c.in_ok-load_tables.ensures.tells) c.in_ok-load_tables.ensures.asks_stay c.in_ok-load_tables.ensures.honesty_stays c.as_slice.ensures c.as_slice-2.ensures
+    c.in_err-answers.field-0.0 c.from_residual-in_err-answers.result is (c.in_err-answers.ensures.tells (finish_view c.args.plan.finish))
+
+pub finish-requires-clause-finishable : goal.finish-requires-clause-finishable
+finish-requires-clause-finishable g c = finishable (plan_view c.args.plan) c.as_slice-3.result.now c.requires.servable c.as_slice-3.ensures
+
+pub finish-requires-clause-fit : goal.finish-requires-clause-fit
+finish-requires-clause-fit g c =
+    all_fit (plan_view c.args.plan) [] _ [] _ _ _ _ _ c.as_slice.result.now c.as_slice-2.result.now
+    (all_loaded _ _ _ c.requires.empty c.in_ok-load_tables.ensures.tells) c.in_ok-load_tables.ensures.asks_stay c.in_ok-load_tables.ensures.honesty_stays c.as_slice.ensures c.as_slice-2.ensures
+    c.in_ok-answers.answers c.as_slice-3.result.now c.requires.servable (c.in_ok-answers.ensures.tells (finish_view c.args.plan.finish)) c.as_slice-3.ensures
+
+pub returns-clause-tells : goal.returns-clause-tells
+returns-clause-tells g c =
+    text_serves (plan_view c.args.plan) _ _ _ _ _ _ _ _ c.as_slice.result.now c.as_slice-2.result.now
+    (all_loaded _ _ _ c.requires.empty c.in_ok-load_tables.ensures.tells) c.in_ok-load_tables.ensures.asks_stay c.in_ok-load_tables.ensures.honesty_stays c.as_slice.ensures c.as_slice-2.ensures
+    c.in_ok-answers.answers c.in_ok-finish.field-0 c.in_ok-answers.ensures.tables_stay (c.in_ok-answers.ensures.tells (finish_view c.args.plan.finish)) c.in_ok-finish.ensures

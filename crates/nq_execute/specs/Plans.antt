@@ -1,0 +1,94 @@
+-- What a server is asked for a command, and what is written of its answers.
+use Rattle.std.specs.Prelude.{◌≡◌, ℕ, List, [], ◌∷◌, map}
+use Rattle.nq_model.specs.Canonical.{canonical_text}
+use Rattle.nq_model.specs.Tables.{types_of}
+use Rattle.nq_model.specs.Types.{TypeTree, type_tree, bag}
+use Rattle.nq_model.specs.Values.{Nested}
+use Rattle.nq_model.specs.declared.table.ColumnType.{ColumnType}
+use Rattle.nq_ir.specs.Meanings.{EachBoth}
+use Rattle.nq_ir.specs.NormalForms.{element_type}
+use Rattle.nq_ir.specs.Parts.{element_types}
+use Rattle.shred_types.specs.Columns.{answer_columns}
+use Rattle.sql_profile.specs.Texts.{IsAskable}
+use Rattle.sql_profile.specs.Tokens.{First}
+use Rattle.sql_profile.specs.declared.server.Loaded.{Loaded}
+use Rattle.stitcher.specs.FlatNumbers.{flat_numbers}
+use Rattle.stitcher.specs.Schemes.{AnswerRows, stitched}
+use Rattle.nq_execute.specs.Loading.{CanLoad}
+use Rattle.nq_execute.specs.Summaries.{summary_of}
+use Rattle.canon.specs.RowTexts.{rows_text}
+use Rattle.nq_execute.specs.declared.plan.Finish.{Finish as Finishes}
+use Rattle.nq_execute.specs.declared.plan.Finish.TheVariants as code
+use Rattle.nq_execute.specs.declared.plan.Plan.{Plan as Asked}
+
+-- what is written of answers: the value of this type to which they stitch, or its summary; or the rows of the one answer
+pub data Finish : Type 0 where
+  value : TypeTree → Finish
+  summary : TypeTree → Finish
+  rows : Finish
+
+-- the tables that a server is loaded with, the texts that it is then asked, in order, each with the types of its
+-- columns, and what is written of the answers
+pub record Plan : Type 0 where
+  pub tables : List Loaded
+  pub texts : List (List ℕ)
+  pub columns : List (List ColumnType)
+  pub finish : Finish
+
+abbrev pub finish_view : Finishes → Finish
+finish_view (code.Value of) = value (type_tree of)
+finish_view (code.Summary of) = summary (type_tree of)
+finish_view code.Rows = rows
+
+-- the plan of the program
+abbrev pub plan_view : Asked → Plan
+plan_view asked = record { tables = asked.tables; texts = asked.texts; columns = asked.columns; finish = finish_view asked.finish }
+
+-- the value of answers, one to each text: what they stitch to by tag and number
+abbrev pub answered_value : TypeTree → List AnswerRows → Nested
+answered_value type answers = stitched (flat_numbers (element_types type)) (element_type type) answers
+
+-- its canonical text, and its summary
+unfoldable pub value_text : TypeTree → List AnswerRows → List ℕ
+value_text type answers = canonical_text (answered_value type answers)
+
+unfoldable pub summary_text : TypeTree → List AnswerRows → List ℕ
+summary_text type answers = summary_of type (answered_value type answers)
+
+-- the rows of the first answer
+abbrev pub first_text : List AnswerRows → List ℕ
+first_text [] = rows_text []
+first_text (answer ∷ answers) = rows_text answer
+
+-- what is written of answers
+abbrev pub finished : Finish → List AnswerRows → List ℕ
+finished (value type) answers = value_text type answers
+finished (summary type) answers = summary_text type answers
+finished rows answers = first_text answers
+
+-- over these tables the text may be asked, and its columns have these types
+pub record AsksFor (held : List Loaded) (types : List ColumnType) (text : List ℕ) : Type 0 where
+  pub asked : IsAskable First held text
+  pub typed : types_of asked.columns ≡ types
+
+-- the columns are those of the paths of a bag type
+pub record ArePathsOf (type : TypeTree) (columns : List (List ColumnType)) : Type 0 where
+  pub of_bag : type ≡ bag (element_type type)
+  pub at_paths : columns ≡ map answer_columns (element_types type)
+
+-- there is one text
+pub record IsOne (columns : List (List ColumnType)) : Type 0 where
+  pub types : List ColumnType
+  pub is : columns ≡ types ∷ []
+
+-- answers of these columns are such as the finish asks for: one for each path of a bag type; or one
+abbrev pub CanFinish : Finish → List (List ColumnType) → Type 0
+CanFinish (value type) columns = ArePathsOf type columns
+CanFinish (summary type) columns = ArePathsOf type columns
+CanFinish rows columns = IsOne columns
+
+-- the tables may be loaded, each text may be asked over them, and their answers may be finished
+pub record IsServable (plan : Plan) : Type 0 where
+  pub loadable : CanLoad [] plan.tables
+  pub finishable : CanFinish plan.finish plan.columns
+  pub askable : EachBoth (AsksFor plan.tables) plan.columns plan.texts

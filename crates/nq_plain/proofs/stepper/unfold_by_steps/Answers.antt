@@ -1,5 +1,0 @@
-use Rattle.nq_model.specs.Unfolding.{here}
-use Rattle.nq_plain.proofs.stepper.unfold_by_steps.Goals as goal
-
-pub loop-init : goal.loop-init
-loop-init c = here

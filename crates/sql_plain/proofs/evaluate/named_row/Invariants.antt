@@ -1,5 +1,0 @@
-use Rattle.std.proofs.Common.{◌≡◌, ◌++◌, drop, zip}
-use Rattle.sql_plain.proofs.evaluate.named_row.Given as goal
-
-abbrev pub invariant-loop-i : goal.invariant-loop-i
-invariant-loop-i l = l.fields ++ zip (drop l.i l.names) (drop l.i l.row) ≡ zip l.names l.row

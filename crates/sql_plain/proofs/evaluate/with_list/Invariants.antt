@@ -1,6 +1,0 @@
-use Rattle.std.proofs.Common.{◌≡◌, ◌∷◌, ◌++◌}
-use Rattle.std.specs.Vec.Iter.{into_iter_items}
-use Rattle.sql_plain.proofs.evaluate.with_list.Given as goal
-
-abbrev pub invariant-loop-table : goal.invariant-loop-table
-invariant-loop-table l = l.more ++ into_iter_items l.table-iterator ≡ (l.fn.name, l.fn.rows) ∷ l.fn.tables

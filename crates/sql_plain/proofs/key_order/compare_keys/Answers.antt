@@ -1,7 +1,0 @@
-use Rattle.std.proofs.Common.{◌∙◌, sym, arith}
-use Rattle.sql_plain.proofs.Keys.{keys_end}
-use Rattle.sql_plain.proofs.key_order.compare_keys.Goals as goal
-
-pub returns : goal.returns
-returns c =
-    c.cmp.ensures ∙ sym (keys_end c.args.left.now c.args.right.now c.loop-i.i (omega (arith, c.min-i-end.ensures))) ∙ c.loop-i.invariant

@@ -1,6 +1,0 @@
-use Rattle.std.proofs.Common.{zip}
-use Rattle.sql_plain.proofs.Dealing.{SoFar}
-use Rattle.sql_plain.proofs.number.place.Given as goal
-
-abbrev pub invariant-loop-i : goal.invariant-loop-i
-invariant-loop-i l = SoFar (zip l.numbers l.keys) l.key l.i l.place

@@ -1,6 +1,0 @@
-use Rattle.stitcher.specs.Stitching.{rows_of}
-use Rattle.stitch_plain.proofs.Answered.{FitBefore}
-use Rattle.stitch_plain.proofs.condition.are_answers.Given as goal
-
-abbrev pub invariant-loop-path : goal.invariant-loop-path
-invariant-loop-path g l = FitBefore (g.S.IndexScheme.scheme l.scheme) (rows_of l.answers) l.path

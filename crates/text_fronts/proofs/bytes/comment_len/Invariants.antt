@@ -1,7 +1,0 @@
-use Rattle.std.proofs.Common.{◌≡◌, ◌+◌, drop}
-use Rattle.std.specs.List.{prefix_len}
-use Rattle.nq_model.specs.SchemaTokens.{is_comment_byte}
-use Rattle.text_fronts.proofs.bytes.comment_len.Given as goal
-
-abbrev pub invariant-loop-i : goal.invariant-loop-i
-invariant-loop-i l = l.i + prefix_len is_comment_byte (drop l.i l.bytes) ≡ prefix_len is_comment_byte l.bytes
