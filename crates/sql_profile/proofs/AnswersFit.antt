@@ -5,6 +5,7 @@ use Rattle.std.specs.Str.{bytes_eq}
 use Rattle.std.proofs.lemmas.List.Elements.{All-nil, All-cons, All-head, All-tail}
 use Rattle.nq_model.specs.Cells.{RowFits, column_type_of}
 use Rattle.nq_model.specs.Operators.{is_true, unary_value, binary_value, unary_type, binary_type, both_int, both_bool, same_base}
+use Rattle.nq_model.specs.Totals.{Total, HowMany, SumOf, total_of}
 use Rattle.nq_model.specs.Tables.{Columns, names_of, types_of}
 use Rattle.nq_model.specs.declared.term.Unary.{Unary}
 use Rattle.nq_model.specs.declared.term.Unary.TheVariants.{Minus, Not}
@@ -17,7 +18,7 @@ use Rattle.nq_model.specs.declared.table.ColumnType.TheVariants.{Int, Bool as Tr
 use Rattle.nq_model.proofs.Bags.{reordered_sym}
 use Rattle.nq_model.proofs.Numberings.{each_reordered}
 use Rattle.sql_profile.specs.declared.server.Loaded.{Loaded}
-use Rattle.sql_profile.specs.Trees.{SourceTree, ExprTree, int, bool, text, column, unary, binary, choose, not_exists, QueryTree, no_select, then_select, SelectTree, select, ItemTrees, no_item, then_item, ValueTree, plain, number, WithTree, SqlTree}
+use Rattle.sql_profile.specs.Trees.{SourceTree, ExprTree, int, bool, text, column, unary, binary, choose, not_exists, total, QueryTree, no_select, then_select, SelectTree, select, ItemTrees, no_item, then_item, ValueTree, plain, number, WithTree, SqlTree}
 use Rattle.nq_model.specs.NamedRows.{NamedTables, Row, cell_under, named, rows_named}
 use Rattle.sql_profile.specs.AllowedAnswers.{Scope, row_at, combinations, expr_value, keeps, kept_combinations, ValueGives, beside, ItemsGive, SelectGives, SelectsGive, QueryGives, item_names, select_names, query_names, WithsAllow, tables_of, TreeAllows}
 use Rattle.sql_profile.specs.Scope.{Shapes, Aliases, found, SourcesHave, HasType, QueryHas, OthersHave, SelectHas, ItemsHave, ValueHas, WithsHave, IsWellScoped, shapes_of}
@@ -111,6 +112,10 @@ found_rows name (s ∷ ss) (t ∷ ts) columns h e =
     go true e i = subst (λ (z : Columns). Each (RowHas z) t.1) (some_same s.1 columns e) h.1
     go false e i = i e
 
+total_has : (g : Total) (cells : List Cell) → column_type_of (total_of g cells) ≡ Int
+total_has HowMany cells = refl
+total_has SumOf cells = refl
+
 expr_has : (ss : Shapes) (ts : NamedTables) (env : Aliases) (e : ExprTree) (k : ColumnType) (sc : Scope) → HasType ss env e k → ScopeHas env sc → column_type_of (expr_value ts e sc) ≡ k
 expr_has ss ts env (int n) k sc h f = sym h
 expr_has ss ts env (bool b) k sc h f = sym h
@@ -124,6 +129,7 @@ expr_has ss ts env (choose t y n) k sc h f = pick (is_true (expr_value ts t sc))
     pick true g h = g
     pick false g h = h
 expr_has ss ts env (not_exists q) k sc h f = sym h.2
+expr_has ss ts env (total g from keep e) k sc h f = total_has g _ ∙ sym h.4
 
 each_join : {A : Type 0} (P : A → Type 0) (xs ys : List A) → Each P xs → Each P ys → Each P (xs ++ ys)
 each_join P [] ys e f = f

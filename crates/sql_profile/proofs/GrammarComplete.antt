@@ -3,9 +3,9 @@ use Rattle.std.proofs.Common.{◌≡◌, ℕ, suc, ◌≤◌, Bool, true, false,
 use Rattle.std.proofs.lemmas.Bool.Decides.{nat_tests}
 use Rattle.nq_model.specs.declared.term.Binary.{Binary}
 use Rattle.nq_model.specs.declared.term.Binary.TheVariants.{Or, And, Add, Sub, Mul}
-use Rattle.sql_profile.specs.Tokens.{With, As, Union, All, Select, From, Where, RowNumber, Over, Order, By, Not, Exists, Case, When, Then, Else, Stop, Token, Value, Name, Key, Oper, Open, Close, Comma, Dot, Semi, End}
-use Rattle.sql_profile.specs.Grammar.{SourceSyntax, OfSource, SourcesSyntax, OneSource, MoreSources, FromSyntax, NoFrom, HasFrom, NumberingHead, OfRowNumber, ExprSyntax, OfConstant, OfColumn, OfParens, OfMinus, OfNot, OfNotExists, OfCase, OfBinary, QuerySyntax, OneSelect, MoreSelects, SelectSyntax, OfSelect, KeepSyntax, NoWhere, HasWhere, ItemsSyntax, OneItem, MoreItems, ItemSyntax, OfItem, ValueSyntax, Plain, Numbering, KeysSyntax, NoKeys, HasKeys, KeyListSyntax, OneKey, MoreKeys, WithSyntax, OfWith, WithListSyntax, OneDef, MoreDefs, WithsSyntax, NoWith, HasWith, SemicolonSyntax, NoSemi, HasSemi, TextSyntax, OfText, source_tokens, sources_tokens, froms_tokens, tokens, query_tokens, choice_tokens, keep_tokens, items_tokens, item_tokens, held_tokens, keys_tokens, key_list_tokens, def_tokens, defs_tokens, withs_tokens, semis_tokens, text_tokens, level, left_level, Fits, QueryFits, ChoiceFits, KeepFits, ItemsFit, ItemFits, HeldFits, KeysFit, KeyListFits, DefFits, DefsFit, WithsFit, TextFits, held_depth, def_depth}
-use Rattle.sql_profile.specs.Machine.{Before, Fresh, Behind, ItemHead, AtSelect, AtComma, KeyHead, AtBy, KeyComma, SourceHead, AtFrom, SourceComma, DefHead, AtWith, DefComma, put_select, put_item, put_key, put_source, put_def, Around, InParen, InNeg, InNot, InWhen, InThen, InElse, InRight, InItem, InKey, InWhere, Outside, InMain, InDef, InExists, State, AtDef, AtDefName, AtDefAs, WantSelect, AtUnion, Want, AtName, AtDot, AtCase, AtExists, Have, AtRow, AtRowOpen, AtRowClose, AtOver, InOver, AtOrder, AtHeld, AtAs, HaveItems, AtSource, AtSourceName, AtSourceAs, AtSemi, Ready, start_state, asks, binds, level_of, after_query, after_key, shift, after, start, after_items, step, one, some_name, named, numbering, some_select, some_query, close, close_query, close_items, close_held, least, turn, run}
+use Rattle.sql_profile.specs.Tokens.{With, As, Union, All, Select, From, Where, RowNumber, Over, Order, By, Not, Exists, Case, When, Then, Else, Stop, Token, Value, Name, Key, Oper, Open, Close, Comma, Dot, Semi, End, Count, Sum, Coalesce, Number}
+use Rattle.sql_profile.specs.Grammar.{SourceSyntax, OfSource, SourcesSyntax, OneSource, MoreSources, FromSyntax, NoFrom, HasFrom, NumberingHead, OfRowNumber, ExprSyntax, OfConstant, OfColumn, OfParens, OfMinus, OfNot, OfNotExists, OfCase, OfBinary, QuerySyntax, OneSelect, MoreSelects, SelectSyntax, OfSelect, KeepSyntax, NoWhere, HasWhere, ItemsSyntax, OneItem, MoreItems, ItemSyntax, OfItem, ValueSyntax, Plain, Numbering, KeysSyntax, NoKeys, HasKeys, KeyListSyntax, OneKey, MoreKeys, WithSyntax, OfWith, WithListSyntax, OneDef, MoreDefs, WithsSyntax, NoWith, HasWith, SemicolonSyntax, NoSemi, HasSemi, TextSyntax, OfText, source_tokens, sources_tokens, froms_tokens, tokens, query_tokens, choice_tokens, keep_tokens, items_tokens, item_tokens, held_tokens, keys_tokens, key_list_tokens, def_tokens, defs_tokens, withs_tokens, semis_tokens, text_tokens, level, left_level, Fits, QueryFits, ChoiceFits, KeepFits, ItemsFit, ItemFits, HeldFits, KeysFit, KeyListFits, DefFits, DefsFit, WithsFit, TextFits, held_depth, def_depth, OfScalar, ScalarSyntax, Counted, Summed, OfCount, OfSum, OfTail, scalar_tokens, ScalarFits, scalar_depth, depth, keep_depth}
+use Rattle.sql_profile.specs.Machine.{Before, Fresh, Behind, ItemHead, AtSelect, AtComma, KeyHead, AtBy, KeyComma, SourceHead, AtFrom, SourceComma, DefHead, AtWith, DefComma, put_select, put_item, put_key, put_source, put_def, Around, InParen, InNeg, InNot, InWhen, InThen, InElse, InRight, InItem, InKey, InWhere, Outside, InMain, InDef, InExists, State, AtDef, AtDefName, AtDefAs, WantSelect, AtUnion, Want, AtName, AtDot, AtCase, AtExists, Have, AtRow, AtRowOpen, AtRowClose, AtOver, InOver, AtOrder, AtHeld, AtAs, HaveItems, AtSource, AtSourceName, AtSourceAs, AtSemi, Ready, start_state, asks, binds, level_of, after_query, after_key, shift, after, start, after_items, step, one, some_name, named, numbering, some_select, some_query, close, close_query, close_items, close_held, least, turn, run, InSum, InScalarWhere, AtScalar, AtCount, AtCountOpen, AtCountStar, AtCoalesce, AtCoalesceOpen, AtSum, AtSumClose, AtSumComma, AtSumZero, HaveScalar, AtScalarSource, AtScalarSourceName, AtScalarSourceAs, counted, some_tail, close_scalar}
 use Rattle.nq_model.specs.OpenLists.{Deep}
 use Rattle.nq_model.specs.Machines.{Reached, Faulty}
 use Rattle.sql_profile.proofs.GrammarDepths.{Within, depth_pos, choice_pos, selects_pos, less, query_less, choice_less, item_less, want_less, fits_true, def_mono}
@@ -29,6 +29,7 @@ level_enough (OfNot p e) m h f = f.0
 level_enough (OfNotExists p e o q c) m h f = f.0
 level_enough (OfCase p w t i y e n z) m h f = omega arith
 level_enough (OfBinary l p op r) m h f = f.0
+level_enough (OfScalar i v w z) m h f = omega arith
 
 pub record Levels (op : Binary) : Type 0 where
   pub low : 1 ≤ level op
@@ -149,6 +150,33 @@ pub froms_read : (f : FromSyntax) (d : ℕ) (i : ItemsSyntax) (b : Before) (c : 
 froms_read NoFrom d i b c x w = refl
 froms_read (HasFrom ss) d i b c x w = sources_read ss d i b c x w
 
+pub scalar_less : (d : ℕ) (k : Around) (h h' : ScalarSyntax) (f f' : FromSyntax) (w w' : KeepSyntax) (z z' : ℕ) → scalar_depth h ≤ scalar_depth h' → keep_depth w ≤ keep_depth w'
+    → Within d (close k (OfScalar h' f' w' z')) → Within d (close k (OfScalar h f w z))
+scalar_less d k h h' f f' w w' z z' a b e = less d k (OfScalar h f w z) (OfScalar h' f' w' z') (omega arith) e
+
+pub scalar_source_read : (s : SourceSyntax) (i : SourceHead) (d : ℕ) (h : ScalarSyntax) (k : Around) (x : List Token) → Within d (close_scalar h NoFrom k)
+    → run d (source_tokens s x) (AtScalarSource i h k) ≡ run d x (HaveScalar h (HasFrom (put_source i s)) k)
+scalar_source_read (OfSource p t a q n) i d h k x w =
+    let lo = λ (f : FromSyntax). scalar_less d k h h f NoFrom NoWhere NoWhere 0 0 (omega arith) (omega arith) w in
+    next d (AtScalarSource i h k) (AtScalarSourceName i p t h k) (Name p t) (Key a As ∷ Name q n ∷ x) refl (lo _)
+    ∙ next d (AtScalarSourceName i p t h k) (AtScalarSourceAs i p t a h k) (Key a As) (Name q n ∷ x) refl (lo _)
+    ∙ next d (AtScalarSourceAs i p t a h k) (HaveScalar h (HasFrom (put_source i (OfSource p t a q n))) k) (Name q n) x refl (lo _)
+
+pub scalar_sources_read : (ss : SourcesSyntax) (d : ℕ) (h : ScalarSyntax) (k : Around) (x : List Token) → Within d (close_scalar h NoFrom k)
+    → run d (sources_tokens ss x) (HaveScalar h NoFrom k) ≡ run d x (HaveScalar h (HasFrom ss) k)
+scalar_sources_read (OneSource p s) d h k x w =
+    next d (HaveScalar h NoFrom k) (AtScalarSource (AtFrom p) h k) (Key p From) (source_tokens s x) refl (scalar_less d k h h _ NoFrom NoWhere NoWhere 0 0 (omega arith) (omega arith) w)
+    ∙ scalar_source_read s (AtFrom p) d h k x w
+scalar_sources_read (MoreSources ss p s) d h k x w =
+    scalar_sources_read ss d h k (Comma p ∷ source_tokens s x) w
+    ∙ next d (HaveScalar h (HasFrom ss) k) (AtScalarSource (SourceComma ss p) h k) (Comma p) (source_tokens s x) refl (scalar_less d k h h _ NoFrom NoWhere NoWhere 0 0 (omega arith) (omega arith) w)
+    ∙ scalar_source_read s (SourceComma ss p) d h k x w
+
+pub scalar_froms_read : (f : FromSyntax) (d : ℕ) (h : ScalarSyntax) (k : Around) (x : List Token) → Within d (close_scalar h NoFrom k)
+    → run d (froms_tokens f x) (HaveScalar h NoFrom k) ≡ run d x (HaveScalar h f k)
+scalar_froms_read NoFrom d h k x w = refl
+scalar_froms_read (HasFrom ss) d h k x w = scalar_sources_read ss d h k x w
+
 mutual
   pub reads : (s : ExprSyntax) (d : ℕ) (k : Around) (m : ℕ) (t : Token) (x : List Token)
       → Fits m s → asks k ≤ m → binds t ≤ m → Within d (close k s)
@@ -201,6 +229,48 @@ mutual
       ∙ next d (Have l k) (Want (InRight l p op k)) (Oper p op) (tokens r (t ∷ x)) (after_oper k l p op (omega (arith, f.0)) f.1) (want_less d (InRight l p op k) r w)
       ∙ reads r d (InRight l p op k) (suc (level op)) t x f.2 (omega arith) (omega (arith, f.0)) w
       ∙ alike d t x (after (InRight l p op k) r t) (after k (OfBinary l p op r) t) (ends_right k l r p op t (omega (arith, f.0)))
+  reads (OfScalar i f v z) d k m t x g h b w =
+      let w' = scalar_less d k i i NoFrom f NoWhere v 0 z (omega arith) (omega arith) w in
+      scalar_reads i d k (froms_tokens f (keep_tokens v (Close z ∷ t ∷ x))) g.0 w'
+      ∙ scalar_froms_read f d i k (keep_tokens v (Close z ∷ t ∷ x)) w'
+      ∙ scalar_keep_reads v d i f k z (t ∷ x) g.1 w
+
+  pub scalar_keep_reads : (v : KeepSyntax) (d : ℕ) (i : ScalarSyntax) (f : FromSyntax) (k : Around) (z : ℕ) (x : List Token) → KeepFits v → Within d (close k (OfScalar i f v z))
+      → run d (keep_tokens v (Close z ∷ x)) (HaveScalar i f k) ≡ run d x (Have (OfScalar i f v z) k)
+  scalar_keep_reads NoWhere d i f k z x g w = next d (HaveScalar i f k) (Have (OfScalar i f NoWhere z) k) (Close z) x refl w
+  scalar_keep_reads (HasWhere p s) d i f k z x g w =
+      let w' = scalar_less d k i i f f (HasWhere p s) (HasWhere p s) 0 z (omega arith) (omega arith) w in
+      next d (HaveScalar i f k) (Want (InScalarWhere p i f k)) (Key p Where) (tokens s (Close z ∷ x)) refl (want_less d (InScalarWhere p i f k) s w')
+      ∙ reads s d (InScalarWhere p i f k) 1 (Close z) x g (omega arith) (omega arith) w'
+      ∙ next d (Have s (InScalarWhere p i f k)) (Have (OfScalar i f (HasWhere p s) z) k) (Close z) x refl w
+
+  pub scalar_reads : (i : ScalarSyntax) (d : ℕ) (k : Around) (x : List Token) → ScalarFits i → Within d (close_scalar i NoFrom k)
+      → run d (scalar_tokens i x) (Want k) ≡ run d x (HaveScalar i NoFrom k)
+  scalar_reads (Counted (OfCount p s c o t z)) d k x g w =
+      let lo = λ (h : ScalarSyntax). λ (e : scalar_depth h ≤ 0). scalar_less d k h (counted p s c o t z) NoFrom NoFrom NoWhere NoWhere 0 0 e (omega arith) w in
+      next d (Want k) (Want (InParen p k)) (Open p) (Key s Select ∷ Key c Count ∷ Open o ∷ Oper t Mul ∷ Close z ∷ x) refl (lo (counted p 0 0 0 0 0) (omega arith))
+      ∙ next d (Want (InParen p k)) (AtScalar p s k) (Key s Select) (Key c Count ∷ Open o ∷ Oper t Mul ∷ Close z ∷ x) refl (lo (counted p s 0 0 0 0) (omega arith))
+      ∙ next d (AtScalar p s k) (AtCount p s c k) (Key c Count) (Open o ∷ Oper t Mul ∷ Close z ∷ x) refl (lo (counted p s c 0 0 0) (omega arith))
+      ∙ next d (AtCount p s c k) (AtCountOpen p s c o k) (Open o) (Oper t Mul ∷ Close z ∷ x) refl (lo (counted p s c o 0 0) (omega arith))
+      ∙ next d (AtCountOpen p s c o k) (AtCountStar p s c o t k) (Oper t Mul) (Close z ∷ x) refl (lo (counted p s c o t 0) (omega arith))
+      ∙ next d (AtCountStar p s c o t k) (HaveScalar (counted p s c o t z) NoFrom k) (Close z) x refl w
+  scalar_reads (Summed (OfSum p s c o u v) e (OfTail z y q r)) d k x g w =
+      let pos = depth_pos e in
+      let h = OfSum p s c o u v in
+      let lo = λ (i : ScalarSyntax). λ (a : scalar_depth i ≤ depth e). scalar_less d k i (Summed h e (OfTail z y q r)) NoFrom NoFrom NoWhere NoWhere 0 0 a (omega arith) w in
+      let x0 = tokens e (Close z ∷ Comma y ∷ Value q (Number 0 1) ∷ Close r ∷ x) in
+      let w1 = lo (Summed h e some_tail) (omega arith) in
+      next d (Want k) (Want (InParen p k)) (Open p) (Key s Select ∷ Key c Coalesce ∷ Open o ∷ Key u Sum ∷ Open v ∷ x0) refl (lo (counted p 0 0 0 0 0) (omega arith))
+      ∙ next d (Want (InParen p k)) (AtScalar p s k) (Key s Select) (Key c Coalesce ∷ Open o ∷ Key u Sum ∷ Open v ∷ x0) refl (lo (counted p s 0 0 0 0) (omega arith))
+      ∙ next d (AtScalar p s k) (AtCoalesce p s c k) (Key c Coalesce) (Open o ∷ Key u Sum ∷ Open v ∷ x0) refl (lo (Summed (OfSum p s c 0 0 0) one some_tail) (omega (arith, pos)))
+      ∙ next d (AtCoalesce p s c k) (AtCoalesceOpen p s c o k) (Open o) (Key u Sum ∷ Open v ∷ x0) refl (lo (Summed (OfSum p s c o 0 0) one some_tail) (omega (arith, pos)))
+      ∙ next d (AtCoalesceOpen p s c o k) (AtSum p s c o u k) (Key u Sum) (Open v ∷ x0) refl (lo (Summed (OfSum p s c o u 0) one some_tail) (omega (arith, pos)))
+      ∙ next d (AtSum p s c o u k) (Want (InSum h k)) (Open v) x0 refl (want_less d (InSum h k) e w1)
+      ∙ reads e d (InSum h k) 1 (Close z) (Comma y ∷ Value q (Number 0 1) ∷ Close r ∷ x) g (omega arith) (omega arith) w1
+      ∙ next d (Have e (InSum h k)) (AtSumClose h e z k) (Close z) (Comma y ∷ Value q (Number 0 1) ∷ Close r ∷ x) refl (lo (Summed h e (OfTail z 0 0 0)) (omega arith))
+      ∙ next d (AtSumClose h e z k) (AtSumComma h e z y k) (Comma y) (Value q (Number 0 1) ∷ Close r ∷ x) refl (lo (Summed h e (OfTail z y 0 0)) (omega arith))
+      ∙ next d (AtSumComma h e z y k) (AtSumZero h e z y q k) (Value q (Number 0 1)) (Close r ∷ x) refl (lo (Summed h e (OfTail z y q 0)) (omega arith))
+      ∙ next d (AtSumZero h e z y q k) (HaveScalar (Summed h e (OfTail z y q r)) NoFrom k) (Close r) x refl w
 
   pub query_reads : (q : QuerySyntax) (d : ℕ) (c : Outside) (t : Token) (x : List Token) → QueryFits q → is_ending t ≡ true → Within d (close_query c q)
       → run d (query_tokens q (t ∷ x)) (WantSelect Fresh c) ≡ turn d t (after_query c q t) (run d x)

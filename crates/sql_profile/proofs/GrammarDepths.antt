@@ -1,7 +1,7 @@
 -- A part that is no deeper makes a whole that is no deeper.
 use Rattle.std.proofs.Common.{◌≡◌, ℕ, ◌≤◌, true, arith, le-leb, leb-true}
-use Rattle.sql_profile.specs.Grammar.{NoFrom, ExprSyntax, OfConstant, OfColumn, OfParens, OfMinus, OfNot, OfNotExists, OfCase, OfBinary, QuerySyntax, OneSelect, MoreSelects, SelectSyntax, OfSelect, NoWhere, HasWhere, ItemSyntax, Plain, Numbering, HasKeys, WithSyntax, OfWith, TextSyntax, depth, selects_depth, choice_depth, items_depth, item_depth, key_list_depth, def_depth, defs_depth, text_depth}
-use Rattle.sql_profile.specs.Machine.{Before, Fresh, Behind, ItemHead, AtSelect, AtComma, KeyHead, AtBy, KeyComma, DefHead, AtWith, DefComma, put_select, put_item, put_key, put_def, Around, InParen, InNeg, InNot, InWhen, InThen, InElse, InRight, InItem, InKey, InWhere, Outside, InMain, InDef, InExists, State, one, named, numbering, close, close_query, close_items, close_want, least, fits}
+use Rattle.sql_profile.specs.Grammar.{NoFrom, ExprSyntax, OfConstant, OfColumn, OfParens, OfMinus, OfNot, OfNotExists, OfCase, OfBinary, QuerySyntax, OneSelect, MoreSelects, SelectSyntax, OfSelect, NoWhere, HasWhere, ItemSyntax, Plain, Numbering, HasKeys, WithSyntax, OfWith, TextSyntax, depth, selects_depth, choice_depth, items_depth, item_depth, key_list_depth, def_depth, defs_depth, text_depth, OfScalar, Summed}
+use Rattle.sql_profile.specs.Machine.{Before, Fresh, Behind, ItemHead, AtSelect, AtComma, KeyHead, AtBy, KeyComma, DefHead, AtWith, DefComma, put_select, put_item, put_key, put_def, Around, InParen, InNeg, InNot, InWhen, InThen, InElse, InRight, InItem, InKey, InWhere, Outside, InMain, InDef, InExists, State, one, named, numbering, close, close_query, close_items, close_want, least, fits, InSum, InScalarWhere, counted, some_tail}
 
 pub item_mono : (h : ItemHead) (i j : ItemSyntax) → item_depth i ≤ item_depth j → items_depth (put_item h i) ≤ items_depth (put_item h j)
 item_mono (AtSelect p) i j e = e
@@ -37,6 +37,8 @@ mutual
       let e = item_mono i v v' (key_mono g s s' h) in
       query_mono c _ _ (select_mono b (OfSelect (put_item i v) NoFrom NoWhere) (OfSelect (put_item i v') NoFrom NoWhere) (omega (arith, e)))
   close_mono (InWhere p i f b c) s s' h = query_mono c _ _ (select_mono b (OfSelect i f (HasWhere p s)) (OfSelect i f (HasWhere p s')) (omega arith))
+  close_mono (InSum h k) s s' e = close_mono k (OfScalar (Summed h s some_tail) NoFrom NoWhere 0) (OfScalar (Summed h s' some_tail) NoFrom NoWhere 0) (omega arith)
+  close_mono (InScalarWhere p h f k) s s' e = close_mono k (OfScalar h f (HasWhere p s) 0) (OfScalar h f (HasWhere p s') 0) (omega arith)
 
   pub query_mono : (c : Outside) (q q' : QuerySyntax) → selects_depth q ≤ selects_depth q' → text_depth (close_query c q) ≤ text_depth (close_query c q')
   query_mono (InMain w) q q' h = omega arith
@@ -52,6 +54,7 @@ depth_pos (OfNot p e) = omega arith
 depth_pos (OfNotExists p e o q c) = omega arith
 depth_pos (OfCase p w t h y e n z) = omega arith
 depth_pos (OfBinary l p op r) = omega arith
+depth_pos (OfScalar h f w z) = omega arith
 
 pub choice_pos : (s : SelectSyntax) → 1 ≤ choice_depth s
 choice_pos (OfSelect i f w) = omega arith
@@ -77,6 +80,7 @@ item_less d h b c i j e w = let m = item_mono h i j e in choice_less d b c (OfSe
 
 pub want_less : (d : ℕ) (k : Around) (s : ExprSyntax) → Within d (close k s) → Within d (close_want k)
 want_less d (InItem h b c) s w = item_less d h b c (named numbering) (named (Plain s)) (omega arith) w
+want_less d (InParen p k) s w = less d k (OfScalar (counted p 0 0 0 0 0) NoFrom NoWhere 0) (OfParens p s 0) (omega arith) w
 want_less d k s w = less d k one s (depth_pos s) w
 
 pub fits_true : (d : ℕ) (st : State) → Within d (least st) → fits d st ≡ true

@@ -1,7 +1,7 @@
 -- No tree is deeper than it has tokens.
 use Rattle.std.proofs.Common.{suc, ◌+◌, ◌≤◌, List, ◌∷◌, length, arith}
-use Rattle.sql_profile.specs.Tokens.{All, As, Close, Comma, Else, Key, Name, Open, Oper, Stop, Then, Token, Union}
-use Rattle.sql_profile.specs.Grammar.{ExprSyntax, FromSyntax, HasFrom, HasKeys, HasSemi, HasWhere, HasWith, ItemsSyntax, KeepSyntax, KeyListSyntax, KeysSyntax, MoreDefs, MoreItems, MoreKeys, MoreSelects, MoreSources, NoFrom, NoKeys, NoSemi, NoWhere, NoWith, Numbering, OfBinary, OfCase, OfColumn, OfConstant, OfItem, OfMinus, OfNot, OfNotExists, OfParens, OfRowNumber, OfSelect, OfSource, OfText, OfWith, OneDef, OneItem, OneKey, OneSelect, OneSource, Plain, QuerySyntax, SelectSyntax, SemicolonSyntax, SourcesSyntax, TextSyntax, ValueSyntax, WithListSyntax, WithsSyntax, choice_depth, choice_tokens, defs_depth, defs_tokens, depth, froms_tokens, held_depth, held_tokens, items_depth, items_tokens, keep_depth, keep_tokens, key_list_depth, key_list_tokens, keys_depth, keys_tokens, query_tokens, selects_depth, semis_tokens, sources_tokens, text_depth, text_tokens, tokens, withs_depth, withs_tokens}
+use Rattle.sql_profile.specs.Tokens.{All, As, Close, Comma, Else, Key, Name, Open, Oper, Stop, Then, Token, Union, Value, Number}
+use Rattle.sql_profile.specs.Grammar.{ExprSyntax, OfScalar, Counted, Summed, OfCount, OfSum, OfTail, FromSyntax, HasFrom, HasKeys, HasSemi, HasWhere, HasWith, ItemsSyntax, KeepSyntax, KeyListSyntax, KeysSyntax, MoreDefs, MoreItems, MoreKeys, MoreSelects, MoreSources, NoFrom, NoKeys, NoSemi, NoWhere, NoWith, Numbering, OfBinary, OfCase, OfColumn, OfConstant, OfItem, OfMinus, OfNot, OfNotExists, OfParens, OfRowNumber, OfSelect, OfSource, OfText, OfWith, OneDef, OneItem, OneKey, OneSelect, OneSource, Plain, QuerySyntax, SelectSyntax, SemicolonSyntax, SourcesSyntax, TextSyntax, ValueSyntax, WithListSyntax, WithsSyntax, choice_depth, choice_tokens, defs_depth, defs_tokens, depth, froms_tokens, held_depth, held_tokens, items_depth, items_tokens, keep_depth, keep_tokens, key_list_depth, key_list_tokens, keys_depth, keys_tokens, query_tokens, selects_depth, semis_tokens, sources_tokens, text_depth, text_tokens, tokens, withs_depth, withs_tokens}
 
 pub froms_tokens_more : (f : FromSyntax) (x : List Token) → length x ≤ length (froms_tokens f x)
 froms_tokens_more NoFrom x = omega arith
@@ -28,6 +28,15 @@ mutual
       let h1 = depth_tokens l (Oper p op ∷ tokens r x) in
       let h2 = depth_tokens r x in
       omega (arith, h1, h2)
+  depth_tokens (OfScalar (Counted (OfCount p s c o t z)) f w y) x =
+      let g = froms_tokens_more f (keep_tokens w (Close y ∷ x)) in
+      let k = keep_depth_tokens w (Close y ∷ x) in
+      omega (arith, g, k)
+  depth_tokens (OfScalar (Summed (OfSum p s c o u v) e (OfTail z m q r)) f w y) x =
+      let h = depth_tokens e (Close z ∷ Comma m ∷ Value q (Number 0 1) ∷ Close r ∷ froms_tokens f (keep_tokens w (Close y ∷ x))) in
+      let g = froms_tokens_more f (keep_tokens w (Close y ∷ x)) in
+      let k = keep_depth_tokens w (Close y ∷ x) in
+      omega (arith, h, g, k)
 
   pub query_depth_tokens : (q : QuerySyntax) (x : List Token) → suc (selects_depth q) + length x ≤ length (query_tokens q x)
   query_depth_tokens (OneSelect s) x = choice_depth_tokens s x

@@ -1,10 +1,10 @@
 -- What the machine has read, and that it can always be completed.
-use Rattle.std.proofs.Common.{◌≡◌, ℕ, ◌≤◌, Bool, true, false, cond, leb, List, [], ◌∷◌, refl, ◌∙◌, ap, arith, Option, Some, None, leb-true}
+use Rattle.std.proofs.Common.{◌≡◌, ℕ, ◌≤◌, Bool, true, false, cond, leb, List, [], ◌∷◌, refl, ◌∙◌, ap, arith, Option, Some, None, leb-true, zero, suc}
 use Rattle.std.proofs.lemmas.Bool.Decides.{nat_tests}
-use Rattle.nq_model.specs.declared.term.Binary.TheVariants.{Sub}
-use Rattle.sql_profile.specs.Tokens.{With, As, Union, All, Select, From, Where, RowNumber, Over, Order, By, Not, Exists, Case, When, Then, Else, Stop, Constant, Token, Value, Name, Key, Oper, Open, Close, Comma, Dot, Semi, End}
-use Rattle.sql_profile.specs.Grammar.{SourceSyntax, OfSource, FromSyntax, NoFrom, HasFrom, NumberingHead, OfRowNumber, ExprSyntax, OfConstant, OfColumn, OfParens, OfMinus, OfNot, OfNotExists, OfCase, OfBinary, QuerySyntax, MoreSelects, SelectSyntax, OfSelect, NoWhere, HasWhere, ItemsSyntax, ItemSyntax, OfItem, Plain, Numbering, NoKeys, HasKeys, KeyListSyntax, OneKey, WithSyntax, OfWith, NoWith, HasWith, source_tokens, sources_tokens, froms_tokens, row_tokens, tokens, query_tokens, choice_tokens, items_tokens, item_tokens, held_tokens, key_list_tokens, def_tokens, defs_tokens, withs_tokens, text_tokens, level, left_level, Fits, QueryFits, ChoiceFits, ItemsFit, ItemFits, HeldFits, KeyListFits, DefFits, DefsFit, WithsFit, TextFits}
-use Rattle.sql_profile.specs.Machine.{Before, Fresh, Behind, ItemHead, AtSelect, AtComma, KeyHead, AtBy, KeyComma, SourceHead, AtFrom, SourceComma, DefHead, AtWith, DefComma, put_select, put_item, put_key, put_source, put_def, Around, InParen, InNeg, InNot, InWhen, InThen, InElse, InRight, InItem, InKey, InWhere, Outside, InMain, InDef, InExists, State, AtDef, AtDefName, AtDefAs, WantSelect, AtUnion, Want, AtName, AtDot, AtCase, AtExists, Have, AtRow, AtRowOpen, AtRowClose, AtOver, InOver, AtOrder, AtHeld, AtAs, HaveItems, AtSource, AtSourceName, AtSourceAs, AtSemi, Ready, asks, binds, level_of, after_query, after_key, shift, after, start, start_select, after_items, step, one, some_name, named, numbering, some_select, some_query, close, close_query, close_items, close_want, least}
+use Rattle.nq_model.specs.declared.term.Binary.TheVariants.{Sub, Mul}
+use Rattle.sql_profile.specs.Tokens.{With, As, Union, All, Select, From, Where, RowNumber, Over, Order, By, Not, Exists, Case, When, Then, Else, Stop, Constant, Token, Value, Name, Key, Oper, Open, Close, Comma, Dot, Semi, End, Count, Sum, Coalesce, Number}
+use Rattle.sql_profile.specs.Grammar.{SourceSyntax, OfSource, FromSyntax, NoFrom, HasFrom, NumberingHead, OfRowNumber, ExprSyntax, OfConstant, OfColumn, OfParens, OfMinus, OfNot, OfNotExists, OfCase, OfBinary, QuerySyntax, MoreSelects, SelectSyntax, OfSelect, NoWhere, HasWhere, ItemsSyntax, ItemSyntax, OfItem, Plain, Numbering, NoKeys, HasKeys, KeyListSyntax, OneKey, WithSyntax, OfWith, NoWith, HasWith, source_tokens, sources_tokens, froms_tokens, row_tokens, tokens, query_tokens, choice_tokens, items_tokens, item_tokens, held_tokens, key_list_tokens, def_tokens, defs_tokens, withs_tokens, text_tokens, level, left_level, Fits, QueryFits, ChoiceFits, ItemsFit, ItemFits, HeldFits, KeyListFits, DefFits, DefsFit, WithsFit, TextFits, OfScalar, ScalarSyntax, Summed, OfSum, OfTail, sum_tokens, tail_tokens, scalar_tokens, ScalarFits}
+use Rattle.sql_profile.specs.Machine.{Before, Fresh, Behind, ItemHead, AtSelect, AtComma, KeyHead, AtBy, KeyComma, SourceHead, AtFrom, SourceComma, DefHead, AtWith, DefComma, put_select, put_item, put_key, put_source, put_def, Around, InParen, InNeg, InNot, InWhen, InThen, InElse, InRight, InItem, InKey, InWhere, Outside, InMain, InDef, InExists, State, AtDef, AtDefName, AtDefAs, WantSelect, AtUnion, Want, AtName, AtDot, AtCase, AtExists, Have, AtRow, AtRowOpen, AtRowClose, AtOver, InOver, AtOrder, AtHeld, AtAs, HaveItems, AtSource, AtSourceName, AtSourceAs, AtSemi, Ready, asks, binds, level_of, after_query, after_key, shift, after, start, start_select, after_items, step, one, some_name, named, numbering, some_select, some_query, close, close_query, close_items, close_want, least, InSum, InScalarWhere, AtScalar, AtCount, AtCountOpen, AtCountStar, AtCoalesce, AtCoalesceOpen, AtSum, AtSumClose, AtSumComma, AtSumZero, HaveScalar, AtScalarSource, AtScalarSourceName, AtScalarSourceAs, counted, some_tail, close_scalar, after_scalar}
 use Rattle.sql_profile.proofs.GrammarComplete.{levels}
 
 -- What was read of an unfinished form, and then x.
@@ -60,6 +60,8 @@ abbrev mutual
   shown (InItem h b c) x = shown_query c (before_tokens b (item_head_tokens h x))
   shown (InKey g r h b c) x = shown_query c (before_tokens b (item_head_tokens h (row_tokens r (key_head_tokens g x))))
   shown (InWhere p i f b c) x = shown_query c (before_tokens b (items_tokens i (froms_tokens f (Key p Where ∷ x))))
+  shown (InSum h k) x = shown k (sum_tokens h x)
+  shown (InScalarWhere p h f k) x = shown k (scalar_tokens h (froms_tokens f (Key p Where ∷ x)))
 
   pub shown_query : Outside → List Token → List Token
   shown_query (InMain w) x = withs_tokens w x
@@ -98,6 +100,20 @@ read (AtSource h i b c) x = shown_items b c (items_tokens i (source_head_tokens 
 read (AtSourceName h p t i b c) x = shown_items b c (items_tokens i (source_head_tokens h (Name p t ∷ x)))
 read (AtSourceAs h p t a i b c) x = shown_items b c (items_tokens i (source_head_tokens h (Name p t ∷ Key a As ∷ x)))
 read (AtSemi w q p) x = withs_tokens w (query_tokens q (Semi p ∷ x))
+read (AtScalar p s k) x = shown k (Open p ∷ Key s Select ∷ x)
+read (AtCount p s c k) x = shown k (Open p ∷ Key s Select ∷ Key c Count ∷ x)
+read (AtCountOpen p s c o k) x = shown k (Open p ∷ Key s Select ∷ Key c Count ∷ Open o ∷ x)
+read (AtCountStar p s c o t k) x = shown k (Open p ∷ Key s Select ∷ Key c Count ∷ Open o ∷ Oper t Mul ∷ x)
+read (AtCoalesce p s c k) x = shown k (Open p ∷ Key s Select ∷ Key c Coalesce ∷ x)
+read (AtCoalesceOpen p s c o k) x = shown k (Open p ∷ Key s Select ∷ Key c Coalesce ∷ Open o ∷ x)
+read (AtSum p s c o u k) x = shown k (Open p ∷ Key s Select ∷ Key c Coalesce ∷ Open o ∷ Key u Sum ∷ x)
+read (AtSumClose h e z k) x = shown k (sum_tokens h (tokens e (Close z ∷ x)))
+read (AtSumComma h e z c k) x = shown k (sum_tokens h (tokens e (Close z ∷ Comma c ∷ x)))
+read (AtSumZero h e z c q k) x = shown k (sum_tokens h (tokens e (Close z ∷ Comma c ∷ Value q (Number 0 1) ∷ x)))
+read (HaveScalar h f k) x = shown k (scalar_tokens h (froms_tokens f x))
+read (AtScalarSource i h k) x = shown k (scalar_tokens h (source_head_tokens i x))
+read (AtScalarSourceName i p t h k) x = shown k (scalar_tokens h (source_head_tokens i (Name p t ∷ x)))
+read (AtScalarSourceAs i p t a h k) x = shown k (scalar_tokens h (source_head_tokens i (Name p t ∷ Key a As ∷ x)))
 read (Ready s q) x = text_tokens s (End q ∷ x)
 
 -- What stands in unfinished forms fits.
@@ -129,6 +145,8 @@ abbrev mutual
   AroundFits (InItem h b c) = ItemHeadFits h × BeforeFits b × OutsideFits c
   AroundFits (InKey g r h b c) = KeyHeadFits g × ItemHeadFits h × BeforeFits b × OutsideFits c
   AroundFits (InWhere p i f b c) = ItemsFit i × BeforeFits b × OutsideFits c
+  AroundFits (InSum h k) = AroundFits k
+  AroundFits (InScalarWhere p h f k) = ScalarFits h × AroundFits k
 
   pub OutsideFits : Outside → Type 0
   OutsideFits (InMain w) = WithsFit w
@@ -164,6 +182,20 @@ IsGood (AtSource h i b c) = ItemsFit i × BeforeFits b × OutsideFits c
 IsGood (AtSourceName h p t i b c) = ItemsFit i × BeforeFits b × OutsideFits c
 IsGood (AtSourceAs h p t a i b c) = ItemsFit i × BeforeFits b × OutsideFits c
 IsGood (AtSemi w q p) = WithsFit w × QueryFits q
+IsGood (AtScalar p s k) = AroundFits k
+IsGood (AtCount p s c k) = AroundFits k
+IsGood (AtCountOpen p s c o k) = AroundFits k
+IsGood (AtCountStar p s c o t k) = AroundFits k
+IsGood (AtCoalesce p s c k) = AroundFits k
+IsGood (AtCoalesceOpen p s c o k) = AroundFits k
+IsGood (AtSum p s c o u k) = AroundFits k
+IsGood (AtSumClose h e z k) = Fits 1 e × AroundFits k
+IsGood (AtSumComma h e z c k) = Fits 1 e × AroundFits k
+IsGood (AtSumZero h e z c q k) = Fits 1 e × AroundFits k
+IsGood (HaveScalar h f k) = ScalarFits h × AroundFits k
+IsGood (AtScalarSource i h k) = ScalarFits h × AroundFits k
+IsGood (AtScalarSourceName i p t h k) = ScalarFits h × AroundFits k
+IsGood (AtScalarSourceAs i p t a h k) = ScalarFits h × AroundFits k
 IsGood (Ready s q) = TextFits s
 
 pub put_select_fits : (b : Before) (s : SelectSyntax) → BeforeFits b → ChoiceFits s → QueryFits (put_select b s)
@@ -217,6 +249,7 @@ raise (OfNot p e) n m f h = (h, f.1)
 raise (OfNotExists p e o q c) n m f h = (h, f.1)
 raise (OfCase p w t i y e z l) n m f h = f
 raise (OfBinary l p op r) n m f h = (h, f.1, f.2)
+raise (OfScalar i v w z) n m f h = f
 
 -- Each step takes the token, and keeps that all fits.
 pub query_goes : (c : Outside) (q : QuerySyntax) (t : Token) → OutsideFits c → QueryFits q → Holds (after_query c q t) (GoesTo (λ x. shown_query c (query_tokens q (t ∷ x))))
@@ -251,6 +284,8 @@ shift_goes (InParen p k) s (Close q) h f g = record { good = (f, g); same = λ x
 shift_goes (InWhen p w k) s (Key i Then) h f g = record { good = (f, g); same = λ x. refl }
 shift_goes (InThen p w t i k) s (Key e Else) h f g = record { good = (g.0, f, g.1); same = λ x. refl }
 shift_goes (InElse p w t i y e k) s (Key z Stop) h f g = record { good = ((g.0, g.1, f), g.2); same = λ x. refl }
+shift_goes (InSum i k) s (Close z) h f g = record { good = (f, g); same = λ x. refl }
+shift_goes (InScalarWhere p i v k) s (Close z) h f g = record { good = ((g.0, f), g.1); same = λ x. refl }
 shift_goes (InItem i b c) s (Key a As) h f g = record { good = (f, g); same = λ x. refl }
 shift_goes (InKey i r j b c) s t h f g =
     moved (after_key (put_key i s) r j b c t) (λ x. shown_item j b c (row_tokens r (key_list_tokens (put_key i s) (t ∷ x)))) _
@@ -274,6 +309,8 @@ after_goes (InParen p k) s t f g = shift_goes (InParen p k) s t (λ h. h) f g
 after_goes (InWhen p w k) s t f g = shift_goes (InWhen p w k) s t (λ h. h) f g
 after_goes (InThen p w y i k) s t f g = shift_goes (InThen p w y i k) s t (λ h. h) f g
 after_goes (InElse p w y i z e k) s t f g = shift_goes (InElse p w y i z e k) s t (λ h. h) f g
+after_goes (InSum i k) s t f g = shift_goes (InSum i k) s t (λ h. h) f g
+after_goes (InScalarWhere p i v k) s t f g = shift_goes (InScalarWhere p i v k) s t (λ h. h) f g
 after_goes (InItem i b c) s t f g = shift_goes (InItem i b c) s t (λ h. h) f g
 after_goes (InKey i r j b c) s t f g = shift_goes (InKey i r j b c) s t (λ h. h) f g
 after_goes (InWhere p i v b c) s t f g = shift_goes (InWhere p i v b c) s t (λ h. h) f g
@@ -289,6 +326,7 @@ start_goes k (Oper p Sub) g = record { good = g; same = λ x. refl }
 start_goes k (Key p Case) g = record { good = g; same = λ x. refl }
 start_goes k (Key p Not) g = then_if (leb (asks k) 3) (Want (InNot p k)) _ (λ e. record { good = (leb-true _ _ e, g); same = λ x. refl })
 start_goes (InNot p k) (Key e Exists) g = record { good = g; same = λ x. refl }
+start_goes (InParen p k) (Key s Select) g = record { good = g; same = λ x. refl }
 start_goes (InItem h b c) (Key r RowNumber) g = record { good = g; same = λ x. refl }
 start_goes k t g = tt
 
@@ -305,6 +343,13 @@ items_goes i NoFrom b c (Comma p) f g g' = record { good = (f, g, g'); same = λ
 items_goes i NoFrom b c (Key p From) f g g' = record { good = (f, g, g'); same = λ x. refl }
 items_goes i (HasFrom ss) b c (Comma p) f g g' = record { good = (f, g, g'); same = λ x. refl }
 items_goes i v b c t f g g' = choice_goes (OfSelect i v NoWhere) b c t (f, tt) g g'
+
+pub scalar_goes : (h : ScalarSyntax) (f : FromSyntax) (k : Around) (t : Token) → ScalarFits h → AroundFits k → Holds (after_scalar h f k t) (GoesTo (λ x. shown k (scalar_tokens h (froms_tokens f (t ∷ x)))))
+scalar_goes h f k (Key p Where) a g = record { good = (a, g); same = λ x. refl }
+scalar_goes h f k (Close z) a g = record { good = ((a, tt), g); same = λ x. refl }
+scalar_goes h NoFrom k (Key p From) a g = record { good = (a, g); same = λ x. refl }
+scalar_goes h (HasFrom ss) k (Comma p) a g = record { good = (a, g); same = λ x. refl }
+scalar_goes h f k t a g = tt
 
 pub goes : (st : State) (t : Token) → IsGood st → Holds (step st t) (GoesTo (λ x. read st (t ∷ x)))
 goes (AtDef h) (Name p n) g = record { good = g; same = λ x. refl }
@@ -333,6 +378,21 @@ goes (AtSource h i b c) (Name p t) g = record { good = g; same = λ x. refl }
 goes (AtSourceName h p t i b c) (Key a As) g = record { good = g; same = λ x. refl }
 goes (AtSourceAs h p t a i b c) (Name q n) g =
     record { good = g; same = λ x. ap (λ z. shown_items b c (items_tokens i z)) (put_source_tokens h (OfSource p t a q n) x) }
+goes (AtScalar p s k) (Key c Count) g = record { good = g; same = λ x. refl }
+goes (AtScalar p s k) (Key c Coalesce) g = record { good = g; same = λ x. refl }
+goes (AtCount p s c k) (Open o) g = record { good = g; same = λ x. refl }
+goes (AtCountOpen p s c o k) (Oper t Mul) g = record { good = g; same = λ x. refl }
+goes (AtCountStar p s c o t k) (Close z) g = record { good = (tt, g); same = λ x. refl }
+goes (AtCoalesce p s c k) (Open o) g = record { good = g; same = λ x. refl }
+goes (AtCoalesceOpen p s c o k) (Key u Sum) g = record { good = g; same = λ x. refl }
+goes (AtSum p s c o u k) (Open v) g = record { good = g; same = λ x. refl }
+goes (AtSumClose h e z k) (Comma c) g = record { good = g; same = λ x. refl }
+goes (AtSumComma h e z c k) (Value q (Number zero (suc zero))) g = record { good = g; same = λ x. refl }
+goes (AtSumZero h e z c q k) (Close r) g = record { good = g; same = λ x. refl }
+goes (HaveScalar h f k) t g = scalar_goes h f k t g.0 g.1
+goes (AtScalarSource i h k) (Name p t) g = record { good = g; same = λ x. refl }
+goes (AtScalarSourceName i p t h k) (Key a As) g = record { good = g; same = λ x. refl }
+goes (AtScalarSourceAs i p t a h k) (Name q n) g = record { good = g; same = λ x. ap (λ z. shown k (scalar_tokens h z)) (put_source_tokens i (OfSource p t a q n) x) }
 goes (AtSemi w q p) (End e) g = record { good = g; same = λ x. refl }
 goes st t g = tt
 
@@ -349,6 +409,8 @@ abbrev mutual
   missing (InItem h b c) x = Key 0 As ∷ Name 0 some_name ∷ missing_query c x
   missing (InKey g r h b c) x = Close 0 ∷ Key 0 As ∷ Name 0 some_name ∷ missing_query c x
   missing (InWhere p i f b c) x = missing_query c x
+  missing (InSum h k) x = tail_tokens some_tail (Close 0 ∷ missing k x)
+  missing (InScalarWhere p h f k) x = Close 0 ∷ missing k x
 
   pub missing_query : Outside → List Token → List Token
   missing_query (InMain w) x = x
@@ -379,6 +441,8 @@ mutual
   closed (InWhere p i f b c) s x =
       query_closed c (put_select b (OfSelect i f (HasWhere p s))) x
       ∙ ap (λ z. shown_query c z) (put_select_tokens b (OfSelect i f (HasWhere p s)) (missing_query c x))
+  closed (InSum h k) s x = closed k (OfScalar (Summed h s some_tail) NoFrom NoWhere 0) x
+  closed (InScalarWhere p h f k) s x = closed k (OfScalar h f (HasWhere p s) 0) x
 
   pub query_closed : (c : Outside) (q : QuerySyntax) (x : List Token) → text_tokens (close_query c q) x ≡ shown_query c (query_tokens q (missing_query c x))
   query_closed (InMain w) q x = refl
@@ -403,6 +467,8 @@ mutual
       let v = named (Numbering r (HasKeys (put_key i s)) 0) in
       query_closed_fits c (put_select b (OfSelect (put_item h v) NoFrom NoWhere)) g.3 (put_select_fits b (OfSelect (put_item h v) NoFrom NoWhere) g.2 (put_item_fits h v g.1 (put_key_fits i s g.0 f), tt))
   closed_fits (InWhere p i v b c) s g f = query_closed_fits c (put_select b (OfSelect i v (HasWhere p s))) g.2 (put_select_fits b (OfSelect i v (HasWhere p s)) g.1 (g.0, f))
+  closed_fits (InSum h k) s g f = closed_fits k (OfScalar (Summed h s some_tail) NoFrom NoWhere 0) g (f, tt)
+  closed_fits (InScalarWhere p h v k) s g f = closed_fits k (OfScalar h v (HasWhere p s) 0) g.1 (g.0, f)
 
   pub query_closed_fits : (c : Outside) (q : QuerySyntax) → OutsideFits c → QueryFits q → TextFits (close_query c q)
   query_closed_fits (InMain w) q g f = (g, f)
@@ -421,6 +487,7 @@ last_defs = query_tokens some_query (Close 0 ∷ query_tokens some_query (End 0 
 
 abbrev pub want_left : Around → List Token
 want_left (InItem h b c) = held_tokens numbering (as_name c)
+want_left (InParen p k) = Key 0 Select ∷ Key 0 Count ∷ Open 0 ∷ Oper 0 Mul ∷ Close 0 ∷ Close 0 ∷ missing k (End 0 ∷ [])
 want_left k = tokens one (missing k (End 0 ∷ []))
 
 abbrev pub left : State → List Token
@@ -448,6 +515,20 @@ left (AtSource h i b c) = Name 0 some_name ∷ Key 0 As ∷ Name 0 some_name ∷
 left (AtSourceName h p t i b c) = Key 0 As ∷ Name 0 some_name ∷ last c
 left (AtSourceAs h p t a i b c) = Name 0 some_name ∷ last c
 left (AtSemi w q p) = End 0 ∷ []
+left (AtScalar p s k) = Key 0 Count ∷ Open 0 ∷ Oper 0 Mul ∷ Close 0 ∷ Close 0 ∷ missing k (End 0 ∷ [])
+left (AtCount p s c k) = Open 0 ∷ Oper 0 Mul ∷ Close 0 ∷ Close 0 ∷ missing k (End 0 ∷ [])
+left (AtCountOpen p s c o k) = Oper 0 Mul ∷ Close 0 ∷ Close 0 ∷ missing k (End 0 ∷ [])
+left (AtCountStar p s c o t k) = Close 0 ∷ Close 0 ∷ missing k (End 0 ∷ [])
+left (AtCoalesce p s c k) = Open 0 ∷ Key 0 Sum ∷ Open 0 ∷ tokens one (tail_tokens some_tail (Close 0 ∷ missing k (End 0 ∷ [])))
+left (AtCoalesceOpen p s c o k) = Key 0 Sum ∷ Open 0 ∷ tokens one (tail_tokens some_tail (Close 0 ∷ missing k (End 0 ∷ [])))
+left (AtSum p s c o u k) = Open 0 ∷ tokens one (tail_tokens some_tail (Close 0 ∷ missing k (End 0 ∷ [])))
+left (AtSumClose h e z k) = Comma 0 ∷ Value 0 (Number 0 1) ∷ Close 0 ∷ Close 0 ∷ missing k (End 0 ∷ [])
+left (AtSumComma h e z c k) = Value 0 (Number 0 1) ∷ Close 0 ∷ Close 0 ∷ missing k (End 0 ∷ [])
+left (AtSumZero h e z c q k) = Close 0 ∷ Close 0 ∷ missing k (End 0 ∷ [])
+left (HaveScalar h f k) = Close 0 ∷ missing k (End 0 ∷ [])
+left (AtScalarSource i h k) = Name 0 some_name ∷ Key 0 As ∷ Name 0 some_name ∷ Close 0 ∷ missing k (End 0 ∷ [])
+left (AtScalarSourceName i p t h k) = Key 0 As ∷ Name 0 some_name ∷ Close 0 ∷ missing k (End 0 ∷ [])
+left (AtScalarSourceAs i p t a h k) = Name 0 some_name ∷ Close 0 ∷ missing k (End 0 ∷ [])
 left (Ready s q) = []
 
 abbrev pub end_place : State → ℕ
@@ -467,7 +548,15 @@ source_filled s h i b c = items_filled i (HasFrom (put_source h s)) b c ∙ ap (
 
 pub want_filled : (k : Around) → text_tokens (close_want k) (End 0 ∷ []) ≡ shown k (want_left k)
 want_filled (InItem h b c) = item_filled (named numbering) h b c
+want_filled (InParen p k) = closed k (OfScalar (counted p 0 0 0 0 0) NoFrom NoWhere 0) (End 0 ∷ [])
 want_filled k = closed k one (End 0 ∷ [])
+
+pub scalar_filled : (h : ScalarSyntax) (f : FromSyntax) (k : Around) → text_tokens (close_scalar h f k) (End 0 ∷ []) ≡ shown k (scalar_tokens h (froms_tokens f (Close 0 ∷ missing k (End 0 ∷ []))))
+scalar_filled h f k = closed k (OfScalar h f NoWhere 0) (End 0 ∷ [])
+
+pub scalar_source_filled : (s : SourceSyntax) (i : SourceHead) (h : ScalarSyntax) (k : Around)
+    → text_tokens (close_scalar h (HasFrom (put_source i s)) k) (End 0 ∷ []) ≡ shown k (scalar_tokens h (source_head_tokens i (source_tokens s (Close 0 ∷ missing k (End 0 ∷ [])))))
+scalar_source_filled s i h k = scalar_filled h (HasFrom (put_source i s)) k ∙ ap (λ z. shown k (scalar_tokens h z)) (put_source_tokens i s (Close 0 ∷ missing k (End 0 ∷ [])))
 
 pub filled : (st : State) → text_tokens (least st) (End (end_place st) ∷ []) ≡ read st (left st)
 filled (AtDef h) = put_def_tokens h (OfWith 0 some_name 0 0 some_query 0) (query_tokens some_query (End 0 ∷ []))
@@ -494,6 +583,20 @@ filled (AtSource h i b c) = source_filled (OfSource 0 some_name 0 0 some_name) h
 filled (AtSourceName h p t i b c) = source_filled (OfSource p t 0 0 some_name) h i b c
 filled (AtSourceAs h p t a i b c) = source_filled (OfSource p t a 0 some_name) h i b c
 filled (AtSemi w q p) = refl
+filled (AtScalar p s k) = scalar_filled (counted p s 0 0 0 0) NoFrom k
+filled (AtCount p s c k) = scalar_filled (counted p s c 0 0 0) NoFrom k
+filled (AtCountOpen p s c o k) = scalar_filled (counted p s c o 0 0) NoFrom k
+filled (AtCountStar p s c o t k) = scalar_filled (counted p s c o t 0) NoFrom k
+filled (AtCoalesce p s c k) = scalar_filled (Summed (OfSum p s c 0 0 0) one some_tail) NoFrom k
+filled (AtCoalesceOpen p s c o k) = scalar_filled (Summed (OfSum p s c o 0 0) one some_tail) NoFrom k
+filled (AtSum p s c o u k) = scalar_filled (Summed (OfSum p s c o u 0) one some_tail) NoFrom k
+filled (AtSumClose h e z k) = scalar_filled (Summed h e (OfTail z 0 0 0)) NoFrom k
+filled (AtSumComma h e z c k) = scalar_filled (Summed h e (OfTail z c 0 0)) NoFrom k
+filled (AtSumZero h e z c q k) = scalar_filled (Summed h e (OfTail z c q 0)) NoFrom k
+filled (HaveScalar h f k) = scalar_filled h f k
+filled (AtScalarSource i h k) = scalar_source_filled (OfSource 0 some_name 0 0 some_name) i h k
+filled (AtScalarSourceName i p t h k) = scalar_source_filled (OfSource p t 0 0 some_name) i h k
+filled (AtScalarSourceAs i p t a h k) = scalar_source_filled (OfSource p t a 0 some_name) i h k
 filled (Ready s q) = refl
 
 pub items_fit : (i : ItemsSyntax) (f : FromSyntax) (b : Before) (c : Outside) → ItemsFit i → BeforeFits b → OutsideFits c → TextFits (close_items i f b c)
@@ -504,6 +607,7 @@ item_fits i h b c f g = items_fit (put_item h i) NoFrom b c (put_item_fits h i g
 
 pub want_fits : (k : Around) → AroundFits k → TextFits (close_want k)
 want_fits (InItem h b c) g = item_fits (named numbering) h b c tt g
+want_fits (InParen p k) g = closed_fits k (OfScalar (counted p 0 0 0 0 0) NoFrom NoWhere 0) g (tt, tt)
 want_fits k g = closed_fits k one g tt
 
 pub least_fits : (st : State) → IsGood st → TextFits (least st)
@@ -531,4 +635,18 @@ least_fits (AtSource h i b c) g = items_fit i (HasFrom (put_source h (OfSource 0
 least_fits (AtSourceName h p t i b c) g = items_fit i (HasFrom (put_source h (OfSource p t 0 0 some_name))) b c g.0 g.1 g.2
 least_fits (AtSourceAs h p t a i b c) g = items_fit i (HasFrom (put_source h (OfSource p t a 0 some_name))) b c g.0 g.1 g.2
 least_fits (AtSemi w q p) g = g
+least_fits (AtScalar p s k) g = closed_fits k (OfScalar (counted p s 0 0 0 0) NoFrom NoWhere 0) g (tt, tt)
+least_fits (AtCount p s c k) g = closed_fits k (OfScalar (counted p s c 0 0 0) NoFrom NoWhere 0) g (tt, tt)
+least_fits (AtCountOpen p s c o k) g = closed_fits k (OfScalar (counted p s c o 0 0) NoFrom NoWhere 0) g (tt, tt)
+least_fits (AtCountStar p s c o t k) g = closed_fits k (OfScalar (counted p s c o t 0) NoFrom NoWhere 0) g (tt, tt)
+least_fits (AtCoalesce p s c k) g = closed_fits k (OfScalar (Summed (OfSum p s c 0 0 0) one some_tail) NoFrom NoWhere 0) g (tt, tt)
+least_fits (AtCoalesceOpen p s c o k) g = closed_fits k (OfScalar (Summed (OfSum p s c o 0 0) one some_tail) NoFrom NoWhere 0) g (tt, tt)
+least_fits (AtSum p s c o u k) g = closed_fits k (OfScalar (Summed (OfSum p s c o u 0) one some_tail) NoFrom NoWhere 0) g (tt, tt)
+least_fits (AtSumClose h e z k) g = closed_fits k (OfScalar (Summed h e (OfTail z 0 0 0)) NoFrom NoWhere 0) g.1 (g.0, tt)
+least_fits (AtSumComma h e z c k) g = closed_fits k (OfScalar (Summed h e (OfTail z c 0 0)) NoFrom NoWhere 0) g.1 (g.0, tt)
+least_fits (AtSumZero h e z c q k) g = closed_fits k (OfScalar (Summed h e (OfTail z c q 0)) NoFrom NoWhere 0) g.1 (g.0, tt)
+least_fits (HaveScalar h f k) g = closed_fits k (OfScalar h f NoWhere 0) g.1 (g.0, tt)
+least_fits (AtScalarSource i h k) g = closed_fits k (OfScalar h (HasFrom (put_source i (OfSource 0 some_name 0 0 some_name))) NoWhere 0) g.1 (g.0, tt)
+least_fits (AtScalarSourceName i p t h k) g = closed_fits k (OfScalar h (HasFrom (put_source i (OfSource p t 0 0 some_name))) NoWhere 0) g.1 (g.0, tt)
+least_fits (AtScalarSourceAs i p t a h k) g = closed_fits k (OfScalar h (HasFrom (put_source i (OfSource p t a 0 some_name))) NoWhere 0) g.1 (g.0, tt)
 least_fits (Ready s q) g = g

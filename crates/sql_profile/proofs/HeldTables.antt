@@ -1,7 +1,6 @@
 -- The tables that are loaded of a schema.
-use Rattle.std.proofs.Common.{◌≡◌, ℕ, suc, List, [], ◌∷◌, length, map, refl, ap, arith}
+use Rattle.std.proofs.Common.{◌≡◌, List, [], ◌∷◌, length, map, refl, ap, arith}
 use Rattle.nq_model.specs.Databases.{FilledTable, database, filled}
-use Rattle.nq_model.specs.Tables.{Columns}
 use Rattle.nq_model.specs.declared.table.Cell.{Cell}
 use Rattle.nq_model.specs.declared.table.TableShape.{TableShape}
 use Rattle.sql_profile.specs.Scope.{Shapes, shapes_of, shapes_of_schema}

@@ -2,7 +2,8 @@
 use Rattle.std.proofs.Common.{◌≡◌, ℕ, List, [], ◌∷◌, ◌++◌, codes, refl, sym, ap, ◌∙◌, append_assoc, append-nil}
 use Rattle.std.specs.Fmt.{signed_decimal}
 use Rattle.nq_model.specs.Canonical.{doubled_quotes}
-use Rattle.sql_profile.specs.Trees.{SourceTree, ExprTree, int, bool, text, column, unary, binary, choose, not_exists, ExprTrees, no_expr, then_expr, QueryTree, no_select, then_select, SelectTree, select, KeepTree, keep_all, keep_if, ItemTrees, no_item, then_item, ValueTree, plain, number, WithTree, SqlTree}
+use Rattle.nq_model.specs.Totals.{HowMany, SumOf}
+use Rattle.sql_profile.specs.Trees.{SourceTree, ExprTree, int, bool, text, column, unary, binary, choose, not_exists, total, ExprTrees, no_expr, then_expr, QueryTree, no_select, then_select, SelectTree, select, KeepTree, keep_all, keep_if, ItemTrees, no_item, then_item, ValueTree, plain, number, WithTree, SqlTree}
 use Rattle.sql_profile.specs.Printed.{truth, before_operand, between_operands, printed_source, more_sources, printed_from, printed_expr, printed_query, more_selects, printed_select, printed_keep, printed_items, more_items, printed_value, printed_keys, more_keys, printed_with, more_withs, printed_withs, printed}
 
 -- a name in quotes
@@ -30,6 +31,8 @@ abbrev mutual
   expr_then (binary op l r) x = 40 ∷ expr_then l (between_operands op ++ expr_then r (41 ∷ x))
   expr_then (choose t y n) x = codes "CASE WHEN " ++ expr_then t (codes " THEN " ++ expr_then y (codes " ELSE " ++ expr_then n (codes " END" ++ x)))
   expr_then (not_exists q) x = codes "(NOT EXISTS (" ++ query_then q (41 ∷ 41 ∷ x)
+  expr_then (total HowMany from keep e) x = codes "(SELECT COUNT(*)" ++ from_then from (keep_then keep (41 ∷ x))
+  expr_then (total SumOf from keep e) x = codes "(SELECT COALESCE(SUM(" ++ expr_then e (codes "), 0)" ++ from_then from (keep_then keep (41 ∷ x)))
 
   pub query_then : QueryTree → List ℕ → List ℕ
   query_then no_select x = x
@@ -114,6 +117,11 @@ mutual
       ∙ expr_laid y (codes " ELSE " ++ expr_then n (codes " END" ++ x)))
       ∙ expr_laid t (codes " THEN " ++ expr_then y (codes " ELSE " ++ expr_then n (codes " END" ++ x))))
   expr_laid (not_exists q) x = ap (λ (z : List ℕ). codes "(NOT EXISTS (" ++ z) (append_assoc (printed_query q) (codes "))") x ∙ query_laid q (41 ∷ 41 ∷ x))
+  expr_laid (total HowMany from keep e) x = ap (λ (z : List ℕ). codes "(SELECT COUNT(*)" ++ z) (append_assoc (printed_from from) (printed_keep keep ++ codes ")") x ∙ ap (λ (z : List ℕ). printed_from from ++ z) (append_assoc (printed_keep keep) (codes ")") x ∙ keep_laid keep (41 ∷ x)) ∙ from_laid from (keep_then keep (41 ∷ x)))
+  expr_laid (total SumOf from keep e) x =
+      ap (λ (z : List ℕ). codes "(SELECT COALESCE(SUM(" ++ z) (append_assoc (printed_expr e) (codes "), 0)" ++ (printed_from from ++ (printed_keep keep ++ codes ")"))) x
+      ∙ ap (λ (z : List ℕ). printed_expr e ++ (codes "), 0)" ++ z)) (append_assoc (printed_from from) (printed_keep keep ++ codes ")") x ∙ ap (λ (z : List ℕ). printed_from from ++ z) (append_assoc (printed_keep keep) (codes ")") x ∙ keep_laid keep (41 ∷ x)) ∙ from_laid from (keep_then keep (41 ∷ x)))
+      ∙ expr_laid e (codes "), 0)" ++ from_then from (keep_then keep (41 ∷ x))))
 
   pub query_laid : (q : QueryTree) (x : List ℕ) → printed_query q ++ x ≡ query_then q x
   query_laid no_select x = refl

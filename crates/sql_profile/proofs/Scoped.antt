@@ -5,7 +5,7 @@ use Rattle.nq_model.specs.Tables.{Columns, types_of}
 use Rattle.nq_model.specs.declared.table.ColumnType.{ColumnType}
 use Rattle.nq_model.specs.declared.table.ColumnType.TheVariants.{Int, Bool as Truth, Text}
 use Rattle.sql_profile.specs.declared.tree.Source.{Source}
-use Rattle.sql_profile.specs.Trees.{bare_source, bare_expr, bare_exprs, bare_query, bare_select, bare_keep, bare_items, bare_value, bare_with, bare, PlacedExpr, int_at, bool_at, text_at, column_at, unary_at, binary_at, choose_at, not_exists_at, PlacedExprs, none_at, then_at, PlacedQuery, no_select_at, then_select_at, PlacedSelect, select_at, PlacedKeep, keep_all_at, keep_if_at, PlacedItems, no_item_at, then_item_at, item_at, PlacedValue, plain_at, number_at, PlacedWith, PlacedSql}
+use Rattle.sql_profile.specs.Trees.{bare_source, bare_expr, bare_exprs, bare_query, bare_select, bare_keep, bare_items, bare_value, bare_with, bare, PlacedExpr, int_at, bool_at, text_at, column_at, unary_at, binary_at, choose_at, not_exists_at, total_at, PlacedExprs, none_at, then_at, PlacedQuery, no_select_at, then_select_at, PlacedSelect, select_at, PlacedKeep, keep_all_at, keep_if_at, PlacedItems, no_item_at, then_item_at, item_at, PlacedValue, plain_at, number_at, PlacedWith, PlacedSql}
 use Rattle.sql_profile.specs.Scope.{Shapes, Aliases, names_in, found, among, SourcesHave, HasType, QueryHas, OthersHave, SelectHas, KeepHas, ItemsHave, ValueHas, KeysHave, WithsHave, IsWellScoped, Verdict, Fine, Broken, and_then, or_broken, unless, same_type, same_types, wants, column_type, choose_type, expr_place, select_place, judge_sources, judge_expr, judge_query, judge_others, judge_select, judge_keep, judge_items, judge_value, judge_keys, judge_withs, judge}
 
 -- both parts of a judgement were fine
@@ -135,6 +135,12 @@ mutual
   judged ts env (not_exists_at p q) k e =
       let s = split (judge_query ts env q) _ k e in
       (s.first, query_judged ts env q s.first s.fine, sym (fine_same Truth k s.then_fine))
+  judged ts env (total_at p g from keep x) k e =
+      let a = split (judge_sources ts [] from) _ k e in
+      let b = split (judge_keep ts (a.first ++ env) keep) _ k a.then_fine in
+      let c = split (judge_expr ts (a.first ++ env) x) _ k b.then_fine in
+      let w = wanted Int c.first 10 (expr_place x) k c.then_fine in
+      (a.first, sources_judged ts [] from a.first a.fine, keep_judged ts (a.first ++ env) keep b.first b.fine, subst (λ z. HasType ts (a.first ++ env) (bare_expr x) z) w.was (judged ts (a.first ++ env) x c.first c.fine), sym w.now)
 
   query_judged : (ts : Shapes) (env : Aliases) (q : PlacedQuery) (columns : Columns) → judge_query ts env q ≡ Fine columns → QueryHas ts env (bare_query q) columns
   query_judged ts env no_select_at columns e = absurd (cc)
@@ -195,6 +201,10 @@ mutual
   fine ts env (choose_at p t y n) k h =
       joined (judge_expr ts env t) _ Truth k (fine ts env t Truth h.0) (joined (judge_expr ts env y) _ k k (fine ts env y k h.1) (joined (judge_expr ts env n) _ k k (fine ts env n k h.2) (want_met k 6 p)))
   fine ts env (not_exists_at p q) k h = joined (judge_query ts env q) _ h.0 k (query_fine ts env q h.0 h.1) (ap (λ z. Fine z) (sym h.2))
+  fine ts env (total_at p g from keep x) k h =
+      joined (judge_sources ts [] from) _ h.0 k (sources_fine ts [] from h.0 h.1)
+      (joined (judge_keep ts (h.0 ++ env) keep) _ Truth k (keep_fine ts (h.0 ++ env) keep h.2)
+      (joined (judge_expr ts (h.0 ++ env) x) _ Int k (fine ts (h.0 ++ env) x Int h.3) (want_met Int 10 (expr_place x) ∙ ap (λ z. Fine z) (sym h.4))))
 
   query_fine : (ts : Shapes) (env : Aliases) (q : PlacedQuery) (columns : Columns) → QueryHas ts env (bare_query q) columns → judge_query ts env q ≡ Fine columns
   query_fine ts env no_select_at columns h = absurd h

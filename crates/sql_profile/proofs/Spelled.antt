@@ -1,26 +1,27 @@
 -- The text of a tree spells it.
-use Rattle.std.proofs.Common.{◌≡◌, ℕ, suc, ◌+◌, ◌≤◌, Bool, true, false, ◌==◌, List, [], ◌∷◌, ◌++◌, map, length, codes, Contains, pos, if◌then◌else◌, ℤ, Ok, refl, sym, ap, ap₂, ◌∙◌, subst, arith}
+use Rattle.std.proofs.Common.{◌≡◌, ℕ, suc, ◌+◌, ◌≤◌, Bool, true, false, ◌==◌, List, [], ◌∷◌, ◌++◌, map, length, codes, Contains, if◌then◌else◌, ℤ, Ok, refl, sym, ap, ◌∙◌, subst, arith}
 use Rattle.std.specs.List.{AllByRecursion as Each}
 use Rattle.std.specs.Fmt.{decimal, signed_decimal}
 use Rattle.std.specs.Str.{IsUtf8}
 use Rattle.std.proofs.lemmas.Bool.Decides.{nat_tests}
 use Rattle.nq_model.specs.Canonical.{doubled_quotes}
+use Rattle.nq_model.specs.Totals.{Total, HowMany, SumOf}
 use Rattle.nq_model.specs.declared.term.Binary.{Binary}
 use Rattle.nq_model.specs.declared.term.Binary.TheVariants.{Or, And, Add, Sub, Mul, Eq, Ne, Lt, Le, Gt, Ge}
 use Rattle.nq_model.specs.declared.term.Unary.TheVariants as one_operand
 use Rattle.sql_profile.specs.declared.tree.Source.{Source}
-use Rattle.sql_profile.specs.Tokens.{First, Token, Value, Number, Literal, Truth, Name, Key, Oper, Open, Close, Comma, Dot, End, With, As, Union, All, Select, From, Where, RowNumber, Over, Order, By, Not, Exists, Case, When, Then, Else, Stop, is_name_byte, tokens_of}
-use Rattle.sql_profile.specs.Grammar.{SourceSyntax, OfSource, SourcesSyntax, OneSource, MoreSources, FromSyntax, NoFrom, HasFrom, OfRowNumber, ExprSyntax, OfConstant, OfColumn, OfParens, OfMinus, OfNot, OfNotExists, OfCase, OfBinary, QuerySyntax, OneSelect, MoreSelects, SelectSyntax, OfSelect, KeepSyntax, NoWhere, HasWhere, ItemsSyntax, OneItem, MoreItems, OfItem, ValueSyntax, Plain, Numbering, KeysSyntax, NoKeys, HasKeys, KeyListSyntax, OneKey, MoreKeys, WithSyntax, OfWith, WithListSyntax, OneDef, MoreDefs, WithsSyntax, NoWith, HasWith, NoSemi, TextSyntax, OfText, sources_tokens, froms_tokens, tokens, query_tokens, choice_tokens, keep_tokens, items_tokens, held_tokens, keys_tokens, key_list_tokens, defs_tokens, withs_tokens, text_tokens, level, left_level, Fits, QueryFits, ChoiceFits, KeepFits, ItemsFit, HeldFits, KeysFit, KeyListFits, DefsFit, WithsFit, text_depth, tree_of, expr_of, selects_of, select_of, items_of, value_of, keys_of, key_list_of, source_of, sources_of, from_of, with_list_of, withs_of}
+use Rattle.sql_profile.specs.Tokens.{First, Token, Number, Literal, Truth, Name, Key, Open, Close, Comma, End, With, As, Union, All, Select, Where, RowNumber, Over, Order, By, Not, Exists, Case, When, Then, Else, Count, Sum, Coalesce, is_name_byte, tokens_of}
+use Rattle.sql_profile.specs.Grammar.{SourceSyntax, OfSource, SourcesSyntax, OneSource, MoreSources, FromSyntax, NoFrom, HasFrom, OfRowNumber, ExprSyntax, OfConstant, OfColumn, OfParens, OfMinus, OfNot, OfNotExists, OfCase, OfBinary, OfScalar, Counted, Summed, OfCount, OfSum, OfTail, QuerySyntax, OneSelect, MoreSelects, SelectSyntax, OfSelect, KeepSyntax, NoWhere, HasWhere, ItemsSyntax, OneItem, MoreItems, OfItem, ValueSyntax, Plain, Numbering, KeysSyntax, NoKeys, HasKeys, KeyListSyntax, OneKey, MoreKeys, WithSyntax, OfWith, WithListSyntax, OneDef, MoreDefs, WithsSyntax, NoWith, HasWith, NoSemi, TextSyntax, OfText, sources_tokens, froms_tokens, tokens, query_tokens, choice_tokens, keep_tokens, items_tokens, held_tokens, keys_tokens, key_list_tokens, defs_tokens, withs_tokens, text_tokens, level, left_level, Fits, QueryFits, ChoiceFits, KeepFits, ItemsFit, HeldFits, KeysFit, KeyListFits, DefsFit, WithsFit, text_depth, tree_of, expr_of, selects_of, select_of, items_of, value_of, keys_of, key_list_of, source_of, sources_of, from_of, with_list_of, withs_of}
 use Rattle.sql_profile.specs.Grammar as grammar
-use Rattle.sql_profile.specs.Trees.{SourceTree, ExprTree, int, bool, text, column, unary, binary, choose, not_exists, ExprTrees, no_expr, then_expr, QueryTree, no_select, then_select, SelectTree, select, KeepTree, keep_all, keep_if, ItemTrees, no_item, then_item, ValueTree, plain, number, WithTree, SqlTree, PlacedExprs, none_at, then_at, PlacedQuery, no_select_at, then_select_at, PlacedItems, no_item_at, then_item_at, item_at, PlacedWith, PlacedSql, bare_source, bare_expr, bare_exprs, bare_query, bare_select, bare_keep, bare_items, bare_value, bare_with, bare}
+use Rattle.sql_profile.specs.Trees.{SourceTree, ExprTree, int, bool, text, column, unary, binary, choose, not_exists, total, ExprTrees, no_expr, then_expr, QueryTree, no_select, then_select, SelectTree, select, KeepTree, keep_all, keep_if, ItemTrees, no_item, then_item, ValueTree, plain, number, WithTree, SqlTree, none_at, then_at, no_select_at, then_select_at, PlacedItems, no_item_at, then_item_at, item_at, PlacedWith, PlacedSql, bare_source, bare_expr, bare_exprs, bare_query, bare_select, bare_keep, bare_items, bare_value, bare_with, bare}
 use Rattle.sql_profile.specs.Texts.{Spells}
 use Rattle.sql_profile.specs.Printed.{between_operands, printed}
 use Rattle.sql_profile.specs.Spellable.{HasWritableNames, IsSpellableExpr, IsSpellableQuery, AreSpellableSelects, IsSpellableSelect, IsSpellableKeep, AreSpellableItems, IsSpellableValue, AreSpellableKeys, IsSpellableWith, IsSpellable}
 use Rattle.sql_profile.specs.WritableNames.{IsWritableName}
-use Rattle.sql_profile.proofs.Laid.{sources_then, from_then, expr_then, query_then, selects_then, select_then, keep_then, items_then, further_items, value_then, keys_then, further_keys, with_then, further_withs, withs_then, text_laid}
+use Rattle.sql_profile.proofs.Laid.{sources_then, from_then, expr_then, query_then, selects_then, select_then, keep_then, further_items, value_then, keys_then, further_keys, further_withs, withs_then, text_laid}
 use Rattle.sql_profile.proofs.Lexed.{Reads, IsWritable, read_end, read_token, read_name, read_comma, read_dot, read_space, read_as, read_from, read_all}
 use Rattle.sql_profile.proofs.TextLaws.{bytes_are_deep}
-use Rattle.sql_profile.proofs.Words.{Parts, read_open, read_close, read_minus, oper_len, read_oper, read_true, read_false, read_stop, read_number, read_literal, unquoted_doubled}
+use Rattle.sql_profile.proofs.Words.{Parts, read_open, read_close, read_star, read_zero, read_minus, oper_len, read_oper, read_true, read_false, read_stop, read_number, read_literal, unquoted_doubled}
 
 -- a name that holds no quote
 plain_name : (name : List ℕ) → (Contains name 34 → ⊥) → Each (λ b. is_name_byte b ≡ true) name
@@ -184,6 +185,9 @@ binary_same op a b c d e f = cc
 choose_same : (a b c x y z : ExprTree) → a ≡ x → b ≡ y → c ≡ z → choose a b c ≡ choose x y z
 choose_same a b c x y z e f g = cc
 
+total_same : (g : Total) (a b : List SourceTree) (k l : KeepTree) (d e : ExprTree) → a ≡ b → k ≡ l → d ≡ e → total g a k d ≡ total g b l e
+total_same g a b k l d e x y z = cc
+
 then_same : (s t : SelectTree) (q r : QueryTree) → s ≡ t → q ≡ r → then_select s q ≡ then_select t r
 then_same s t q r e f = cc
 
@@ -261,6 +265,42 @@ mutual
         reads = λ ts z.
             read_open place _ _ (read_token n 78 _ _ 3 (λ p. Key p Not) refl (omega arith) (read_space (n + 3) _ _ (read_token x 69 _ _ 6 (λ p. Key p Exists) refl (omega arith) (read_space (x + 6) _ _
             (read_open o _ _ (m.reads _ (read_close m.behind _ _ (read_close (m.behind + 1) _ _ z))))))));
+      }
+  expr_spelled (total HowMany from keep e) place rest h parts =
+      let s = place + 1 in
+      let c = s + 6 + 1 in
+      let o = c + 5 in
+      let t = o + 1 in
+      let z = t + 1 in
+      let f = from_spelled from (z + 1) (keep_then keep (41 ∷ rest)) h.0 in
+      let k = keep_spelled keep f.behind (41 ∷ rest) h.1 (refl, refl, refl) in
+      record {
+        tree = OfScalar (Counted (OfCount place s c o t z)) f.tree k.tree k.behind;
+        behind = k.behind + 1;
+        is = (λ n. (tt, k.is.0), total_same HowMany _ _ _ _ _ _ f.is k.is.1 (sym h.2));
+        reads = λ ts r.
+            read_open place _ _ (read_token s 83 _ _ 6 (λ p. Key p Select) refl (omega arith) (read_space (s + 6) _ _ (read_token c 67 _ _ 5 (λ p. Key p Count) refl (omega arith) (read_open o _ _ (read_star t _ _ (read_close z _ _
+            (f.reads _ (k.reads _ (read_close k.behind _ _ r)))))))));
+      }
+  expr_spelled (total SumOf from keep e) place rest h parts =
+      let s = place + 1 in
+      let c = s + 6 + 1 in
+      let o = c + 8 in
+      let u = o + 1 in
+      let v = u + 3 in
+      let m = expr_spelled e (v + 1) (codes "), 0)" ++ from_then from (keep_then keep (41 ∷ rest))) h.2 (refl, refl, refl) in
+      let y = m.behind + 1 in
+      let q = y + 1 + 1 in
+      let z = q + 1 in
+      let f = from_spelled from (z + 1) (keep_then keep (41 ∷ rest)) h.0 in
+      let k = keep_spelled keep f.behind (41 ∷ rest) h.1 (refl, refl, refl) in
+      record {
+        tree = OfScalar (Summed (OfSum place s c o u v) m.tree (OfTail m.behind y q z)) f.tree k.tree k.behind;
+        behind = k.behind + 1;
+        is = (λ n. (m.is.0 1, k.is.0), total_same SumOf _ _ _ _ _ _ f.is k.is.1 m.is.1);
+        reads = λ ts r.
+            read_open place _ _ (read_token s 83 _ _ 6 (λ p. Key p Select) refl (omega arith) (read_space (s + 6) _ _ (read_token c 67 _ _ 8 (λ p. Key p Coalesce) refl (omega arith) (read_open o _ _ (read_token u 83 _ _ 3 (λ p. Key p Sum) refl (omega arith) (read_open v _ _ (m.reads _
+            (read_close m.behind _ _ (read_comma y _ _ (read_space (y + 1) _ _ (read_zero q _ _ (read_close z _ _ (f.reads _ (k.reads _ (read_close k.behind _ _ r)))))))))))))));
       }
 
   query_spelled : (q : QueryTree) (place : ℕ) (rest : List ℕ) → IsSpellableQuery q → Parts rest → Spelling query_tokens (IsQuery q) place (query_then q rest) rest

@@ -1,11 +1,11 @@
 -- A text holds names of 1 to 128 bytes without a double quote and numbers below 2^63 alone, so the tree that it spells
 -- can be spelled.
-use Rattle.std.proofs.Common.{◌≡◌, ℕ, zero, suc, ◌+◌, ◌<◌, ◌≤◌, ◌^◌, Bool, true, false, cond, ◌&&◌, ◌==◌, Contains, nat_le, if◌then◌else◌, List, [], ◌∷◌, length, take, drop, map, pos, Option, Some, None, Result, Ok, Err, refl, sym, ap, subst, arith}
+use Rattle.std.proofs.Common.{◌≡◌, ℕ, zero, suc, ◌+◌, ◌<◌, ◌≤◌, ◌^◌, Bool, true, false, cond, ◌&&◌, ◌==◌, Contains, nat_le, if◌then◌else◌, List, [], ◌∷◌, length, take, drop, map, Option, Some, None, Result, Ok, Err, refl, sym, ap, subst, arith}
 use Rattle.std.specs.List.{AllByRecursion as Each, prefix_len}
 use Rattle.std.proofs.lemmas.Bool.Decides.{nat_tests}
 use Rattle.nq_model.specs.SchemaTokens.{is_word_byte, is_comment_byte}
-use Rattle.sql_profile.specs.Tokens.{Edition, First, Token, Value, Number, Literal, Truth, Name, Key, Oper, Open, Close, Comma, Dot, Semi, End, Stuck, NoToken, TooLarge, Front, Gap, Takes, Stops, is_name_byte, is_digit, begins_with, same_bytes, capital, keywords, symbols, symbol_front, number_from, number_front, word_front, name_front, literal_len, literal_front, front, with_token, go_on, tokens_from, tokens_of}
-use Rattle.sql_profile.specs.Grammar.{OfSource, SourcesSyntax, OneSource, MoreSources, FromSyntax, NoFrom, HasFrom, OfRowNumber, ExprSyntax, OfConstant, OfColumn, OfParens, OfMinus, OfNot, OfNotExists, OfCase, OfBinary, QuerySyntax, OneSelect, MoreSelects, SelectSyntax, OfSelect, KeepSyntax, NoWhere, HasWhere, ItemsSyntax, OneItem, MoreItems, OfItem, ValueSyntax, Plain, Numbering, KeysSyntax, NoKeys, HasKeys, KeyListSyntax, OneKey, MoreKeys, OfWith, WithListSyntax, OneDef, MoreDefs, WithsSyntax, NoWith, HasWith, OfText, sources_tokens, froms_tokens, tokens, query_tokens, choice_tokens, keep_tokens, items_tokens, held_tokens, keys_tokens, key_list_tokens, defs_tokens, withs_tokens, semis_tokens, text_tokens, tree_of, expr_of, selects_of, select_of, items_of, value_of, keys_of, key_list_of, source_of, sources_of, from_of, with_of, with_list_of, withs_of}
+use Rattle.sql_profile.specs.Tokens.{Edition, First, Token, Value, Number, Literal, Truth, Name, End, Stuck, NoToken, TooLarge, Front, Gap, Takes, Stops, is_name_byte, is_digit, begins_with, same_bytes, capital, keywords, symbols, symbol_front, number_from, number_front, word_front, name_front, literal_len, literal_front, front, with_token, go_on, tokens_from}
+use Rattle.sql_profile.specs.Grammar.{OfSource, SourcesSyntax, OneSource, MoreSources, FromSyntax, NoFrom, HasFrom, OfRowNumber, ExprSyntax, OfConstant, OfColumn, OfParens, OfMinus, OfNot, OfNotExists, OfCase, OfBinary, OfScalar, Counted, Summed, OfCount, OfSum, OfTail, QuerySyntax, OneSelect, MoreSelects, SelectSyntax, OfSelect, KeepSyntax, NoWhere, HasWhere, ItemsSyntax, OneItem, MoreItems, OfItem, ValueSyntax, Plain, Numbering, KeysSyntax, NoKeys, HasKeys, KeyListSyntax, OneKey, MoreKeys, OfWith, WithListSyntax, OneDef, MoreDefs, WithsSyntax, NoWith, HasWith, OfText, sources_tokens, froms_tokens, tokens, query_tokens, choice_tokens, keep_tokens, items_tokens, held_tokens, keys_tokens, key_list_tokens, defs_tokens, withs_tokens, semis_tokens, text_tokens, tree_of, expr_of, selects_of, select_of, items_of, value_of, keys_of, key_list_of, source_of, sources_of, from_of, with_of, with_list_of, withs_of}
 use Rattle.sql_profile.specs.Grammar as grammar
 use Rattle.sql_profile.specs.declared.tree.Source.{Source}
 use Rattle.sql_profile.specs.Trees.{PlacedExprs, none_at, then_at, PlacedQuery, no_select_at, then_select_at, PlacedItems, no_item_at, then_item_at, item_at, PlacedWith, PlacedSql, bare_source, bare_expr, bare_exprs, bare_query, bare_select, bare_keep, bare_items, bare_value, bare_with, bare}
@@ -99,7 +99,7 @@ literal_holds None bs = stuck NoToken
 literal_holds (Some n) bs = record { holds = λ p. tt }
 
 words_bare : (edition : Edition) → Bare (keywords edition)
-words_bare First = (λ p. tt, (λ p. tt, (λ p. tt, (λ p. tt, (λ p. tt, (λ p. tt, (λ p. tt, (λ p. tt, (λ p. tt, (λ p. tt, (λ p. tt, (λ p. tt, (λ p. tt, (λ p. tt, (λ p. tt, (λ p. tt, (λ p. tt, (λ p. tt, (λ p. tt, (λ p. tt, (λ p. tt, (λ p. tt, tt))))))))))))))))))))))
+words_bare First = (λ p. tt, (λ p. tt, (λ p. tt, (λ p. tt, (λ p. tt, (λ p. tt, (λ p. tt, (λ p. tt, (λ p. tt, (λ p. tt, (λ p. tt, (λ p. tt, (λ p. tt, (λ p. tt, (λ p. tt, (λ p. tt, (λ p. tt, (λ p. tt, (λ p. tt, (λ p. tt, (λ p. tt, (λ p. tt, (λ p. tt, (λ p. tt, (λ p. tt, tt)))))))))))))))))))))))))
 
 symbols_bare : Bare symbols
 symbols_bare = (λ p. tt, (λ p. tt, (λ p. tt, (λ p. tt, (λ p. tt, (λ p. tt, (λ p. tt, (λ p. tt, (λ p. tt, (λ p. tt, (λ p. tt, (λ p. tt, (λ p. tt, (λ p. tt, tt))))))))))))))
@@ -161,6 +161,15 @@ mutual
       let a = expr_held l _ h in
       let b = expr_held r x a.1.1 in
       ((a.0, b.0), b.1)
+  expr_held (OfScalar (Counted (OfCount p s c o t z)) f w y) x h =
+      let a = from_held f _ h.1.1.1.1.1.1 in
+      let b = keep_held w _ a.1 in
+      ((a.0, b.0, refl), b.1.1)
+  expr_held (OfScalar (Summed (OfSum p s c o u v) e (OfTail z m q r)) f w y) x h =
+      let d = expr_held e _ h.1.1.1.1.1.1 in
+      let a = from_held f _ d.1.1.1.1.1 in
+      let b = keep_held w _ a.1 in
+      ((a.0, b.0, d.0), b.1.1)
 
   query_held : (q : QuerySyntax) (x : List Token) → Each Holds (query_tokens q x)
       → ((rest : PlacedQuery) → AreSpellableSelects (bare_query rest) → IsSpellableQuery (bare_query (selects_of q rest))) × Each Holds x

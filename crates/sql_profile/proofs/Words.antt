@@ -1,10 +1,10 @@
 -- The tokens of a printed text, read one after the other.
-use Rattle.std.proofs.Common.{◌≡◌, ℕ, zero, suc, ◌+◌, ◌*◌, ◌-◌, ◌<◌, ◌≤◌, ◌^◌, Bool, true, false, cond, ◌&&◌, ◌||◌, ◌==◌, nat_eq, nat_le, if◌then◌else◌, List, [], ◌∷◌, ◌++◌, length, take, drop, codes, Option, Some, None, refl, sym, ap, ◌∙◌, subst, arith}
+use Rattle.std.proofs.Common.{◌≡◌, ℕ, suc, ◌+◌, ◌*◌, ◌-◌, ◌<◌, ◌^◌, Bool, true, false, cond, ◌&&◌, ◌==◌, nat_eq, nat_le, if◌then◌else◌, List, [], ◌∷◌, ◌++◌, length, take, drop, codes, Some, refl, sym, ap, ◌∙◌, subst, arith}
 use Rattle.std.specs.Option.{option_map}
-use Rattle.std.specs.List.{AllByRecursion as Each, prefix_len}
+use Rattle.std.specs.List.{prefix_len}
 use Rattle.std.specs.Fmt.{decimal}
 use Rattle.std.specs.Int.{IsInRange}
-use Rattle.std.specs.Str.Parse.{AllDigits, digits_value, digits_value_after}
+use Rattle.std.specs.Str.Parse.{AllDigits, digits_value_after}
 use Rattle.std.proofs.lemmas.Bool.Decides.{nat_tests}
 use Rattle.std.proofs.lemmas.Fmt.{decimal_is_IsNumeral}
 use Rattle.std.proofs.lemmas.Str.{digit_value_digit}
@@ -13,7 +13,7 @@ use Rattle.nq_model.specs.Canonical.{doubled_quotes}
 use Rattle.nq_model.specs.SchemaTokens.{is_white, begins_word, is_word_byte}
 use Rattle.nq_model.specs.declared.term.Binary.{Binary}
 use Rattle.nq_model.specs.declared.term.Binary.TheVariants.{Add, Sub, Mul, Eq, Ne, Lt, Le, Gt, Ge, And, Or}
-use Rattle.sql_profile.specs.Tokens.{First, Token, Value, Number, Literal, Truth, Name, Oper, Open, Close, Key, Stop, Gap, Takes, Stops, TooLarge, Front, begins_with, is_digit, is_quote, is_order_mark, keywords, symbols, symbol_front, word_front, name_front, literal_len, literal_front, number_from, number_front, front, unquoted, unquoted_from}
+use Rattle.sql_profile.specs.Tokens.{First, Token, Value, Number, Literal, Truth, Oper, Open, Close, Key, Stop, Gap, Takes, Stops, TooLarge, Front, begins_with, is_digit, is_quote, keywords, symbols, symbol_front, word_front, literal_len, literal_front, number_from, number_front, front, unquoted, unquoted_from}
 use Rattle.sql_profile.specs.Printed.{between_operands}
 use Rattle.sql_profile.proofs.Lexed.{Reads, read_token, read_space, front_taken, front_dropped, no_mark}
 
@@ -27,6 +27,14 @@ read_open place rest ts r = read_token place 40 rest ts 1 (λ p. Open p) (ap (λ
 
 pub read_close : (place : ℕ) (rest : List ℕ) (ts : List Token) → Reads (place + 1) rest ts → Reads place (41 ∷ rest) (Close place ∷ ts)
 read_close place rest ts r = read_token place 41 rest ts 1 (λ p. Close p) (ap (λ b. if b then Gap 3 else symbol_front symbols (41 ∷ rest)) (no_mark (place == 0))) (omega arith) r
+
+-- `*` and `)`
+pub read_star : (place : ℕ) (rest : List ℕ) (ts : List Token) → Reads (place + 1) (41 ∷ rest) ts → Reads place (42 ∷ 41 ∷ rest) (Oper place Mul ∷ ts)
+read_star place rest ts r = read_token place 42 (41 ∷ rest) ts 1 (λ p. Oper p Mul) (ap (λ b. if b then Gap 3 else symbol_front symbols (42 ∷ 41 ∷ rest)) (no_mark (place == 0))) (omega arith) r
+
+-- `0` and `)`
+pub read_zero : (place : ℕ) (rest : List ℕ) (ts : List Token) → Reads (place + 1) (41 ∷ rest) ts → Reads place (48 ∷ 41 ∷ rest) (Value place (Number 0 1) ∷ ts)
+read_zero place rest ts r = read_token place 48 (41 ∷ rest) ts 1 (λ p. Value p (Number 0 1)) refl (omega arith) r
 
 pub read_minus : (place : ℕ) (rest : List ℕ) (ts : List Token) → Reads (place + 1) (32 ∷ rest) ts → Reads place (45 ∷ 32 ∷ rest) (Oper place Sub ∷ ts)
 read_minus place rest ts r = read_token place 45 (32 ∷ rest) ts 1 (λ p. Oper p Sub) (ap (λ b. if b then Gap 3 else symbol_front symbols (45 ∷ 32 ∷ rest)) (no_mark (place == 0))) (omega arith) r

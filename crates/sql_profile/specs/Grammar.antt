@@ -14,13 +14,16 @@
 --     M      = M * U | U
 --     U      = - U | P
 --     P      = number | literal | TRUE | FALSE | name . name | ( O ) | CASE WHEN O THEN O ELSE O END
+--            | ( SELECT COUNT ( * ) [ FROM source { , source } ] [ WHERE O ] )
+--            | ( SELECT COALESCE ( SUM ( O ) , 0 ) [ FROM source { , source } ] [ WHERE O ] )
 use Rattle.std.specs.Prelude.{◌≡◌, ℕ, suc, ◌≤◌, max, List, [], ◌∷◌, pos}
+use Rattle.nq_model.specs.Totals.{HowMany, SumOf}
 use Rattle.nq_model.specs.declared.term.Binary.{Binary}
 use Rattle.nq_model.specs.declared.term.Binary.TheVariants.{Or, And, Add, Sub, Mul}
 use Rattle.nq_model.specs.declared.term.Unary.TheVariants as one_operand
 use Rattle.sql_profile.specs.declared.tree.Source.{Source}
-use Rattle.sql_profile.specs.Tokens.{Edition, With, As, Union, All, Select, From, Where, RowNumber, Over, Order, By, Not, Exists, Case, When, Then, Else, Stop, Constant, Number, Literal, Truth, Token, Value, Name, Key, Oper, Open, Close, Comma, Dot, Semi, End, unquoted}
-use Rattle.sql_profile.specs.Trees.{PlacedExpr, int_at, bool_at, text_at, column_at, unary_at, binary_at, choose_at, not_exists_at, PlacedExprs, none_at, then_at, PlacedQuery, no_select_at, then_select_at, PlacedSelect, select_at, PlacedKeep, keep_all_at, keep_if_at, PlacedItems, no_item_at, then_item_at, item_at, PlacedValue, plain_at, number_at, PlacedWith, PlacedSql}
+use Rattle.sql_profile.specs.Tokens.{Edition, With, As, Union, All, Select, From, Where, RowNumber, Over, Order, By, Not, Exists, Case, When, Then, Else, Stop, Count, Sum, Coalesce, Constant, Number, Literal, Truth, Token, Value, Name, Key, Oper, Open, Close, Comma, Dot, Semi, End, unquoted}
+use Rattle.sql_profile.specs.Trees.{PlacedExpr, int_at, bool_at, text_at, column_at, unary_at, binary_at, choose_at, not_exists_at, total_at, PlacedExprs, none_at, then_at, PlacedQuery, no_select_at, then_select_at, PlacedSelect, select_at, PlacedKeep, keep_all_at, keep_if_at, PlacedItems, no_item_at, then_item_at, item_at, PlacedValue, plain_at, number_at, PlacedWith, PlacedSql}
 
 -- Syntax trees keep parentheses and the place of every token. Lists grow to the right, as they are read.
 
@@ -40,6 +43,18 @@ pub data FromSyntax : Type 0 where
 pub data NumberingHead : Type 0 where
   OfRowNumber : ℕ → ℕ → ℕ → ℕ → ℕ → NumberingHead
 
+-- `( SELECT COUNT ( * )`
+pub data CountHead : Type 0 where
+  OfCount : ℕ → ℕ → ℕ → ℕ → ℕ → ℕ → CountHead
+
+-- `( SELECT COALESCE ( SUM (`
+pub data SumHead : Type 0 where
+  OfSum : ℕ → ℕ → ℕ → ℕ → ℕ → ℕ → SumHead
+
+-- `) , 0 )`
+pub data SumTail : Type 0 where
+  OfTail : ℕ → ℕ → ℕ → ℕ → SumTail
+
 mutual
   pub data ExprSyntax : Type 0 where
     OfConstant : ℕ → Constant → ExprSyntax
@@ -50,6 +65,11 @@ mutual
     OfNotExists : ℕ → ℕ → ℕ → QuerySyntax → ℕ → ExprSyntax
     OfCase : ℕ → ℕ → ExprSyntax → ℕ → ExprSyntax → ℕ → ExprSyntax → ℕ → ExprSyntax
     OfBinary : ExprSyntax → ℕ → Binary → ExprSyntax → ExprSyntax
+    OfScalar : ScalarSyntax → FromSyntax → KeepSyntax → ℕ → ExprSyntax
+
+  pub data ScalarSyntax : Type 0 where
+    Counted : CountHead → ScalarSyntax
+    Summed : SumHead → ExprSyntax → SumTail → ScalarSyntax
 
   pub data QuerySyntax : Type 0 where
     OneSelect : SelectSyntax → QuerySyntax
@@ -115,6 +135,15 @@ froms_tokens (HasFrom ss) x = sources_tokens ss x
 abbrev pub row_tokens : NumberingHead → List Token → List Token
 row_tokens (OfRowNumber r o c v q) x = Key r RowNumber ∷ Open o ∷ Close c ∷ Key v Over ∷ Open q ∷ x
 
+abbrev pub count_tokens : CountHead → List Token → List Token
+count_tokens (OfCount p s c o t z) x = Open p ∷ Key s Select ∷ Key c Count ∷ Open o ∷ Oper t Mul ∷ Close z ∷ x
+
+abbrev pub sum_tokens : SumHead → List Token → List Token
+sum_tokens (OfSum p s c o u v) x = Open p ∷ Key s Select ∷ Key c Coalesce ∷ Open o ∷ Key u Sum ∷ Open v ∷ x
+
+abbrev pub tail_tokens : SumTail → List Token → List Token
+tail_tokens (OfTail z c q r) x = Close z ∷ Comma c ∷ Value q (Number 0 1) ∷ Close r ∷ x
+
 abbrev mutual
   pub tokens : ExprSyntax → List Token → List Token
   tokens (OfConstant p c) x = Value p c ∷ x
@@ -125,6 +154,11 @@ abbrev mutual
   tokens (OfNotExists p e o q c) x = Key p Not ∷ Key e Exists ∷ Open o ∷ query_tokens q (Close c ∷ x)
   tokens (OfCase p w t h y e n z) x = Key p Case ∷ Key w When ∷ tokens t (Key h Then ∷ tokens y (Key e Else ∷ tokens n (Key z Stop ∷ x)))
   tokens (OfBinary l p op r) x = tokens l (Oper p op ∷ tokens r x)
+  tokens (OfScalar h f w z) x = scalar_tokens h (froms_tokens f (keep_tokens w (Close z ∷ x)))
+
+  pub scalar_tokens : ScalarSyntax → List Token → List Token
+  scalar_tokens (Counted c) x = count_tokens c x
+  scalar_tokens (Summed h e v) x = sum_tokens h (tokens e (tail_tokens v x))
 
   pub query_tokens : QuerySyntax → List Token → List Token
   query_tokens (OneSelect s) x = choice_tokens s x
@@ -202,6 +236,11 @@ abbrev mutual
   Fits n (OfNotExists p e o q c) = (n ≤ 3) × QueryFits q
   Fits n (OfCase p w t h y e m z) = Fits 1 t × Fits 1 y × Fits 1 m
   Fits n (OfBinary l p op r) = (n ≤ level op) × Fits (left_level op) l × Fits (suc (level op)) r
+  Fits n (OfScalar h f w z) = ScalarFits h × KeepFits w
+
+  pub ScalarFits : ScalarSyntax → Type 0
+  ScalarFits (Counted c) = Unit {0}
+  ScalarFits (Summed h e v) = Fits 1 e
 
   pub QueryFits : QuerySyntax → Type 0
   QueryFits (OneSelect s) = ChoiceFits s
@@ -258,6 +297,11 @@ abbrev mutual
   depth (OfNotExists p e o q c) = suc (suc (selects_depth q))
   depth (OfCase p w t h y e n z) = suc (max (depth t) (max (depth y) (depth n)))
   depth (OfBinary l p op r) = suc (max (depth l) (depth r))
+  depth (OfScalar h f w z) = suc (max (scalar_depth h) (keep_depth w))
+
+  pub scalar_depth : ScalarSyntax → ℕ
+  scalar_depth (Counted c) = 0
+  scalar_depth (Summed h e v) = depth e
 
   -- of the deepest SELECT; the query's own depth is one more
   pub selects_depth : QuerySyntax → ℕ
@@ -345,6 +389,8 @@ abbrev mutual
   expr_of (OfMinus p e) = unary_at p one_operand.Minus (expr_of e)
   expr_of (OfNot p e) = unary_at p one_operand.Not (expr_of e)
   expr_of (OfNotExists p e o q c) = not_exists_at p (selects_of q no_select_at)
+  expr_of (OfScalar (Counted (OfCount p s c o t z)) f w y) = total_at p HowMany (from_of f) (keep_of w) (int_at p (pos 1))
+  expr_of (OfScalar (Summed (OfSum p s c o u v) e t) f w y) = total_at p SumOf (from_of f) (keep_of w) (expr_of e)
   expr_of (OfCase p w t h y e n z) = choose_at p (expr_of t) (expr_of y) (expr_of n)
   expr_of (OfBinary l p op r) = binary_at p op (expr_of l) (expr_of r)
 

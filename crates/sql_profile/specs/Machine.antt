@@ -1,9 +1,9 @@
 -- Reading token by token, with a stack of unfinished forms.
-use Rattle.std.specs.Prelude.{ℕ, suc, Bool, cond, leb, List, codes, Option, Some, None}
+use Rattle.std.specs.Prelude.{ℕ, zero, suc, Bool, cond, leb, List, codes, Option, Some, None}
 use Rattle.nq_model.specs.declared.term.Binary.{Binary}
-use Rattle.nq_model.specs.declared.term.Binary.TheVariants.{Sub}
-use Rattle.sql_profile.specs.Tokens.{With, As, Union, All, Select, From, Where, RowNumber, Over, Order, By, Not, Exists, Case, When, Then, Else, Stop, Number, Token, Value, Name, Key, Oper, Open, Close, Comma, Dot, Semi, End}
-use Rattle.sql_profile.specs.Grammar.{SourceSyntax, OfSource, SourcesSyntax, OneSource, MoreSources, FromSyntax, NoFrom, HasFrom, NumberingHead, OfRowNumber, ExprSyntax, OfConstant, OfColumn, OfParens, OfMinus, OfNot, OfNotExists, OfCase, OfBinary, QuerySyntax, OneSelect, MoreSelects, SelectSyntax, OfSelect, NoWhere, HasWhere, ItemsSyntax, OneItem, MoreItems, ItemSyntax, OfItem, ValueSyntax, Plain, Numbering, NoKeys, HasKeys, KeyListSyntax, OneKey, MoreKeys, WithSyntax, OfWith, WithListSyntax, OneDef, MoreDefs, WithsSyntax, NoWith, HasWith, NoSemi, HasSemi, TextSyntax, OfText, level, left_level, text_depth}
+use Rattle.nq_model.specs.declared.term.Binary.TheVariants.{Sub, Mul}
+use Rattle.sql_profile.specs.Tokens.{With, As, Union, All, Select, From, Where, RowNumber, Over, Order, By, Not, Exists, Case, When, Then, Else, Stop, Count, Sum, Coalesce, Number, Token, Value, Name, Key, Oper, Open, Close, Comma, Dot, Semi, End}
+use Rattle.sql_profile.specs.Grammar.{SourceSyntax, OfSource, SourcesSyntax, OneSource, MoreSources, FromSyntax, NoFrom, HasFrom, NumberingHead, OfRowNumber, ExprSyntax, OfConstant, OfColumn, OfParens, OfMinus, OfNot, OfNotExists, OfCase, OfBinary, OfScalar, ScalarSyntax, Counted, Summed, OfCount, SumHead, OfSum, SumTail, OfTail, QuerySyntax, OneSelect, MoreSelects, SelectSyntax, OfSelect, NoWhere, HasWhere, ItemsSyntax, OneItem, MoreItems, ItemSyntax, OfItem, ValueSyntax, Plain, Numbering, NoKeys, HasKeys, KeyListSyntax, OneKey, MoreKeys, WithSyntax, OfWith, WithListSyntax, OneDef, MoreDefs, WithsSyntax, NoWith, HasWith, NoSemi, HasSemi, TextSyntax, OfText, level, left_level, text_depth}
 use Rattle.nq_model.specs.Machines as machines
 use Rattle.nq_model.specs.Machines.{Outcome}
 
@@ -61,6 +61,8 @@ mutual
     InItem : ItemHead → Before → Outside → Around
     InKey : KeyHead → NumberingHead → ItemHead → Before → Outside → Around
     InWhere : ℕ → ItemsSyntax → FromSyntax → Before → Outside → Around
+    InSum : SumHead → Around → Around
+    InScalarWhere : ℕ → ScalarSyntax → FromSyntax → Around → Around
 
   pub data Outside : Type 0 where
     InMain : WithsSyntax → Outside
@@ -92,6 +94,20 @@ pub data State : Type 0 where
   AtSourceName : SourceHead → ℕ → List ℕ → ItemsSyntax → Before → Outside → State
   AtSourceAs : SourceHead → ℕ → List ℕ → ℕ → ItemsSyntax → Before → Outside → State
   AtSemi : WithsSyntax → QuerySyntax → ℕ → State
+  AtScalar : ℕ → ℕ → Around → State
+  AtCount : ℕ → ℕ → ℕ → Around → State
+  AtCountOpen : ℕ → ℕ → ℕ → ℕ → Around → State
+  AtCountStar : ℕ → ℕ → ℕ → ℕ → ℕ → Around → State
+  AtCoalesce : ℕ → ℕ → ℕ → Around → State
+  AtCoalesceOpen : ℕ → ℕ → ℕ → ℕ → Around → State
+  AtSum : ℕ → ℕ → ℕ → ℕ → ℕ → Around → State
+  AtSumClose : SumHead → ExprSyntax → ℕ → Around → State
+  AtSumComma : SumHead → ExprSyntax → ℕ → ℕ → Around → State
+  AtSumZero : SumHead → ExprSyntax → ℕ → ℕ → ℕ → Around → State
+  HaveScalar : ScalarSyntax → FromSyntax → Around → State
+  AtScalarSource : SourceHead → ScalarSyntax → Around → State
+  AtScalarSourceName : SourceHead → ℕ → List ℕ → ScalarSyntax → Around → State
+  AtScalarSourceAs : SourceHead → ℕ → List ℕ → ℕ → ScalarSyntax → Around → State
   Ready : TextSyntax → ℕ → State
 
 abbrev pub start_state : State
@@ -138,6 +154,8 @@ shift (InParen p k) s (Close q) = Some (Have (OfParens p s q) k)
 shift (InWhen p w k) s (Key h Then) = Some (Want (InThen p w s h k))
 shift (InThen p w t h k) s (Key e Else) = Some (Want (InElse p w t h s e k))
 shift (InElse p w t h y e k) s (Key z Stop) = Some (Have (OfCase p w t h y e s z) k)
+shift (InSum h k) s (Close z) = Some (AtSumClose h s z k)
+shift (InScalarWhere p h f k) s (Close z) = Some (Have (OfScalar h f (HasWhere p s) z) k)
 shift (InItem h b c) s (Key a As) = Some (AtAs (Plain s) a h b c)
 shift (InKey h r i b c) s t = after_key (put_key h s) r i b c t
 shift (InWhere p i f b c) s t = after_query c (put_select b (OfSelect i f (HasWhere p s))) t
@@ -158,6 +176,7 @@ start k (Oper p Sub) = Some (Want (InNeg p k))
 start k (Key p Case) = Some (AtCase p k)
 start k (Key p Not) = cond (leb (asks k) 3) (Some (Want (InNot p k))) None
 start (InNot p k) (Key e Exists) = Some (AtExists p e k)
+start (InParen p k) (Key s Select) = Some (AtScalar p s k)
 start (InItem h b c) (Key r RowNumber) = Some (AtRow r h b c)
 start _ _ = None
 
@@ -173,6 +192,13 @@ after_items i NoFrom b c (Comma p) = Some (Want (InItem (AtComma i p) b c))
 after_items i NoFrom b c (Key p From) = Some (AtSource (AtFrom p) i b c)
 after_items i (HasFrom ss) b c (Comma p) = Some (AtSource (SourceComma ss p) i b c)
 after_items i f b c t = after_query c (put_select b (OfSelect i f NoWhere)) t
+
+abbrev pub after_scalar : ScalarSyntax → FromSyntax → Around → Token → Option State
+after_scalar h f k (Key p Where) = Some (Want (InScalarWhere p h f k))
+after_scalar h f k (Close z) = Some (Have (OfScalar h f NoWhere z) k)
+after_scalar h NoFrom k (Key p From) = Some (AtScalarSource (AtFrom p) h k)
+after_scalar h (HasFrom ss) k (Comma p) = Some (AtScalarSource (SourceComma ss p) h k)
+after_scalar h f k t = None
 
 abbrev pub step : State → Token → Option State
 step (AtDef h) (Name p n) = Some (AtDefName h p n)
@@ -199,6 +225,21 @@ step (HaveItems i f b c) t = after_items i f b c t
 step (AtSource h i b c) (Name p t) = Some (AtSourceName h p t i b c)
 step (AtSourceName h p t i b c) (Key a As) = Some (AtSourceAs h p t a i b c)
 step (AtSourceAs h p t a i b c) (Name q n) = Some (HaveItems i (HasFrom (put_source h (OfSource p t a q n))) b c)
+step (AtScalar p s k) (Key c Count) = Some (AtCount p s c k)
+step (AtScalar p s k) (Key c Coalesce) = Some (AtCoalesce p s c k)
+step (AtCount p s c k) (Open o) = Some (AtCountOpen p s c o k)
+step (AtCountOpen p s c o k) (Oper t Mul) = Some (AtCountStar p s c o t k)
+step (AtCountStar p s c o t k) (Close z) = Some (HaveScalar (Counted (OfCount p s c o t z)) NoFrom k)
+step (AtCoalesce p s c k) (Open o) = Some (AtCoalesceOpen p s c o k)
+step (AtCoalesceOpen p s c o k) (Key u Sum) = Some (AtSum p s c o u k)
+step (AtSum p s c o u k) (Open v) = Some (Want (InSum (OfSum p s c o u v) k))
+step (AtSumClose h e z k) (Comma c) = Some (AtSumComma h e z c k)
+step (AtSumComma h e z c k) (Value q (Number zero (suc zero))) = Some (AtSumZero h e z c q k)
+step (AtSumZero h e z c q k) (Close r) = Some (HaveScalar (Summed h e (OfTail z c q r)) NoFrom k)
+step (HaveScalar h f k) t = after_scalar h f k t
+step (AtScalarSource i h k) (Name p t) = Some (AtScalarSourceName i p t h k)
+step (AtScalarSourceName i p t h k) (Key a As) = Some (AtScalarSourceAs i p t a h k)
+step (AtScalarSourceAs i p t a h k) (Name q n) = Some (HaveScalar h (HasFrom (put_source i (OfSource p t a q n))) k)
 step (AtSemi w q p) (End e) = Some (Ready (OfText w q (HasSemi p)) e)
 step _ _ = None
 
@@ -221,6 +262,12 @@ some_select = OfSelect (OneItem 0 (named numbering)) NoFrom NoWhere
 abbrev pub some_query : QuerySyntax
 some_query = OneSelect some_select
 
+abbrev pub counted : ℕ → ℕ → ℕ → ℕ → ℕ → ℕ → ScalarSyntax
+counted p s c o t z = Counted (OfCount p s c o t z)
+
+abbrev pub some_tail : SumTail
+some_tail = OfTail 0 0 0 0
+
 abbrev mutual
   pub close : Around → ExprSyntax → TextSyntax
   close (InParen p k) s = close k (OfParens p s 0)
@@ -233,6 +280,8 @@ abbrev mutual
   close (InItem h b c) s = close_query c (put_select b (OfSelect (put_item h (named (Plain s))) NoFrom NoWhere))
   close (InKey h r i b c) s = close_query c (put_select b (OfSelect (put_item i (named (Numbering r (HasKeys (put_key h s)) 0))) NoFrom NoWhere))
   close (InWhere p i f b c) s = close_query c (put_select b (OfSelect i f (HasWhere p s)))
+  close (InSum h k) s = close k (OfScalar (Summed h s some_tail) NoFrom NoWhere 0)
+  close (InScalarWhere p h f k) s = close k (OfScalar h f (HasWhere p s) 0)
 
   pub close_query : Outside → QuerySyntax → TextSyntax
   close_query (InMain w) q = OfText w q NoSemi
@@ -248,9 +297,13 @@ close_held v h b c = close_items (put_item h (named v)) NoFrom b c
 abbrev pub close_row : NumberingHead → ItemHead → Before → Outside → TextSyntax
 close_row r h b c = close_held (Numbering r NoKeys 0) h b c
 
+abbrev pub close_scalar : ScalarSyntax → FromSyntax → Around → TextSyntax
+close_scalar h f k = close k (OfScalar h f NoWhere 0)
+
 -- behind SELECT or a comma a numbering is less than an expression
 abbrev pub close_want : Around → TextSyntax
 close_want (InItem h b c) = close_held numbering h b c
+close_want (InParen p k) = close_scalar (counted p 0 0 0 0 0) NoFrom k
 close_want k = close k one
 
 -- the least text that begins with what was read
@@ -279,6 +332,20 @@ least (AtSource h i b c) = close_items i (HasFrom (put_source h (OfSource 0 some
 least (AtSourceName h p t i b c) = close_items i (HasFrom (put_source h (OfSource p t 0 0 some_name))) b c
 least (AtSourceAs h p t a i b c) = close_items i (HasFrom (put_source h (OfSource p t a 0 some_name))) b c
 least (AtSemi w q p) = OfText w q (HasSemi p)
+least (AtScalar p s k) = close_scalar (counted p s 0 0 0 0) NoFrom k
+least (AtCount p s c k) = close_scalar (counted p s c 0 0 0) NoFrom k
+least (AtCountOpen p s c o k) = close_scalar (counted p s c o 0 0) NoFrom k
+least (AtCountStar p s c o t k) = close_scalar (counted p s c o t 0) NoFrom k
+least (AtCoalesce p s c k) = close_scalar (Summed (OfSum p s c 0 0 0) one some_tail) NoFrom k
+least (AtCoalesceOpen p s c o k) = close_scalar (Summed (OfSum p s c o 0 0) one some_tail) NoFrom k
+least (AtSum p s c o u k) = close_scalar (Summed (OfSum p s c o u 0) one some_tail) NoFrom k
+least (AtSumClose h e z k) = close_scalar (Summed h e (OfTail z 0 0 0)) NoFrom k
+least (AtSumComma h e z c k) = close_scalar (Summed h e (OfTail z c 0 0)) NoFrom k
+least (AtSumZero h e z c q k) = close_scalar (Summed h e (OfTail z c q 0)) NoFrom k
+least (HaveScalar h f k) = close_scalar h f k
+least (AtScalarSource i h k) = close_scalar h (HasFrom (put_source i (OfSource 0 some_name 0 0 some_name))) k
+least (AtScalarSourceName i p t h k) = close_scalar h (HasFrom (put_source i (OfSource p t 0 0 some_name))) k
+least (AtScalarSourceAs i p t a h k) = close_scalar h (HasFrom (put_source i (OfSource p t a 0 some_name))) k
 least (Ready s q) = s
 
 abbrev pub fits : ℕ → State → Bool

@@ -3,12 +3,13 @@
 use Rattle.std.specs.Prelude.{ℕ, Bool, true, false, List, [], ◌∷◌, ◌++◌, codes}
 use Rattle.std.specs.Fmt.{signed_decimal}
 use Rattle.nq_model.specs.Canonical.{cell_text}
+use Rattle.nq_model.specs.Totals.{HowMany, SumOf}
 use Rattle.nq_model.specs.declared.table.Cell.TheVariants as cell
 use Rattle.nq_model.specs.declared.term.Binary.{Binary}
 use Rattle.nq_model.specs.declared.term.Binary.TheVariants.{Add, Sub, Mul, Eq, Ne, Lt, Le, Gt, Ge, And, Or}
 use Rattle.nq_model.specs.declared.term.Unary.{Unary}
 use Rattle.nq_model.specs.declared.term.Unary.TheVariants.{Minus, Not}
-use Rattle.sql_profile.specs.Trees.{SourceTree, ExprTree, int, bool, text, column, unary, binary, choose, not_exists, ExprTrees, no_expr, then_expr, QueryTree, no_select, then_select, SelectTree, select, KeepTree, keep_all, keep_if, ItemTrees, no_item, then_item, ValueTree, plain, number, WithTree, SqlTree}
+use Rattle.sql_profile.specs.Trees.{SourceTree, ExprTree, int, bool, text, column, unary, binary, choose, not_exists, total, ExprTrees, no_expr, then_expr, QueryTree, no_select, then_select, SelectTree, select, KeepTree, keep_all, keep_if, ItemTrees, no_item, then_item, ValueTree, plain, number, WithTree, SqlTree}
 
 -- a name in double quotes
 abbrev pub quoted : List ℕ → List ℕ
@@ -61,6 +62,9 @@ abbrev mutual
   printed_expr (choose t y n) =
       codes "CASE WHEN " ++ (printed_expr t ++ (codes " THEN " ++ (printed_expr y ++ (codes " ELSE " ++ (printed_expr n ++ codes " END")))))
   printed_expr (not_exists q) = codes "(NOT EXISTS (" ++ (printed_query q ++ codes "))")
+  printed_expr (total HowMany from keep e) = codes "(SELECT COUNT(*)" ++ (printed_from from ++ (printed_keep keep ++ codes ")"))
+  printed_expr (total SumOf from keep e) =
+      codes "(SELECT COALESCE(SUM(" ++ (printed_expr e ++ (codes "), 0)" ++ (printed_from from ++ (printed_keep keep ++ codes ")"))))
 
   -- SELECTs joined by UNION ALL
   pub printed_query : QueryTree → List ℕ

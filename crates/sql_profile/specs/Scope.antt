@@ -4,7 +4,7 @@
 -- alias of a column is seen; 4 its source has the column; 5 operands have the types of their operator;
 -- 6 WHERE and the test of a CASE are truth values and the two arms of a CASE have one type; 7 the item
 -- names of one SELECT differ; 8 the SELECTs of a query have as many items of the same types in order;
--- 9 the names of the WITH queries differ from each other and from the tables.
+-- 9 the names of the WITH queries differ from each other and from the tables; 10 the summed expression is an int.
 use Rattle.std.specs.Prelude.{◌≡◌, ℕ, Bool, true, false, cond, ◌||◌, List, [], ◌∷◌, ◌++◌, map, Option, Some, None}
 use Rattle.std.specs.Str.{bytes_eq}
 use Rattle.nq_model.specs.Operators.{unary_type, binary_type}
@@ -14,7 +14,7 @@ use Rattle.nq_model.specs.declared.table.ColumnType.TheVariants.{Int, Bool as Tr
 use Rattle.nq_model.specs.declared.table.TableShape.{TableShape}
 use Rattle.sql_profile.specs.declared.server.Loaded.{Loaded}
 use Rattle.sql_profile.specs.declared.tree.Source.{Source}
-use Rattle.sql_profile.specs.Trees.{SourceTree, ExprTree, int, bool, text, column, unary, binary, choose, not_exists, ExprTrees, no_expr, then_expr, QueryTree, no_select, then_select, SelectTree, select, KeepTree, keep_all, keep_if, ItemTrees, no_item, then_item, ValueTree, plain, number, WithTree, SqlTree, PlacedExpr, int_at, bool_at, text_at, column_at, unary_at, binary_at, choose_at, not_exists_at, PlacedExprs, none_at, then_at, PlacedQuery, no_select_at, then_select_at, PlacedSelect, select_at, PlacedKeep, keep_all_at, keep_if_at, PlacedItems, no_item_at, then_item_at, item_at, PlacedValue, plain_at, number_at, PlacedWith, PlacedSql}
+use Rattle.sql_profile.specs.Trees.{SourceTree, ExprTree, int, bool, text, column, unary, binary, choose, not_exists, total, ExprTrees, no_expr, then_expr, QueryTree, no_select, then_select, SelectTree, select, KeepTree, keep_all, keep_if, ItemTrees, no_item, then_item, ValueTree, plain, number, WithTree, SqlTree, PlacedExpr, int_at, bool_at, text_at, column_at, unary_at, binary_at, choose_at, not_exists_at, total_at, PlacedExprs, none_at, then_at, PlacedQuery, no_select_at, then_select_at, PlacedSelect, select_at, PlacedKeep, keep_all_at, keep_if_at, PlacedItems, no_item_at, then_item_at, item_at, PlacedValue, plain_at, number_at, PlacedWith, PlacedSql}
 
 -- the tables and the earlier WITH queries, each with its columns
 abbrev pub Shapes : Type 0
@@ -53,6 +53,8 @@ abbrev mutual
   HasType ts env (binary op l r) k = (i : ColumnType) × (j : ColumnType) × HasType ts env l i × HasType ts env r j × (binary_type op i j ≡ Some k)
   HasType ts env (choose t y n) k = HasType ts env t Truth × HasType ts env y k × HasType ts env n k
   HasType ts env (not_exists q) k = (columns : Columns) × QueryHas ts env q columns × (k ≡ Truth)
+  HasType ts env (total g from keep e) k =
+      (own : Aliases) × SourcesHave ts [] from own × KeepHas ts (own ++ env) keep × HasType ts (own ++ env) e Int × (k ≡ Int)
 
   -- the columns of a query have the names of its first SELECT
   pub QueryHas : Shapes → Aliases → QueryTree → Columns → Type 0
@@ -154,6 +156,7 @@ expr_place (unary_at p op e) = p
 expr_place (binary_at p op l r) = p
 expr_place (choose_at p t y n) = p
 expr_place (not_exists_at p q) = p
+expr_place (total_at p g from keep e) = p
 
 abbrev pub select_place : PlacedSelect → ℕ
 select_place (select_at p is from keep) = p
@@ -174,6 +177,8 @@ abbrev mutual
   judge_expr ts env (binary_at p op l r) = and_then (judge_expr ts env l) (λ i. and_then (judge_expr ts env r) (λ j. or_broken 5 p (binary_type op i j)))
   judge_expr ts env (choose_at p t y n) = and_then (judge_expr ts env t) (λ i. and_then (judge_expr ts env y) (λ j. and_then (judge_expr ts env n) (λ k. choose_type p i j k)))
   judge_expr ts env (not_exists_at p q) = and_then (judge_query ts env q) (λ columns. Fine Truth)
+  judge_expr ts env (total_at p g from keep e) =
+      and_then (judge_sources ts [] from) (λ own. and_then (judge_keep ts (own ++ env) keep) (λ k. and_then (judge_expr ts (own ++ env) e) (λ i. wants Int i 10 (expr_place e))))
 
   -- no query is without SELECT, so no caller sees rule 0
   pub judge_query : Shapes → Aliases → PlacedQuery → Verdict Columns

@@ -1,8 +1,9 @@
 -- Trees that texts can spell: no query and no SELECT is empty, names have 1 to 128 bytes without a double quote, and
 -- numbers are 0 to 2^63 - 1.
-use Rattle.std.specs.Prelude.{◌≡◌, ℕ, ◌≤◌, ◌<◌, ◌^◌, pos, List, [], ◌∷◌, length, Contains}
+use Rattle.std.specs.Prelude.{◌≡◌, ℕ, ◌<◌, ◌^◌, pos}
 use Rattle.std.specs.List.{AllByRecursion as Each}
-use Rattle.sql_profile.specs.Trees.{SourceTree, ExprTree, int, bool, text, column, unary, binary, choose, not_exists, ExprTrees, no_expr, then_expr, QueryTree, no_select, then_select, SelectTree, select, KeepTree, keep_all, keep_if, ItemTrees, no_item, then_item, ValueTree, plain, number, WithTree, SqlTree}
+use Rattle.nq_model.specs.Totals.{HowMany, SumOf}
+use Rattle.sql_profile.specs.Trees.{SourceTree, ExprTree, int, bool, text, column, unary, binary, choose, not_exists, total, ExprTrees, no_expr, then_expr, QueryTree, no_select, then_select, SelectTree, select, KeepTree, keep_all, keep_if, ItemTrees, no_item, then_item, ValueTree, plain, number, WithTree, SqlTree}
 use Rattle.sql_profile.specs.WritableNames.{IsWritableName}
 
 abbrev pub HasWritableNames : SourceTree → Type 0
@@ -18,6 +19,8 @@ abbrev mutual
   IsSpellableExpr (binary op l r) = IsSpellableExpr l × IsSpellableExpr r
   IsSpellableExpr (choose t y n) = IsSpellableExpr t × IsSpellableExpr y × IsSpellableExpr n
   IsSpellableExpr (not_exists q) = IsSpellableQuery q
+  IsSpellableExpr (total HowMany from keep e) = Each HasWritableNames from × IsSpellableKeep keep × (e ≡ int (pos 1))
+  IsSpellableExpr (total SumOf from keep e) = Each HasWritableNames from × IsSpellableKeep keep × IsSpellableExpr e
 
   pub IsSpellableQuery : QueryTree → Type 0
   IsSpellableQuery no_select = ⊥

@@ -33,6 +33,9 @@ pub data Keyword : Type 0 where
   Then : Keyword
   Else : Keyword
   Stop : Keyword
+  Count : Keyword
+  Sum : Keyword
+  Coalesce : Keyword
 
 -- a whole number, with the number of its digits; a text literal, as it is spelled between its quotes; TRUE and FALSE
 pub data Constant : Type 0 where
@@ -110,6 +113,9 @@ keywords First =
     ∷ (codes "THEN", λ p. Key p Then)
     ∷ (codes "ELSE", λ p. Key p Else)
     ∷ (codes "END", λ p. Key p Stop)
+    ∷ (codes "COUNT", λ p. Key p Count)
+    ∷ (codes "SUM", λ p. Key p Sum)
+    ∷ (codes "COALESCE", λ p. Key p Coalesce)
     ∷ (codes "OR", λ p. Oper p Or)
     ∷ (codes "AND", λ p. Oper p And)
     ∷ (codes "TRUE", λ p. Value p (Truth true))

@@ -1,9 +1,11 @@
 -- Trees of SQL texts, with their places and without. Places tell faults and mean nothing else.
-use Rattle.std.specs.Prelude.{ℕ, ℤ, Bool, List, [], ◌∷◌, map, Option, Some, None}
+use Rattle.std.specs.Prelude.{ℕ, ℤ, pos, Bool, List, [], ◌∷◌, map, Option, Some, None}
+use Rattle.nq_model.specs.Totals.{Total, HowMany, SumOf}
 use Rattle.nq_model.specs.declared.term.Unary.{Unary}
 use Rattle.nq_model.specs.declared.term.Binary.{Binary}
 use Rattle.sql_profile.specs.declared.tree.SqlText.{SqlText}
 use Rattle.sql_profile.specs.declared.tree.With.{With}
+use Rattle.sql_profile.specs.declared.tree.Picked.{Picked}
 use Rattle.sql_profile.specs.declared.tree.Query.{Query}
 use Rattle.sql_profile.specs.declared.tree.Select.{Select}
 use Rattle.sql_profile.specs.declared.tree.Item.{Item}
@@ -11,8 +13,8 @@ use Rattle.sql_profile.specs.declared.tree.ItemValue.{ItemValue}
 use Rattle.sql_profile.specs.declared.tree.Source.{Source}
 use Rattle.sql_profile.specs.declared.tree.Expr.{Expr}
 use Rattle.sql_profile.specs.declared.tree.ExprNode.{ExprNode}
-use Rattle.sql_profile.specs.declared.tree.ExprNode.TheFolds.{fold-ExprNode, fold-Expr, fold-Query, fold-Select, fold-Item, fold-ItemValue}
-use Rattle.sql_profile.specs.declared.tree.ExprNode.TheOpen.{ExprNode-F, Expr-F, Query-F, Select-F, Item-F, ItemValue-F}
+use Rattle.sql_profile.specs.declared.tree.ExprNode.TheFolds.{fold-ExprNode, fold-Expr, fold-Picked, fold-Query, fold-Select, fold-Item, fold-ItemValue}
+use Rattle.sql_profile.specs.declared.tree.ExprNode.TheOpen.{ExprNode-F, Expr-F, Picked-F, Query-F, Select-F, Item-F, ItemValue-F}
 
 -- a source: its table or WITH query, and its alias
 pub record SourceTree : Type 0 where
@@ -29,6 +31,8 @@ mutual
     binary : Binary → ExprTree → ExprTree → ExprTree
     choose : ExprTree → ExprTree → ExprTree → ExprTree
     not_exists : QueryTree → ExprTree
+    -- over the combinations that a scalar query keeps: how many there are, where the expression is 1, or the sum of the expression
+    total : Total → List SourceTree → KeepTree → ExprTree → ExprTree
 
   pub data ExprTrees : Type 0 where
     no_expr : ExprTrees
@@ -75,6 +79,7 @@ mutual
     binary_at : ℕ → Binary → PlacedExpr → PlacedExpr → PlacedExpr
     choose_at : ℕ → PlacedExpr → PlacedExpr → PlacedExpr → PlacedExpr
     not_exists_at : ℕ → PlacedQuery → PlacedExpr
+    total_at : ℕ → Total → List Source → PlacedKeep → PlacedExpr → PlacedExpr
 
   pub data PlacedExprs : Type 0 where
     none_at : PlacedExprs
@@ -102,6 +107,11 @@ mutual
     plain_at : PlacedExpr → PlacedValue
     number_at : PlacedExprs → PlacedValue
 
+-- the sources of a scalar query, and what it keeps
+pub record PlacedPicked : Type 0 where
+  pub from : List Source
+  pub keep : PlacedKeep
+
 pub record PlacedWith : Type 0 where
   pub name : List ℕ
   pub place : ℕ
@@ -125,6 +135,7 @@ abbrev mutual
   bare_expr (binary_at p op l r) = binary op (bare_expr l) (bare_expr r)
   bare_expr (choose_at p t y n) = choose (bare_expr t) (bare_expr y) (bare_expr n)
   bare_expr (not_exists_at p q) = not_exists (bare_query q)
+  bare_expr (total_at p g from keep e) = total g (map bare_source from) (bare_keep keep) (bare_expr e)
 
   pub bare_exprs : PlacedExprs → ExprTrees
   bare_exprs none_at = no_expr
@@ -173,7 +184,7 @@ keep_of None = keep_all_at
 keep_of (Some e) = keep_if_at e
 
 -- the trees of the program's values: an expression's node is told its place
-abbrev pub node_layer : ExprNode-F (ℕ → PlacedExpr) PlacedValue PlacedExpr PlacedItem PlacedQuery PlacedSelect → ℕ → PlacedExpr
+abbrev pub node_layer : ExprNode-F (ℕ → PlacedExpr) PlacedValue PlacedExpr PlacedItem PlacedPicked PlacedQuery PlacedSelect → ℕ → PlacedExpr
 node_layer (ExprNode-F.Int n) = λ p. int_at p n
 node_layer (ExprNode-F.Bool b) = λ p. bool_at p b
 node_layer (ExprNode-F.Text t) = λ p. text_at p t
@@ -182,40 +193,48 @@ node_layer (ExprNode-F.Unary op e) = λ p. unary_at p op e.value
 node_layer (ExprNode-F.Binary op l r) = λ p. binary_at p op l.value r.value
 node_layer (ExprNode-F.Choose t y n) = λ p. choose_at p t.value y.value n.value
 node_layer (ExprNode-F.NotExists q) = λ p. not_exists_at p q.value
+node_layer (ExprNode-F.Count k) = λ p. total_at p HowMany k.value.from k.value.keep (int_at p (pos 1))
+node_layer (ExprNode-F.Sum k e) = λ p. total_at p SumOf k.value.from k.value.keep e.value
 
-abbrev pub value_layer : ItemValue-F (ℕ → PlacedExpr) PlacedValue PlacedExpr PlacedItem PlacedQuery PlacedSelect → PlacedValue
+abbrev pub value_layer : ItemValue-F (ℕ → PlacedExpr) PlacedValue PlacedExpr PlacedItem PlacedPicked PlacedQuery PlacedSelect → PlacedValue
 value_layer (ItemValue-F.Plain e) = plain_at e
 value_layer (ItemValue-F.Number es) = number_at (exprs_of es)
 
-abbrev pub expr_layer : Expr-F (ℕ → PlacedExpr) PlacedValue PlacedExpr PlacedItem PlacedQuery PlacedSelect → PlacedExpr
+abbrev pub expr_layer : Expr-F (ℕ → PlacedExpr) PlacedValue PlacedExpr PlacedItem PlacedPicked PlacedQuery PlacedSelect → PlacedExpr
 expr_layer e = e.node e.place
 
-abbrev pub item_layer : Item-F (ℕ → PlacedExpr) PlacedValue PlacedExpr PlacedItem PlacedQuery PlacedSelect → PlacedItem
+abbrev pub item_layer : Item-F (ℕ → PlacedExpr) PlacedValue PlacedExpr PlacedItem PlacedPicked PlacedQuery PlacedSelect → PlacedItem
 item_layer i = item_at i.place i.name i.value
 
-abbrev pub query_layer : Query-F (ℕ → PlacedExpr) PlacedValue PlacedExpr PlacedItem PlacedQuery PlacedSelect → PlacedQuery
+abbrev pub picked_layer : Picked-F (ℕ → PlacedExpr) PlacedValue PlacedExpr PlacedItem PlacedPicked PlacedQuery PlacedSelect → PlacedPicked
+picked_layer k = record { from = k.from; keep = keep_of k.keep }
+
+abbrev pub query_layer : Query-F (ℕ → PlacedExpr) PlacedValue PlacedExpr PlacedItem PlacedPicked PlacedQuery PlacedSelect → PlacedQuery
 query_layer q = query_of q.selects
 
-abbrev pub select_layer : Select-F (ℕ → PlacedExpr) PlacedValue PlacedExpr PlacedItem PlacedQuery PlacedSelect → PlacedSelect
+abbrev pub select_layer : Select-F (ℕ → PlacedExpr) PlacedValue PlacedExpr PlacedItem PlacedPicked PlacedQuery PlacedSelect → PlacedSelect
 select_layer s = select_at s.place (items_of s.items) s.from (keep_of s.keep)
 
 abbrev pub placed_node : ExprNode → ℕ → PlacedExpr
-placed_node = fold-ExprNode (ℕ → PlacedExpr) PlacedValue PlacedExpr PlacedItem PlacedQuery PlacedSelect node_layer value_layer expr_layer item_layer query_layer select_layer
+placed_node = fold-ExprNode (ℕ → PlacedExpr) PlacedValue PlacedExpr PlacedItem PlacedPicked PlacedQuery PlacedSelect node_layer value_layer expr_layer item_layer picked_layer query_layer select_layer
 
 abbrev pub placed_value : ItemValue → PlacedValue
-placed_value = fold-ItemValue (ℕ → PlacedExpr) PlacedValue PlacedExpr PlacedItem PlacedQuery PlacedSelect node_layer value_layer expr_layer item_layer query_layer select_layer
+placed_value = fold-ItemValue (ℕ → PlacedExpr) PlacedValue PlacedExpr PlacedItem PlacedPicked PlacedQuery PlacedSelect node_layer value_layer expr_layer item_layer picked_layer query_layer select_layer
 
 abbrev pub placed_expr : Expr → PlacedExpr
-placed_expr = fold-Expr (ℕ → PlacedExpr) PlacedValue PlacedExpr PlacedItem PlacedQuery PlacedSelect node_layer value_layer expr_layer item_layer query_layer select_layer
+placed_expr = fold-Expr (ℕ → PlacedExpr) PlacedValue PlacedExpr PlacedItem PlacedPicked PlacedQuery PlacedSelect node_layer value_layer expr_layer item_layer picked_layer query_layer select_layer
 
 abbrev pub placed_item : Item → PlacedItem
-placed_item = fold-Item (ℕ → PlacedExpr) PlacedValue PlacedExpr PlacedItem PlacedQuery PlacedSelect node_layer value_layer expr_layer item_layer query_layer select_layer
+placed_item = fold-Item (ℕ → PlacedExpr) PlacedValue PlacedExpr PlacedItem PlacedPicked PlacedQuery PlacedSelect node_layer value_layer expr_layer item_layer picked_layer query_layer select_layer
+
+abbrev pub placed_picked : Picked → PlacedPicked
+placed_picked = fold-Picked (ℕ → PlacedExpr) PlacedValue PlacedExpr PlacedItem PlacedPicked PlacedQuery PlacedSelect node_layer value_layer expr_layer item_layer picked_layer query_layer select_layer
 
 abbrev pub placed_query : Query → PlacedQuery
-placed_query = fold-Query (ℕ → PlacedExpr) PlacedValue PlacedExpr PlacedItem PlacedQuery PlacedSelect node_layer value_layer expr_layer item_layer query_layer select_layer
+placed_query = fold-Query (ℕ → PlacedExpr) PlacedValue PlacedExpr PlacedItem PlacedPicked PlacedQuery PlacedSelect node_layer value_layer expr_layer item_layer picked_layer query_layer select_layer
 
 abbrev pub placed_select : Select → PlacedSelect
-placed_select = fold-Select (ℕ → PlacedExpr) PlacedValue PlacedExpr PlacedItem PlacedQuery PlacedSelect node_layer value_layer expr_layer item_layer query_layer select_layer
+placed_select = fold-Select (ℕ → PlacedExpr) PlacedValue PlacedExpr PlacedItem PlacedPicked PlacedQuery PlacedSelect node_layer value_layer expr_layer item_layer picked_layer query_layer select_layer
 
 abbrev pub placed_with : With → PlacedWith
 placed_with w = record { name = w.name; place = w.place; query = placed_query w.query }

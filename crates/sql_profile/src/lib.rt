@@ -10,4 +10,4 @@ mod tree;
 pub use answer::{Answer, Misfit, fits, misfit_laws};
 pub use laws::{answer_laws, ask_laws, loaded_laws, printing_laws, scope_laws, text_laws};
 pub use server::{Loaded, ServerFault, SqlServer, ask_text, load_table};
-pub use tree::{Expr, ExprNode, Item, ItemValue, Query, Select, Source, SqlText, With};
+pub use tree::{Expr, ExprNode, Item, ItemValue, Picked, Query, Select, Source, SqlText, With};

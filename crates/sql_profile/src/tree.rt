@@ -67,7 +67,8 @@ pub struct Expr {
 }
 
 /// What an expression is. An `Int` is from 0 to 2^63 - 1. A `Choose` is a CASE of one test, and
-/// `NotExists` asks whether no SELECT of the query has a row.
+/// `NotExists` asks whether no SELECT of the query has a row. `Count` and `Sum` are scalar queries: how many
+/// combinations are kept, and the sum of a value over them, at 64 bits.
 #[cycle(sql)]
 #[derive(Drop)]
 pub enum ExprNode {
@@ -93,4 +94,17 @@ pub enum ExprNode {
         no: Box<Expr>,
     },
     NotExists(Box<Query>),
+    Count(Box<Picked>),
+    Sum {
+        over: Box<Picked>,
+        value: Box<Expr>,
+    },
+}
+
+/// The sources of a scalar query, and the condition after WHERE.
+#[cycle(sql)]
+#[derive(Drop)]
+pub struct Picked {
+    pub from: List<Source>,
+    pub keep: Option<Expr>,
 }
