@@ -1,4 +1,5 @@
 -- What a form means depends only on the tables that it names, and a row shows its columns.
+use Rattle.nq_model.specs.Totals.{total_of}
 use Rattle.std.proofs.Common.{◌≡◌, ℕ, List, [], ◌∷◌, ◌++◌, map, refl, sym, ap, ap₂, ◌∙◌, subst, Bool, true, false, cond, filter, flat_map, nat_eq, ◌&&◌}
 use Rattle.std.specs.List.{AllByRecursion as Each}
 use Rattle.std.specs.Str.{bytes_eq}
@@ -8,11 +9,11 @@ use Rattle.nq_model.specs.Operators.{is_true, unary_value, binary_value}
 use Rattle.nq_model.specs.declared.table.Cell.{Cell}
 use Rattle.nq_model.specs.declared.table.Cell.TheVariants as cell
 use Rattle.nq_ir.specs.declared.base.Gen.{Gen}
-use Rattle.nq_ir.specs.Trees.{BaseTree, literal, column, unary, binary, choose, empty, Conds, no_cond, and_cond, Tests, no_test, test}
+use Rattle.nq_ir.specs.Trees.{BaseTree, literal, column, unary, binary, choose, empty, Conds, no_cond, and_cond, Tests, no_test, test, total}
 use Rattle.nq_ir.specs.Meanings.{Tables, Env, row_of, choices, value, all_true, no_kept, kept}
 use Rattle.nq_ir.specs.Spots.{StrandTree, shape_leaves}
 use Rattle.nq_ir.specs.Lets.{FlatRow, LetRow, combos, part_rows, tail_of, head_of, columns_in}
-use Rattle.nq_ir.proofs.Nested.{filter_same}
+use Rattle.nq_ir.proofs.Nested.{filter_same, kept_same}
 use Rattle.nq_ir.proofs.Rows.{RowsOf}
 use Rattle.flatten.specs.Emitted.{in_gens}
 use Rattle.flatten.proofs.Apart.{NoDot}
@@ -34,6 +35,7 @@ abbrev mutual
   Dotless (binary f a b) = Dotless a × Dotless b
   Dotless (choose t a b) = Dotless t × Dotless a × Dotless b
   Dotless (empty xs) = DotlessTests xs
+  Dotless (total g gens conds b) = TablesDotless gens × DotlessAll conds × Dotless b
 
   pub DotlessAll : Conds → Type 0
   DotlessAll no_cond = Unit {0}
@@ -58,6 +60,8 @@ module _ (ts us : Tables) (agree : Agree ts us) where
     value_agrees (choose t a b) e h =
         ap (λ z. cond (is_true z) (value us a e) (value us b e)) (value_agrees t e h.0) ∙ ap₂ (λ x y. cond (is_true (value ts t e)) x y) (value_agrees a e h.1) (value_agrees b e h.2)
     value_agrees (empty xs) e h = ap cell.Bool (tests_agree xs e h)
+    value_agrees (total g gens conds b) e h =
+        ap (total_of g) (ap (λ (l : List Env). map (λ rs. value us b (rs ++ e)) (filter (λ rs. all_true us conds (rs ++ e)) l)) (choices_agree gens h.0) ∙ kept_same (λ rs. all_true us conds (rs ++ e)) (λ rs. all_true ts conds (rs ++ e)) (λ rs. value us b (rs ++ e)) (λ rs. value ts b (rs ++ e)) (λ rs. all_agree conds (rs ++ e) h.1) (λ rs. value_agrees b (rs ++ e) h.2) (choices ts gens))
 
     all_agree : (bs : Conds) (e : Env) → DotlessAll bs → all_true us bs e ≡ all_true ts bs e
     all_agree no_cond e h = refl

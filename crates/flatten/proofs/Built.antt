@@ -1,14 +1,16 @@
 -- The trees of expressions and items that are built, form by form.
-use Rattle.std.proofs.Common.{◌≡◌, ℕ, ℤ, Bool, List, [], ◌∷◌, ◌++◌, map, refl, sym, ap, ap₂, ◌∙◌, Box, Global}
+use Rattle.flatten.specs.Views.{picked_tree, keep_tree}
+use Rattle.sql_profile.specs.declared.tree.Picked.{Picked, out-Picked}
+use Rattle.nq_model.specs.Totals.{HowMany, SumOf}
+use Rattle.std.proofs.Common.{◌≡◌, ℕ, ℤ, Bool, List, map, ap, ◌∙◌, Box, Global, pos}
 use Rattle.nq_model.specs.NamedRows.{Label}
 use Rattle.nq_model.specs.declared.term.Unary.{Unary}
 use Rattle.nq_model.specs.declared.term.Binary.{Binary}
 use Rattle.sql_profile.specs.declared.tree.Expr.{Expr}
 use Rattle.sql_profile.specs.declared.tree.Query.{Query}
-use Rattle.sql_profile.specs.declared.tree.ExprNode.{ExprNode}
 use Rattle.sql_profile.specs.declared.tree.ExprNode.TheVariants as node
-use Rattle.sql_profile.specs.Trees.{ExprTree, bare_expr, expr_tree, query_tree, placed_node}
-use Rattle.sql_profile.proofs.Trees.{expr_placed, node_int, node_bool, node_text, node_column, node_unary, node_binary, node_choose, node_not_exists}
+use Rattle.sql_profile.specs.Trees.{ExprTree, bare_expr, expr_tree, query_tree, placed_node, PlacedPicked, bare_source, bare_keep}
+use Rattle.sql_profile.proofs.Trees.{expr_placed, node_int, node_bool, node_text, node_column, node_unary, node_binary, node_choose, node_not_exists, node_count, node_sum, picked_placed}
 
 pub expr_built : (e : Expr) → expr_tree e ≡ bare_expr (placed_node e.node e.place)
 expr_built e = ap bare_expr (expr_placed e)
@@ -36,3 +38,12 @@ choose_built p t y n = expr_built (record { place = p; node = node.Choose t y n 
 
 pub not_exists_built : (p : ℕ) (q : Box Query Global) → expr_tree (record { place = p; node = node.NotExists q }) ≡ ExprTree.not_exists (query_tree q.value)
 not_exists_built p q = expr_built (record { place = p; node = node.NotExists q }) ∙ ap bare_expr (node_not_exists q p)
+
+pub count_built : (p : ℕ) (k : Box Picked Global) → expr_tree (record { place = p; node = node.Count k }) ≡ ExprTree.total HowMany (picked_tree k.value).0 (picked_tree k.value).1 (ExprTree.int (pos 1))
+count_built p k = expr_built (record { place = p; node = node.Count k }) ∙ ap bare_expr (node_count k p)
+
+pub sum_built : (p : ℕ) (k : Box Picked Global) (e : Box Expr Global) → expr_tree (record { place = p; node = node.Sum k e }) ≡ ExprTree.total SumOf (picked_tree k.value).0 (picked_tree k.value).1 (expr_tree e.value)
+sum_built p k e = expr_built (record { place = p; node = node.Sum k e }) ∙ ap bare_expr (node_sum k e p)
+
+pub picked_built : (k : Picked) → picked_tree k ≡ (map bare_source (out-Picked k).from, keep_tree (out-Picked k).keep)
+picked_built k = ap (λ (z : PlacedPicked). (map bare_source z.from, bare_keep z.keep)) (picked_placed k)

@@ -1,10 +1,9 @@
 -- Worked examples: the texts of normal forms at their paths, checked by computing them.
 use Rattle.std.proofs.Common.{◌≡◌, [], ◌∷◌, refl, codes, pos, ℕ, List}
 use Rattle.std.specs.Fmt.{digits}
-use Rattle.nq_model.specs.Terms.{TermTree, TermFields}
+use Rattle.nq_model.specs.Terms.{TermTree, Emptiness}
 use Rattle.nq_model.specs.Types.{TypeTree, FieldTypes}
 use Rattle.nq_model.specs.declared.table.TableShape.{TableShape}
-use Rattle.nq_model.specs.declared.table.ColumnType.TheVariants as column
 use Rattle.nq_model.specs.declared.term.Binary.TheVariants.{Eq}
 use Rattle.nq_ir.specs.declared.path.Step.{Step}
 use Rattle.nq_ir.specs.declared.path.Step.TheVariants.{Down, Field}
@@ -12,7 +11,7 @@ use Rattle.nq_ir.specs.Lets.{LetFormTree, insert_lets}
 use Rattle.nq_ir.specs.NormalForms.{normal_form}
 use Rattle.nq_ir.specs.Shredded.{shredded}
 use Rattle.nq_ir.specs.WellFormed.{column_names}
-use Rattle.nq_ir.proofs.Worked.{org, three_levels, department, at}
+use Rattle.nq_ir.proofs.Worked.{org, three_levels, department, at, totals_type, totals_query}
 use Rattle.shred_types.specs.Columns.{answer_columns}
 use Rattle.sql_profile.specs.Printed.{printed}
 use Rattle.flatten.specs.Names.{with_name, let_alias, alias, outer_column, number_name, answer_name, one_name}
@@ -70,9 +69,15 @@ union_text = refl
 -- whether a department has nobody, where the test's generator stands inside
 abbrev empty_departments : TermTree
 empty_departments =
-    TermTree.for (TermTree.table (codes "departments")) (TermTree.single (TermTree.empty (TermTree.for (TermTree.table (codes "employees")) (TermTree.guard (TermTree.binary Eq (at 0 (codes "dept")) (at 1 (codes "name"))) (TermTree.single (at 0 (codes "name")))))))
+    TermTree.for (TermTree.table (codes "departments")) (TermTree.single (TermTree.aggregate Emptiness (TermTree.for (TermTree.table (codes "employees")) (TermTree.guard (TermTree.binary Eq (at 0 (codes "dept")) (at 1 (codes "name"))) (TermTree.single (at 0 (codes "name")))))))
 
 pub test_text : text_at org TypeTree.bool empty_departments []
     ≡ codes "SELECT 0 AS \"ot\", 1 AS \"on\", (NOT EXISTS (SELECT 1 AS \"one\" FROM \"employees\" AS \"x2\" WHERE (\"x2\".\"dept\" = \"x1\".\"name\"))) AS \"c1\" FROM \"departments\" AS \"x1\""
 unfolding alias answer_name one_name digits
 test_text = refl
+
+-- how many employees each department has, and what they earn together
+pub totals_text : text_at org totals_type totals_query []
+    ≡ codes "SELECT 0 AS \"ot\", 1 AS \"on\", \"x1\".\"name\" AS \"c1\", (SELECT COUNT(*) FROM \"employees\" AS \"x2\" WHERE (\"x2\".\"dept\" = \"x1\".\"name\")) AS \"c2\", (SELECT COALESCE(SUM(\"x3\".\"salary\"), 0) FROM \"employees\" AS \"x3\" WHERE (\"x3\".\"dept\" = \"x1\".\"name\")) AS \"c3\" FROM \"departments\" AS \"x1\""
+unfolding alias answer_name digits
+totals_text = refl

@@ -1,5 +1,9 @@
 -- An emitted expression has the value of its base term.
-use Rattle.std.proofs.Common.{◌≡◌, ℕ, List, [], ◌∷◌, ◌++◌, map, refl, sym, ap, ap₂, ◌∙◌, Bool, true, false, cond, filter, nat_eq, ◌&&◌}
+use Rattle.std.specs.Int.{int_wrap, w64}
+use Rattle.nq_model.proofs.Numberings.{length_map}
+use Rattle.nq_ir.proofs.RawMeanings.{kept_each}
+use Rattle.nq_model.specs.Totals.{HowMany, SumOf, total_of}
+use Rattle.std.proofs.Common.{◌≡◌, ℕ, List, [], ◌∷◌, ◌++◌, map, refl, sym, ap, ap₂, ◌∙◌, Bool, true, false, cond, filter, nat_eq, ◌&&◌, pos}
 use Rattle.std.proofs.lemmas.Bool.Decides.{Decides-eqb}
 use Rattle.std.specs.List.{AllByRecursion as Each}
 use Rattle.nq_model.specs.NamedRows.{Label, NamedTables, cell_under, rows_named}
@@ -9,7 +13,7 @@ use Rattle.nq_model.specs.declared.table.Cell.{Cell}
 use Rattle.nq_model.specs.declared.table.Cell.TheVariants as cell
 use Rattle.nq_model.specs.declared.term.Binary.TheVariants.{And}
 use Rattle.nq_ir.specs.declared.base.Gen.{Gen}
-use Rattle.nq_ir.specs.Trees.{BaseTree, literal, column, unary, binary, choose, empty, Conds, no_cond, and_cond, Tests, no_test, test}
+use Rattle.nq_ir.specs.Trees.{BaseTree, literal, column, unary, binary, choose, empty, Conds, no_cond, and_cond, Tests, no_test, test, total}
 use Rattle.nq_ir.specs.Meanings.{Tables, Env, row_of, choices, value, all_true, no_kept}
 use Rattle.nq_ir.proofs.Nested.{map_flat, map_of_map, choice_numbers, flat_same}
 use Rattle.sql_profile.specs.Trees.{ExprTree}
@@ -31,6 +35,7 @@ abbrev mutual
   Inner outer (binary f a b) = Inner outer a × Inner outer b
   Inner outer (choose t a b) = Inner outer t × Inner outer a × Inner outer b
   Inner outer (empty xs) = InnerTests outer xs
+  Inner outer (total g gens conds b) = Each (λ g. outer g.number ≡ false) gens × InnerAll outer conds × Inner outer b
 
   pub InnerAll : (ℕ → Bool) → Conds → Type 0
   InnerAll outer no_cond = Unit {0}
@@ -122,6 +127,26 @@ module _ (ts : NamedTables) (outer : ℕ → Bool) where
       ∙ ap is_none (filter_each (λ f. map (λ b. b.0) f ≡ map (λ g. g.number) gens) (λ f. keeps ts (conds_keep outer conds) (scoped f ++ sc)) (λ f. all_true (by_name ts) conds (f ++ e)) t (choices (by_name ts) gens) (choice_numbers (by_name ts) gens)))
       r
 
+  kept_mapped : {A B C : Type 0} (f : A → B) (p : B → Bool) (g : B → C) (xs : List A) → map g (filter p (map f xs)) ≡ map (λ x. g (f x)) (filter (λ x. p (f x)) xs)
+  kept_mapped f p g [] = refl
+  kept_mapped f p g (x ∷ xs) = go (p (f x)) (kept_mapped f p g xs)
+    where
+      go : (b : Bool) → map g (filter p (map f xs)) ≡ map (λ x. g (f x)) (filter (λ x. p (f x)) xs) → map g (cond b (f x ∷ filter p (map f xs)) (filter p (map f xs))) ≡ map (λ x. g (f x)) (cond b (x ∷ filter (λ x. p (f x)) xs) (filter (λ x. p (f x)) xs))
+      go true i = ap (λ (l : List _). g (f x) ∷ l) i
+      go false i = i
+
+  -- the values at the combinations that a scalar query keeps
+  values_are : (gens : List Gen) (conds : Conds) (sc : Scope) (e : Env) (v : Scope → Cell) (w : Env → Cell) → ((f : Env) → map (λ b. b.0) f ≡ map (λ g. g.number) gens → keeps ts (conds_keep outer conds) (scoped f ++ sc) ≡ all_true (by_name ts) conds (f ++ e)) → ((f : Env) → map (λ b. b.0) f ≡ map (λ g. g.number) gens → v (scoped f ++ sc) ≡ w (f ++ e))
+      → map v (filter (λ c. keeps ts (conds_keep outer conds) c) (map (λ c. c ++ sc) (combinations ts (map source_of gens)))) ≡ map (λ f. w (f ++ e)) (filter (λ f. all_true (by_name ts) conds (f ++ e)) (choices (by_name ts) gens))
+  values_are gens conds sc e v w t u =
+      ap (λ (l : List Scope). map v (filter (λ c. keeps ts (conds_keep outer conds) c) (map (λ c. c ++ sc) l))) (combinations_are gens)
+      ∙ kept_mapped (λ c. c ++ sc) (λ c. keeps ts (conds_keep outer conds) c) v (map scoped (choices (by_name ts) gens))
+      ∙ kept_mapped scoped (λ c. keeps ts (conds_keep outer conds) (c ++ sc)) (λ c. v (c ++ sc)) (choices (by_name ts) gens)
+      ∙ kept_each (λ f. map (λ b. b.0) f ≡ map (λ g. g.number) gens) (λ f. keeps ts (conds_keep outer conds) (scoped f ++ sc)) (λ f. all_true (by_name ts) conds (f ++ e)) (λ f. v (scoped f ++ sc)) (λ f. w (f ++ e)) t u (choices (by_name ts) gens) (choice_numbers (by_name ts) gens)
+
+  counts_alike : {A : Type 0} (f g : A → Cell) (xs : List A) → total_of HowMany (map f xs) ≡ total_of HowMany (map g xs)
+  counts_alike f g xs = ap (λ n. cell.Int (int_wrap w64 (pos n))) (length_map f xs ∙ sym (length_map g xs))
+
   mutual
     pub expr_is : (b : BaseTree) (sc : Scope) (e : Env) → Inner outer b → Shows sc e → expr_value ts (base_expr outer b) sc ≡ value (by_name ts) b e
     expr_is (literal c) sc e h s = literal_is ts c sc
@@ -132,6 +157,11 @@ module _ (ts : NamedTables) (outer : ℕ → Bool) where
         ap (λ z. cond (is_true z) (expr_value ts (base_expr outer a) sc) (expr_value ts (base_expr outer b) sc)) (expr_is t sc e h.0 s) ∙ ap₂ (λ x y. cond (is_true (value (by_name ts) t e)) x y) (expr_is a sc e h.1 s) (expr_is b sc e h.2 s)
     expr_is (empty no_test) sc e h s = refl
     expr_is (empty (test gens conds xs)) sc e h s = ap cell.Bool (test_is gens conds xs sc e h.0 (λ f k. condition_is conds (scoped f ++ sc) (f ++ e) h.1 (shows_more f sc e (own_rows outer gens f k h.0) s)) (tests_are xs sc e h.2 s))
+    expr_is (total HowMany gens conds b) sc e h s =
+        ap (total_of HowMany) (values_are gens conds sc e (λ c. cell.Int (pos 1)) (λ f. cell.Int (pos 1)) (λ f k. condition_is conds (scoped f ++ sc) (f ++ e) h.1 (shows_more f sc e (own_rows outer gens f k h.0) s)) (λ f k. refl))
+        ∙ counts_alike (λ f. cell.Int (pos 1)) (λ f. value (by_name ts) b (f ++ e)) (filter (λ f. all_true (by_name ts) conds (f ++ e)) (choices (by_name ts) gens))
+    expr_is (total SumOf gens conds b) sc e h s =
+        ap (total_of SumOf) (values_are gens conds sc e (λ c. expr_value ts (base_expr outer b) c) (λ f. value (by_name ts) b f) (λ f k. condition_is conds (scoped f ++ sc) (f ++ e) h.1 (shows_more f sc e (own_rows outer gens f k h.0) s)) (λ f k. expr_is b (scoped f ++ sc) (f ++ e) h.2 (shows_more f sc e (own_rows outer gens f k h.0) s)))
 
     pub condition_is : (bs : Conds) (sc : Scope) (e : Env) → InnerAll outer bs → Shows sc e → keeps ts (conds_keep outer bs) sc ≡ all_true (by_name ts) bs e
     condition_is no_cond sc e h s = refl

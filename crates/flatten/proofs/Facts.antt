@@ -15,7 +15,7 @@ use Rattle.nq_model.specs.declared.table.Schema.{Schema}
 use Rattle.nq_model.specs.declared.table.TableShape.{TableShape}
 use Rattle.nq_model.proofs.Numberings.{each_map}
 use Rattle.nq_ir.specs.declared.base.Gen.{Gen}
-use Rattle.nq_ir.specs.Trees.{BaseTree, literal, column, unary, binary, choose, empty, Conds, no_cond, and_cond, Tests, no_test, test, BodyTree, plain_body, rec_body, bag_body, Bodies, no_body, with_body, Comps, no_comp, comp, ShapeTree, plain_shape, rec_shape, index_shape, Shapes, no_shape, with_shape}
+use Rattle.nq_ir.specs.Trees.{BaseTree, literal, column, unary, binary, choose, empty, Conds, no_cond, and_cond, Tests, no_test, test, BodyTree, plain_body, rec_body, bag_body, Bodies, no_body, with_body, Comps, no_comp, comp, ShapeTree, plain_shape, rec_shape, index_shape, Shapes, no_shape, with_shape, total}
 use Rattle.nq_ir.specs.Spots.{StrandTree, shaped, both, shape_of, shape_of_fields, shape_leaves, shape_leaves_in}
 use Rattle.nq_ir.specs.WellFormed.{IsNumber, body_tags, bodies_tags, comps_tags, BaseHas, CondsHave, TestsHave, BodyHas, BodiesHave, CompsHave, AreTables, column_type_in, gen_columns, table_columns, numbers, base_numbers, conds_numbers, tests_numbers, body_numbers, bodies_numbers, comps_numbers}
 use Rattle.nq_ir.proofs.Distinct.{Apart, Distinct, Sub, among_left, among_right, distinct_apart, distinct_sub, each_among, each_join, each_left, each_right, each_sub, first, later, sub_append, sub_before, sub_left, sub_refl, sub_right}
@@ -36,6 +36,7 @@ abbrev mutual
   TestsApart (binary o a b) = TestsApart a × TestsApart b
   TestsApart (choose t a b) = TestsApart t × TestsApart a × TestsApart b
   TestsApart (empty xs) = TestsApartIn xs
+  TestsApart (total g gens conds b) = Distinct (numbers gens) × TestsApartAll conds × TestsApart b
 
   pub TestsApartAll : Conds → Type 0
   TestsApartAll no_cond = Unit {0}
@@ -55,6 +56,9 @@ mutual
       let r = distinct_sub (sub_right (base_numbers t) (base_numbers a ++ base_numbers b)) d in
       (distinct_tests t (distinct_sub (sub_left (base_numbers t) (base_numbers a ++ base_numbers b)) d), distinct_tests a (distinct_sub (sub_left (base_numbers a) (base_numbers b)) r), distinct_tests b (distinct_sub (sub_right (base_numbers a) (base_numbers b)) r))
   distinct_tests (empty xs) d = distinct_tests_in xs d
+  distinct_tests (total g gens conds b) d =
+      let r = distinct_sub (sub_right (numbers gens) (conds_numbers conds ++ base_numbers b)) d in
+      (distinct_sub (sub_left (numbers gens) (conds_numbers conds ++ base_numbers b)) d, distinct_tests_all conds (distinct_sub (sub_left (conds_numbers conds) (base_numbers b)) r), distinct_tests b (distinct_sub (sub_right (conds_numbers conds) (base_numbers b)) r))
 
   distinct_tests_all : (bs : Conds) → Distinct (conds_numbers bs) → TestsApartAll bs
   distinct_tests_all no_cond d = tt
@@ -80,6 +84,9 @@ mutual
       let r = each_right (λ n. outer n ≡ false) (base_numbers t) (base_numbers a ++ base_numbers b) h in
       (inner_from outer t (each_left (λ n. outer n ≡ false) (base_numbers t) (base_numbers a ++ base_numbers b) h), inner_from outer a (each_left (λ n. outer n ≡ false) (base_numbers a) (base_numbers b) r), inner_from outer b (each_right (λ n. outer n ≡ false) (base_numbers a) (base_numbers b) r))
   inner_from outer (empty xs) h = inner_tests_from outer xs h
+  inner_from outer (total g gens conds b) h =
+      let r = each_right (λ n. outer n ≡ false) (numbers gens) (conds_numbers conds ++ base_numbers b) h in
+      (each_number (λ n. outer n ≡ false) gens (each_left (λ n. outer n ≡ false) (numbers gens) (conds_numbers conds ++ base_numbers b) h), inner_all_from outer conds (each_left (λ n. outer n ≡ false) (conds_numbers conds) (base_numbers b) r), inner_from outer b (each_right (λ n. outer n ≡ false) (conds_numbers conds) (base_numbers b) r))
 
   inner_all_from : (outer : ℕ → Bool) (bs : Conds) → Each (λ n. outer n ≡ false) (conds_numbers bs) → InnerAll outer bs
   inner_all_from outer no_cond h = tt
@@ -152,6 +159,7 @@ module _ (schema : Schema) (proper : IsProperSchema schema) where
     base_dotless sc (binary o a b) T h = (base_dotless sc a h.0 h.2, base_dotless sc b h.1 h.3)
     base_dotless sc (choose t a b) T h = (base_dotless sc t column_type.Bool h.0, base_dotless sc a T h.1, base_dotless sc b T h.2)
     base_dotless sc (empty xs) T h = tests_dotless sc xs h.1
+    base_dotless sc (total g gens conds b) T h = (gens_dotless gens h.1, conds_dotless (gens ++ sc) conds h.2, base_dotless (gens ++ sc) b column_type.Int h.3)
 
     pub conds_dotless : (sc : List Gen) (bs : Conds) → CondsHave schema.tables sc bs → DotlessAll bs
     conds_dotless sc no_cond h = tt
@@ -194,6 +202,8 @@ module _ (S : List TableShape) where
     typed_more sc tc (binary o a b) T h = (h.0, h.1, typed_more sc tc a h.0 h.2, typed_more sc tc b h.1 h.3, h.4)
     typed_more sc tc (choose t a b) T h = (typed_more sc tc t column_type.Bool h.0, typed_more sc tc a T h.1, typed_more sc tc b T h.2)
     typed_more sc tc (empty xs) T h = (h.0, tests_more sc tc xs h.1)
+    typed_more sc tc (total g gens conds b) T h =
+        (h.0, h.1, subst (λ (z : List Gen). CondsHave S z conds) (append_assoc gens sc tc) (conds_more (gens ++ sc) tc conds h.2), subst (λ (z : List Gen). BaseHas S z b column_type.Int) (append_assoc gens sc tc) (typed_more (gens ++ sc) tc b column_type.Int h.3))
 
     conds_more : (sc tc : List Gen) (bs : Conds) → CondsHave S sc bs → CondsHave S (sc ++ tc) bs
     conds_more sc tc no_cond h = tt

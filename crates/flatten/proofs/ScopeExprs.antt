@@ -1,4 +1,5 @@
 -- Emitted expressions, conditions and tests keep the scope rules and have the types of their terms.
+use Rattle.nq_model.specs.Totals.{HowMany, SumOf}
 use Rattle.std.proofs.Common.{◌≡◌, ℕ, List, [], ◌∷◌, ◌++◌, map, refl, sym, ap, ap₂, ◌∙◌, Bool, true, false, cond, nat_eq, ◌||◌, Some, IsSome}
 use Rattle.std.specs.List.{AllByRecursion as Each}
 use Rattle.std.specs.Str.{bytes_eq}
@@ -14,7 +15,7 @@ use Rattle.nq_model.specs.declared.table.TableShape.{TableShape}
 use Rattle.nq_model.specs.declared.term.Binary.TheVariants.{And}
 use Rattle.nq_model.specs.Cells.{column_type_of}
 use Rattle.nq_ir.specs.declared.base.Gen.{Gen}
-use Rattle.nq_ir.specs.Trees.{BaseTree, literal, column, unary, binary, choose, empty, Conds, no_cond, and_cond, Tests, no_test, test}
+use Rattle.nq_ir.specs.Trees.{BaseTree, literal, column, unary, binary, choose, empty, Conds, no_cond, and_cond, Tests, no_test, test, total}
 use Rattle.nq_ir.specs.WellFormed.{BaseHas, CondsHave, TestsHave, AreTables, column_type_in, gen_columns, table_columns, numbers}
 use Rattle.nq_ir.proofs.Distinct.{Distinct}
 use Rattle.sql_profile.specs.Trees.{ExprTree, select}
@@ -111,6 +112,11 @@ module _ (S : List TableShape) where
         base_typed (empty no_test) T env sc h i a s = h.0
         base_typed (empty (test gens conds xs)) T env sc h i a s =
             (one_columns, (test_typed gens conds env h.1.0 a.0 (keep_typed conds (own_aliases gens ++ env) (gens ++ sc) h.1.1 i.1 a.1 (shows_types_more gens env sc i.0 s)), tests_typed xs env sc h.1.2 i.2 a.2 s), h.0)
+        base_typed (total HowMany gens conds b) T env sc h i a s =
+            (own_aliases gens, sources_have [] gens h.1 a.0 (none_seen gens), keep_typed conds (own_aliases gens ++ env) (gens ++ sc) h.2 i.1 a.1 (shows_types_more gens env sc i.0 s), refl, h.0)
+        base_typed (total SumOf gens conds b) T env sc h i a s =
+            let shows = shows_types_more gens env sc i.0 s in
+            (own_aliases gens, sources_have [] gens h.1 a.0 (none_seen gens), keep_typed conds (own_aliases gens ++ env) (gens ++ sc) h.2 i.1 a.1 shows, base_typed b Int (own_aliases gens ++ env) (gens ++ sc) h.3 i.2 a.2 shows, h.0)
 
         pub keep_typed : (bs : Conds) (env : Aliases) (sc : List Gen) → CondsHave S sc bs → InnerAll outer bs → TestsApartAll bs → ShowsTypes outer env sc → KeepHas R env (conds_keep outer bs)
         keep_typed no_cond env sc h i a s = tt

@@ -1,4 +1,5 @@
 -- A text can spell the tree of a let form.
+use Rattle.nq_model.specs.Totals.{HowMany, SumOf}
 use Rattle.std.proofs.Common.{◌≡◌, ℕ, zero, suc, ◌+◌, ◌≤◌, ◌<◌, ◌^◌, List, [], ◌∷◌, ◌++◌, map, length, refl, sym, subst, Bool, true, false, cond, nat_eq, arith, append-nil, Some, IsSome}
 use Rattle.std.specs.List.{AllByRecursion as Each}
 use Rattle.std.specs.Str.{bytes_eq}
@@ -16,7 +17,7 @@ use Rattle.nq_model.specs.declared.table.ColumnType.TheVariants.{Int, Bool as Tr
 use Rattle.nq_model.specs.declared.table.Schema.{Schema}
 use Rattle.nq_model.specs.declared.table.TableShape.{TableShape}
 use Rattle.nq_ir.specs.declared.base.Gen.{Gen}
-use Rattle.nq_ir.specs.Trees.{BaseTree, literal, column, unary, binary, choose, empty, Conds, no_cond, and_cond, Tests, no_test, test, ShapeTree, plain_shape, rec_shape, index_shape, Shapes, no_shape, with_shape}
+use Rattle.nq_ir.specs.Trees.{BaseTree, literal, column, unary, binary, choose, empty, Conds, no_cond, and_cond, Tests, no_test, test, ShapeTree, plain_shape, rec_shape, index_shape, Shapes, no_shape, with_shape, total}
 use Rattle.nq_ir.specs.Meanings.{EachBoth}
 use Rattle.nq_ir.specs.Spots.{StrandTree, shape_leaves, shape_leaves_in}
 use Rattle.nq_ir.specs.Lets.{LetTree, PartTree, LetFormTree, strand_of, columns_in, IsLetFormOf}
@@ -144,6 +145,15 @@ module _ (S : List TableShape) (proper : Each IsProperShape S) where
           let r = each_right IsNumber (numbers gens) (conds_numbers conds ++ tests_numbers xs) n in
           let own = each_left IsNumber (numbers gens) (conds_numbers conds ++ tests_numbers xs) n in
           (((one_writable, (1, refl, omega arith), tt), sources_spelled gens h.1.0 own, keep_spelled (gens ++ sc) conds (fits_more gens sc own f) h.1.1 (each_left IsNumber (conds_numbers conds) (tests_numbers xs) r)), tests_spelled sc xs f h.1.2 (each_right IsNumber (conds_numbers conds) (tests_numbers xs) r))
+      base_spelled sc (total HowMany gens conds b) T f h n =
+          let r = each_right IsNumber (numbers gens) (conds_numbers conds ++ base_numbers b) n in
+          let own = each_left IsNumber (numbers gens) (conds_numbers conds ++ base_numbers b) n in
+          (sources_spelled gens h.1 own, keep_spelled (gens ++ sc) conds (fits_more gens sc own f) h.2 (each_left IsNumber (conds_numbers conds) (base_numbers b) r), refl)
+      base_spelled sc (total SumOf gens conds b) T f h n =
+          let r = each_right IsNumber (numbers gens) (conds_numbers conds ++ base_numbers b) n in
+          let own = each_left IsNumber (numbers gens) (conds_numbers conds ++ base_numbers b) n in
+          let inner = fits_more gens sc own f in
+          (sources_spelled gens h.1 own, keep_spelled (gens ++ sc) conds inner h.2 (each_left IsNumber (conds_numbers conds) (base_numbers b) r), base_spelled (gens ++ sc) b Int inner h.3 (each_right IsNumber (conds_numbers conds) (base_numbers b) r))
 
       keep_spelled : (sc : List Gen) (bs : Conds) → ScopeFits sc → CondsHave S sc bs → Each IsNumber (conds_numbers bs) → IsSpellableKeep (conds_keep outer bs)
       keep_spelled sc no_cond f h n = tt

@@ -10,7 +10,7 @@ use Rattle.nq_model.specs.declared.table.ColumnType.{ColumnType}
 use Rattle.nq_model.proofs.Bags.{reordered_sym}
 use Rattle.nq_model.proofs.Numberings.{each_map, each_reordered}
 use Rattle.nq_ir.specs.declared.base.Gen.{Gen}
-use Rattle.nq_ir.specs.Trees.{BaseTree, literal, column, unary, binary, choose, empty, Conds, no_cond, and_cond, Tests, no_test, test}
+use Rattle.nq_ir.specs.Trees.{BaseTree, literal, column, unary, binary, choose, empty, Conds, no_cond, and_cond, Tests, no_test, test, total}
 use Rattle.nq_ir.specs.Meanings.{Tables, Env, kept, EachBoth}
 use Rattle.nq_ir.specs.Spots.{shape_leaves}
 use Rattle.nq_ir.specs.Lets.{FlatRow, LetTree, PartTree, LetFormTree, LetRow, LetGives, Deals, Side, PartGives, PartsGive, FormGives, let_of, let_rows, strand_of, no_let, combos, part_rows, columns_in, key_of}
@@ -61,6 +61,7 @@ mutual
   inner_all (binary f a b) = (inner_all a, inner_all b)
   inner_all (choose t a b) = (inner_all t, inner_all a, inner_all b)
   inner_all (empty xs) = inner_tests xs
+  inner_all (total g gens conds b) = (inner_gens gens, inner_conds conds, inner_all b)
 
   pub inner_conds : (bs : Conds) → InnerAll none_outer bs
   inner_conds no_cond = tt

@@ -1,13 +1,14 @@
 -- Base terms, conditions and generators as parts of SQL trees.
 --
 -- `outer` tells which generators stand outside: a column of those is one of the WITH query.
+use Rattle.nq_model.specs.Totals.{HowMany, SumOf}
 use Rattle.std.specs.Prelude.{ℕ, pos, Bool, true, cond, List, [], ◌∷◌, map}
 use Rattle.nq_model.specs.NamedRows.{Label}
 use Rattle.nq_model.specs.declared.table.Cell.{Cell}
 use Rattle.nq_model.specs.declared.table.Cell.TheVariants as cell
 use Rattle.nq_model.specs.declared.term.Binary.TheVariants.{And}
 use Rattle.nq_ir.specs.declared.base.Gen.{Gen}
-use Rattle.nq_ir.specs.Trees.{BaseTree, literal, column, unary, binary, choose, empty, Conds, no_cond, and_cond, Tests, no_test, test}
+use Rattle.nq_ir.specs.Trees.{BaseTree, literal, column, unary, binary, choose, empty, Conds, no_cond, and_cond, Tests, no_test, test, total}
 use Rattle.sql_profile.specs.Trees.{SourceTree, ExprTree, ExprTrees, no_expr, then_expr, QueryTree, no_select, then_select, select, KeepTree, keep_all, keep_if, ItemTrees, no_item, then_item, plain}
 use Rattle.flatten.specs.Names.{alias, let_alias, outer_column, one_name}
 
@@ -38,6 +39,9 @@ abbrev mutual
   base_expr outer (empty no_test) = ExprTree.bool true
   base_expr outer (empty (test gens conds xs)) =
       ExprTree.not_exists (then_select (select one_item (map source_of gens) (conds_keep outer conds)) (tests_query outer xs))
+  -- a count is COUNT(*), and a sum is of its value, over the sources and conditions of its comprehension
+  base_expr outer (total HowMany gens conds b) = ExprTree.total HowMany (map source_of gens) (conds_keep outer conds) (ExprTree.int (pos 1))
+  base_expr outer (total SumOf gens conds b) = ExprTree.total SumOf (map source_of gens) (conds_keep outer conds) (base_expr outer b)
 
   -- WHERE the conditions hold
   pub conds_keep : (ℕ → Bool) → Conds → KeepTree

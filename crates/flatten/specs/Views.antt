@@ -11,8 +11,9 @@ use Rattle.nq_ir.specs.WellFormed.{table_columns}
 use Rattle.sql_profile.specs.declared.tree.Expr.{Expr}
 use Rattle.sql_profile.specs.declared.tree.Item.{Item}
 use Rattle.sql_profile.specs.declared.tree.ItemValue.{ItemValue}
+use Rattle.sql_profile.specs.declared.tree.Picked.{Picked}
 use Rattle.sql_profile.specs.declared.tree.Select.{Select}
-use Rattle.sql_profile.specs.Trees.{ExprTree, ExprTrees, KeepTree, ItemTrees, no_item, then_item, ValueTree, plain, QueryTree, no_select, then_select, SelectTree, select, bare_exprs, bare_keep, bare_items, bare_value, bare_query, exprs_of, keep_of, items_of, query_of, placed_expr, placed_item, placed_value, placed_select}
+use Rattle.sql_profile.specs.Trees.{ExprTree, ExprTrees, KeepTree, ItemTrees, no_item, then_item, ValueTree, plain, QueryTree, no_select, then_select, SelectTree, select, bare_exprs, bare_keep, bare_items, bare_value, bare_query, exprs_of, keep_of, items_of, query_of, placed_expr, placed_item, placed_value, placed_select, SourceTree, bare_source, placed_picked}
 use Rattle.flatten.specs.Names.{outer_column, answer_name}
 use Rattle.flatten.specs.Exprs.{column_expr, one_item, source_of, conds_keep}
 use Rattle.flatten.specs.Emitted.{none_outer, strand_select}
@@ -38,6 +39,14 @@ items_tree is = bare_items (items_of (map placed_item is))
 
 abbrev pub selects_tree : List Select → QueryTree
 selects_tree ss = bare_query (query_of (map placed_select ss))
+
+-- the sources and the condition of a scalar query
+abbrev pub picked_tree : Picked → List SourceTree × KeepTree
+picked_tree k = (map bare_source (placed_picked k).from, bare_keep (placed_picked k).keep)
+
+-- those of a comprehension that is counted or summed
+abbrev pub test_picked : (ℕ → Bool) → TestPart → List SourceTree × KeepTree
+test_picked outer t = (map source_of t.gens, conds_keep outer t.conds)
 
 -- lists of trees as one tree
 abbrev pub query_from : List SelectTree → QueryTree

@@ -1,18 +1,19 @@
 // Base terms as expressions, and conditions as what stands behind WHERE.
-ghost use Rattle.std.specs.Prelude.{◌≡◌, IfOk, cond, map};
+ghost use Rattle.std.specs.Prelude.{◌≡◌, IfOk, cond, map, pos};
+ghost use Rattle.nq_model.specs.Totals.{HowMany};
 ghost use Rattle.nq_model.specs.declared.term.Binary.TheVariants.{And};
 ghost use Rattle.nq_ir.specs.Trees.{BaseTree, base_tree, test_part, tests_of, conds_tree};
 ghost use Rattle.sql_profile.specs.Trees.{ExprTree, expr_tree, query_tree, select_tree};
 ghost use Rattle.flatten.specs.Names.{let_alias, alias, outer_column};
 ghost use Rattle.flatten.specs.Exprs.{base_expr, conds_keep, one_item};
 ghost use Rattle.flatten.specs.Emitted.{in_gens};
-ghost use Rattle.flatten.specs.Views.{keep_tree, items_tree, query_from, test_select};
+ghost use Rattle.flatten.specs.Views.{keep_tree, items_tree, picked_tree, query_from, test_picked, test_select};
 
 use crate::names::{alias, let_alias, one_name, outer_column};
 use crate::source::sources;
 use nq_ir::{Base, Gen, Test};
 use nq_model::{Binary, Label, List, Memory, boxed};
-use sql_profile::{Expr, ExprNode, Item, ItemValue, Query, Select};
+use sql_profile::{Expr, ExprNode, Item, ItemValue, Picked, Query, Select};
 use std::alloc::Global;
 
 /// Whether the generator with a number is one of these.
@@ -78,7 +79,7 @@ fn both(alloc: Global, left: Expr, right: Expr) -> Result<Expr, Memory>
 
 /// A base term as an expression of at most so many levels, where these generators stand outside.
 #[cycle(expr)]
-#[tactic(auto, using(nq_ir::proofs::Forms::base_int, nq_ir::proofs::Forms::base_bool, nq_ir::proofs::Forms::base_text, nq_ir::proofs::Forms::base_column, nq_ir::proofs::Forms::base_unary, nq_ir::proofs::Forms::base_binary, nq_ir::proofs::Forms::base_choose, nq_ir::proofs::Forms::base_empty, crate::proofs::Built::int_built, crate::proofs::Built::bool_built, crate::proofs::Built::text_built, crate::proofs::Built::unary_built, crate::proofs::Built::binary_built, crate::proofs::Built::choose_built))]
+#[tactic(auto, using(nq_ir::proofs::Forms::base_int, nq_ir::proofs::Forms::base_bool, nq_ir::proofs::Forms::base_text, nq_ir::proofs::Forms::base_column, nq_ir::proofs::Forms::base_unary, nq_ir::proofs::Forms::base_binary, nq_ir::proofs::Forms::base_choose, nq_ir::proofs::Forms::base_empty, nq_ir::proofs::Forms::base_count, nq_ir::proofs::Forms::base_sum, crate::proofs::Built::sum_built, crate::proofs::Built::int_built, crate::proofs::Built::bool_built, crate::proofs::Built::text_built, crate::proofs::Built::unary_built, crate::proofs::Built::binary_built, crate::proofs::Built::choose_built))]
 pub(crate) fn expr(alloc: Global, outer: &[Gen], base: &Base, levels: u64) -> Result<Expr, Memory>
     ensures { IfOk result (λ made. expr_tree made ≡ base_expr (in_gens outer.now) (base_tree base.now)) }
 {
@@ -129,7 +130,40 @@ pub(crate) fn expr(alloc: Global, outer: &[Gen], base: &Base, levels: u64) -> Re
             })
         }
         Base::Empty(tests) => emptiness(alloc, outer, tests.as_slice(), levels),
+        Base::Count(test) => count(alloc, outer, test, levels),
+        Base::Sum { over, value } => {
+            let over = boxed(alloc, picked(alloc, outer, over, levels)?)?;
+            let value = boxed(alloc, expr(alloc, outer, value, levels)?)?;
+            Ok(Expr {
+                place: 0,
+                node: ExprNode::Sum { over, value },
+            })
+        }
     }
+}
+
+// How many combinations the sources and conditions of a comprehension keep.
+#[cycle(expr)]
+#[tactic(auto, using(nq_ir::proofs::Forms::base_count, crate::proofs::Built::count_built))]
+fn count(alloc: Global, outer: &[Gen], test: &Test, levels: u64) -> Result<Expr, Memory>
+    ensures { IfOk result (λ made. expr_tree made ≡ ExprTree.total HowMany (test_picked (in_gens outer.now) (test_part test.now)).0 (test_picked (in_gens outer.now) (test_part test.now)).1 (ExprTree.int (pos 1))) }
+{
+    let over = boxed(alloc, picked(alloc, outer, test, levels)?)?;
+    Ok(Expr {
+        place: 0,
+        node: ExprNode::Count(over),
+    })
+}
+
+// The sources and the condition of a comprehension that is counted or summed.
+#[cycle(expr)]
+#[tactic(auto, using(nq_ir::proofs::Forms::test_is, crate::proofs::Built::picked_built))]
+fn picked(alloc: Global, outer: &[Gen], test: &Test, levels: u64) -> Result<Picked, Memory>
+    ensures { IfOk result (λ made. picked_tree made ≡ test_picked (in_gens outer.now) (test_part test.now)) }
+{
+    let from = sources(alloc, test.gens.as_slice())?;
+    let keep = keep(alloc, outer, test.conds.as_slice(), levels)?;
+    Ok(Picked { from, keep })
 }
 
 // An emptiness test: NOT EXISTS over its comprehensions, and TRUE where there is none.

@@ -6,7 +6,7 @@ use Rattle.nq_model.specs.Orders.{AreDistinct}
 use Rattle.nq_model.specs.Types.{TypeTree, FieldTypes}
 use Rattle.nq_model.specs.NamedRows.{Label}
 use Rattle.nq_ir.specs.WellFormed.{base_numbers, conds_numbers, tests_numbers, body_numbers, bodies_numbers, comps_numbers, body_tags, bodies_tags, comps_tags}
-use Rattle.nq_ir.specs.RawForms.{RawBase, raw_literal, raw_column, raw_unary, raw_binary, raw_choose, raw_empty, RawConds, no_raw, and_raw, RawTests, no_raw_test, raw_test, RawBody, raw_plain, raw_rec, raw_bag, RawFields, no_raw_field, raw_field, RawComps, no_raw_comp, raw_comp}
+use Rattle.nq_ir.specs.RawForms.{RawBase, raw_literal, raw_column, raw_unary, raw_binary, raw_choose, raw_empty, RawConds, no_raw, and_raw, RawTests, no_raw_test, raw_test, RawBody, raw_plain, raw_rec, raw_bag, RawFields, no_raw_field, raw_field, RawComps, no_raw_comp, raw_comp, raw_total}
 use Rattle.nq_ir.specs.NormalForms.{gens_in_base, gens_in_conds, gens_in_tests, gens_in_body, gens_in_fields, gens_in_comps, tags_in_body, tags_in_fields, tags_in_comps, number_gens, deal, number_base, number_conds, number_tests, number_body, number_fields, number_comps, element_type, field_types, first_type, rest_types}
 use Rattle.nq_ir.proofs.Numbered.{each_weaker}
 
@@ -38,6 +38,10 @@ mutual
   base_dealt (raw_choose x a b) n sc =
       join_counts n (gens_in_base x) (gens_in_base a + gens_in_base b) (base_numbers (number_base n sc x)) (base_numbers (number_base (n + gens_in_base x) sc a) ++ base_numbers (number_base (n + gens_in_base x + gens_in_base a) sc b)) (base_dealt x n sc) (join_counts (n + gens_in_base x) (gens_in_base a) (gens_in_base b) (base_numbers (number_base (n + gens_in_base x) sc a)) (base_numbers (number_base (n + gens_in_base x + gens_in_base a) sc b)) (base_dealt a (n + gens_in_base x) sc) (base_dealt b (n + gens_in_base x + gens_in_base a) sc))
   base_dealt (raw_empty xs) n sc = tests_dealt xs n sc
+  base_dealt (raw_total g gs bs b) n sc =
+      let bs' = number_conds (n + length gs) (deal n gs sc) bs in
+      let b' = number_base (n + length gs + gens_in_conds bs) (deal n gs sc) b in
+      join_counts n (length gs) (gens_in_conds bs + gens_in_base b) (map (λ g. g.number) (number_gens n gs)) (conds_numbers bs' ++ base_numbers b') (gens_dealt n gs) (join_counts (n + length gs) (gens_in_conds bs) (gens_in_base b) (conds_numbers bs') (base_numbers b') (bases_dealt bs (n + length gs) (deal n gs sc)) (base_dealt b (n + length gs + gens_in_conds bs) (deal n gs sc)))
 
   bases_dealt : (bs : RawConds) (n : ℕ) (sc : List ℕ) → conds_numbers (number_conds n sc bs) ≡ count_from n (gens_in_conds bs)
   bases_dealt no_raw n sc = refl

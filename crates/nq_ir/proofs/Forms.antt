@@ -1,5 +1,6 @@
 -- The trees of base terms, bodies and forms, form by form.
-use Rattle.std.proofs.Common.{◌≡◌, ℕ, ℤ, Bool, List, map, sym, ap, ◌∙◌, Box, Global}
+use Rattle.std.proofs.Common.{◌≡◌, ℕ, ℤ, pos, Bool, List, map, sym, ap, ◌∙◌, Box, Global}
+use Rattle.nq_model.specs.Totals.{HowMany, SumOf}
 use Rattle.nq_model.specs.Types.{type_tree}
 use Rattle.nq_model.specs.declared.table.Cell.TheVariants as cell
 use Rattle.nq_model.specs.declared.term.Binary.{Binary}
@@ -38,6 +39,12 @@ base_choose x a b = ap base_tree (sym (base.rolls-Choose x a b)) ∙ fold-roll-B
 
 pub base_empty : (ts : List Test) → base_tree (base.Empty ts) ≡ BaseTree.empty (tests_of (map test_part ts))
 base_empty ts = ap base_tree (sym (base.rolls-Empty ts)) ∙ fold-roll-Base BaseTree TestPart base_layer test_layer (Base-F.Empty ts)
+
+pub base_count : (t : Test) → base_tree (base.Count t) ≡ BaseTree.total HowMany (test_part t).gens (test_part t).conds (BaseTree.literal (cell.Int (pos 1)))
+base_count t = ap base_tree (sym (base.rolls-Count t)) ∙ fold-roll-Base BaseTree TestPart base_layer test_layer (Base-F.Count t)
+
+pub base_sum : (t : Test) (b : Box Base Global) → base_tree (base.Sum t b) ≡ BaseTree.total SumOf (test_part t).gens (test_part t).conds (base_tree b.value)
+base_sum t b = ap base_tree (sym (base.rolls-Sum t b)) ∙ fold-roll-Base BaseTree TestPart base_layer test_layer (Base-F.Sum t b)
 
 pub test_is : (t : Test) → test_part t ≡ record { gens = t.gens; conds = conds_tree t.conds }
 test_is t = fold-roll-Test BaseTree TestPart base_layer test_layer (record { gens = t.gens; conds = t.conds })

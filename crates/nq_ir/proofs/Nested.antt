@@ -1,4 +1,5 @@
 -- A let evaluates all conditions on whole combinations; the spots are the same as by nested choice.
+use Rattle.nq_model.specs.Totals.{total_of}
 use Rattle.std.proofs.Common.{◌≡◌, ℕ, List, [], ◌∷◌, ◌++◌, map, refl, sym, ap, ap₂, ◌∙◌, subst, Bool, true, false, cond, filter, flat_map, nat_eq, append_assoc, append-nil, ◌&&◌}
 use Rattle.std.proofs.lemmas.List.Elements.{filter-append}
 use Rattle.std.proofs.lemmas.List.{map-append}
@@ -8,7 +9,7 @@ use Rattle.nq_model.specs.Meaning.{is_none}
 use Rattle.nq_model.specs.NamedRows.{cell_under}
 use Rattle.nq_ir.specs.Meanings.{Env, Tables, all_true, choices, kept, no_kept, row_of, value}
 use Rattle.nq_ir.specs.Spots.{both}
-use Rattle.nq_ir.specs.Trees.{BaseTree, Conds, Tests, and_cond, binary, choose, column, empty, literal, no_cond, no_test, test, unary}
+use Rattle.nq_ir.specs.Trees.{BaseTree, Conds, Tests, and_cond, binary, choose, column, empty, literal, no_cond, no_test, test, unary, total}
 use Rattle.nq_ir.specs.declared.base.Gen.{Gen}
 use Rattle.nq_model.specs.Operators.{binary_value, is_true, unary_value}
 use Rattle.std.specs.List.{AllByRecursion as Each}
@@ -26,6 +27,7 @@ abbrev mutual
   Avoids ns (binary f a b) = Avoids ns a × Avoids ns b
   Avoids ns (choose t a b) = Avoids ns t × Avoids ns a × Avoids ns b
   Avoids ns (empty xs) = AvoidsTests ns xs
+  Avoids ns (total g gens conds b) = AvoidsAll ns conds × Avoids ns b
 
   pub AvoidsAll : List ℕ → Conds → Type 0
   AvoidsAll ns no_cond = Unit {0}
@@ -44,6 +46,14 @@ pub filter_same : {A : Type 0} (p q : A → Bool) → ((x : A) → p x ≡ q x) 
 filter_same p q h [] = refl
 filter_same p q h (x ∷ xs) = ap₂ (λ b (l : List _). cond b (x ∷ l) l) (h x) (filter_same p q h xs)
 
+pub map_same : {A B : Type 0} (f g : A → B) → ((x : A) → f x ≡ g x) → (xs : List A) → map f xs ≡ map g xs
+map_same f g h [] = refl
+map_same f g h (x ∷ xs) = ap₂ (λ y (l : List _). y ∷ l) (h x) (map_same f g h xs)
+
+-- what is kept, with its values, where conditions and values are alike
+pub kept_same : {A B : Type 0} (p q : A → Bool) (f g : A → B) → ((x : A) → p x ≡ q x) → ((x : A) → f x ≡ g x) → (xs : List A) → map f (filter p xs) ≡ map g (filter q xs)
+kept_same p q f g h k xs = ap (map f) (filter_same p q h xs) ∙ map_same f g k (filter q xs)
+
 module _ (ts : Tables) (f : Env) where
   mutual
     value_skips : (b : BaseTree) (e r : Env) → Avoids (map (λ b. b.0) f) b → value ts b (e ++ (f ++ r)) ≡ value ts b (e ++ r)
@@ -54,6 +64,8 @@ module _ (ts : Tables) (f : Env) where
     value_skips (choose t a b) e r h =
         ap (λ z. cond (is_true z) (value ts a (e ++ (f ++ r))) (value ts b (e ++ (f ++ r)))) (value_skips t e r h.0) ∙ ap₂ (λ x y. cond (is_true (value ts t (e ++ r))) x y) (value_skips a e r h.1) (value_skips b e r h.2)
     value_skips (empty xs) e r h = ap cell.Bool (tests_skip xs e r h)
+    value_skips (total g gens conds b) e r h =
+        ap (total_of g) (kept_same (λ s. all_true ts conds (s ++ (e ++ (f ++ r)))) (λ s. all_true ts conds (s ++ (e ++ r))) (λ s. value ts b (s ++ (e ++ (f ++ r)))) (λ s. value ts b (s ++ (e ++ r))) (λ s. ap (all_true ts conds) (sym (append_assoc s e (f ++ r))) ∙ all_skip conds (s ++ e) r h.0 ∙ ap (all_true ts conds) (append_assoc s e r)) (λ s. ap (value ts b) (sym (append_assoc s e (f ++ r))) ∙ value_skips b (s ++ e) r h.1 ∙ ap (value ts b) (append_assoc s e r)) (choices ts gens))
 
     all_skip : (bs : Conds) (e r : Env) → AvoidsAll (map (λ b. b.0) f) bs → all_true ts bs (e ++ (f ++ r)) ≡ all_true ts bs (e ++ r)
     all_skip no_cond e r h = refl

@@ -1,4 +1,5 @@
 -- The numbering of a form's generators keeps its meaning.
+use Rattle.nq_model.specs.Totals.{total_of}
 use Rattle.std.proofs.Common.{◌≡◌, ℕ, zero, suc, ◌+◌, ◌<◌, ◌≤◌, List, [], ◌∷◌, ◌++◌, map, refl, sym, ap, ap₂, ◌∙◌, subst, subst₂, Bool, true, false, cond, filter, flat_map, length, get_or, append_assoc, append-nil, nat_eq, ◌&&◌, arith, inl, inr, ⊎_elim, ◌⊎◌}
 use Rattle.std.specs.List.{AllByRecursion as Each}
 use Rattle.nq_model.specs.Meaning.{is_none}
@@ -8,7 +9,7 @@ use Rattle.nq_model.specs.Values.{Nested, base, rec, field, bag_of}
 use Rattle.nq_model.specs.declared.table.Cell.TheVariants as cell
 use Rattle.nq_model.specs.NamedRows.{Label, Row, cell_under}
 use Rattle.nq_ir.specs.Meanings.{Tables, Env, row_of, choices, value, all_true, no_kept, body_meaning, bodies_meaning, comps_meaning}
-use Rattle.nq_ir.specs.RawForms.{RawBase, raw_literal, raw_column, raw_unary, raw_binary, raw_choose, raw_empty, RawConds, no_raw, and_raw, RawTests, no_raw_test, raw_test, RawBody, raw_plain, raw_rec, raw_bag, RawFields, no_raw_field, raw_field, RawComps, no_raw_comp, raw_comp}
+use Rattle.nq_ir.specs.RawForms.{RawBase, raw_literal, raw_column, raw_unary, raw_binary, raw_choose, raw_empty, RawConds, no_raw, and_raw, RawTests, no_raw_test, raw_test, RawBody, raw_plain, raw_rec, raw_bag, RawFields, no_raw_field, raw_field, RawComps, no_raw_comp, raw_comp, raw_total}
 use Rattle.nq_ir.specs.NormalForms.{gens_in_base, gens_in_conds, gens_in_body, tags_in_body, number_gens, deal, number_base, number_conds, number_tests, number_body, number_fields, number_comps, element_type, field_types, first_type, rest_types}
 use Rattle.nq_ir.proofs.Distinct.{each_left, each_right, each_join}
 use Rattle.nq_ir.proofs.Equal.{nat_same, nat_differ}
@@ -50,6 +51,14 @@ along_kept R p k f q m g t u (next {x = x} {y = y} {xs = xs} {ys = ys} r h) = go
     go true false e i = absurd (cc)
     go false true e i = absurd (cc)
     go false false e i = i
+
+along_values : {A B C : Type 0} (R : A → B → Type 0) (p : A → Bool) (q : B → Bool) (f : A → C) (g : B → C) → ((x : A) (y : B) → R x y → p x ≡ q y) → ((x : A) (y : B) → R x y → f x ≡ g y) → {xs : List A} {ys : List B} → Alongside R xs ys → map f (filter p xs) ≡ map g (filter q ys)
+along_values R p q f g t u ends = refl
+along_values R p q f g t u (next {x = x} {y = y} {xs = xs} {ys = ys} r h) = ap (λ b. map f (cond b (x ∷ filter p xs) (filter p xs))) (t x y r) ∙ go (q y) (along_values R p q f g t u h)
+  where
+    go : (b : Bool) → map f (filter p xs) ≡ map g (filter q ys) → map f (cond b (x ∷ filter p xs) (filter p xs)) ≡ map g (cond b (y ∷ filter q ys) (filter q ys))
+    go true i = ap₂ (λ z (l : List _). z ∷ l) (u x y r) i
+    go false i = i
 
 -- rows by number
 pub not_below : (g n : ℕ) → g < n → nat_eq g n ≡ false
@@ -153,6 +162,9 @@ module _ (ts : Tables) where
     value_numbered (raw_choose x a b) n sc rows e h =
         ap (λ z. cond (is_true z) (raw_value ts a rows) (raw_value ts b rows)) (value_numbered x n sc rows e h) ∙ ap₂ (λ y z. cond (is_true (value ts (number_base n sc x) e)) y z) (value_numbered a (n + gens_in_base x) sc rows e (agrees_later n (n + gens_in_base x) sc rows e (omega arith) h)) (value_numbered b (n + gens_in_base x + gens_in_base a) sc rows e (agrees_later n (n + gens_in_base x + gens_in_base a) sc rows e (omega arith) h))
     value_numbered (raw_empty xs) n sc rows e h = ap cell.Bool (tests_numbered xs n sc rows e h)
+    value_numbered (raw_total g gs bs b) n sc rows e h =
+        let inner : (rs : List Row) (f : Env) → Agrees (n + length gs) (deal n gs sc) (rs ++ rows) (e ++ f) × Each (λ b. n ≤ b.0) f → Agrees (n + length gs) (deal n gs sc) (rs ++ rows) (f ++ e) = λ rs f k. agrees_swap n (n + length gs) (deal n gs sc) (rs ++ rows) e f (agrees_below n sc rows e h).1 k.1 k.0 in
+        ap (total_of g) (along_values (λ rs f. Agrees (n + length gs) (deal n gs sc) (rs ++ rows) (e ++ f) × Each (λ b. n ≤ b.0) f) (λ rs. raw_true ts bs (rs ++ rows)) (λ f. all_true ts (number_conds (n + length gs) (deal n gs sc) bs) (f ++ e)) (λ rs. raw_value ts b (rs ++ rows)) (λ f. value ts (number_base (n + length gs + gens_in_conds bs) (deal n gs sc) b) (f ++ e)) (λ rs f k. all_numbered bs (n + length gs) (deal n gs sc) (rs ++ rows) (f ++ e) (inner rs f k)) (λ rs f k. value_numbered b (n + length gs + gens_in_conds bs) (deal n gs sc) (rs ++ rows) (f ++ e) (agrees_later (n + length gs) (n + length gs + gens_in_conds bs) (deal n gs sc) (rs ++ rows) (f ++ e) (omega arith) (inner rs f k))) (along_choices ts gs n sc rows e h))
 
     all_numbered : (bs : RawConds) (n : ℕ) (sc : List ℕ) (rows : List Row) (e : Env) → Agrees n sc rows e → raw_true ts bs rows ≡ all_true ts (number_conds n sc bs) e
     all_numbered no_raw n sc rows e h = refl

@@ -10,7 +10,7 @@ use Rattle.nq_ir.specs.declared.base.Gen.{Gen}
 use Rattle.nq_model.specs.NamedRows.{Label}
 use Rattle.nq_ir.specs.WellFormed.{table_columns, column_type_in, gen_columns, AreTables, BaseHas, CondsHave, TestsHave, BodyHas, BodiesHave, CompsHave}
 use Rattle.nq_ir.specs.Trees.{BaseTree, plain_body}
-use Rattle.nq_ir.specs.RawForms.{RawBase, raw_literal, raw_column, raw_unary, raw_binary, raw_choose, raw_empty, RawConds, no_raw, and_raw, RawTests, no_raw_test, raw_test, RawBody, raw_plain, raw_rec, raw_bag, RawFields, no_raw_field, raw_field, RawComps, no_raw_comp, raw_comp}
+use Rattle.nq_ir.specs.RawForms.{RawBase, raw_literal, raw_column, raw_unary, raw_binary, raw_choose, raw_empty, RawConds, no_raw, and_raw, RawTests, no_raw_test, raw_test, RawBody, raw_plain, raw_rec, raw_bag, RawFields, no_raw_field, raw_field, RawComps, no_raw_comp, raw_comp, raw_total}
 use Rattle.nq_ir.specs.NormalForms.{gens_in_base, gens_in_conds, gens_in_body, tags_in_body, number_gens, deal, number_base, number_conds, number_tests, number_body, number_fields, number_comps}
 use Rattle.nq_ir.proofs.Distinct.{each_left, each_right, each_join}
 use Rattle.nq_ir.proofs.Equal.{nat_same}
@@ -109,6 +109,9 @@ module _ (S : List TableShape) where
     base_typed (raw_choose x a b) n ns ls sc T s h =
         (base_typed x n ns ls sc column_type.Bool s h.0, base_typed a (n + gens_in_base x) ns ls sc T (scoped_later n (n + gens_in_base x) ns ls sc (omega arith) s) h.1, base_typed b (n + gens_in_base x + gens_in_base a) ns ls sc T (scoped_later n (n + gens_in_base x + gens_in_base a) ns ls sc (omega arith) s) h.2)
     base_typed (raw_empty xs) n ns ls sc T s h = (h.0, tests_typed xs n ns ls sc s h.1)
+    base_typed (raw_total g gs bs b) n ns ls sc T s h =
+        let inner = scoped_front gs n ns ls sc s in
+        (h.0, known_dealt S gs n h.1, conds_typed bs (n + length gs) (deal n gs ns) (under gs ls) (number_gens n gs ++ sc) inner h.2, base_typed b (n + length gs + gens_in_conds bs) (deal n gs ns) (under gs ls) (number_gens n gs ++ sc) column_type.Int (scoped_later (n + length gs) (n + length gs + gens_in_conds bs) (deal n gs ns) (under gs ls) (number_gens n gs ++ sc) (omega arith) inner) h.3)
 
     conds_typed : (bs : RawConds) (n : ℕ) (ns : List ℕ) (ls : List Label) (sc : List Gen) → Scoped n ns ls sc → RawCondsHave S ls bs → CondsHave S sc (number_conds n ns bs)
     conds_typed no_raw n ns ls sc s h = tt

@@ -1,11 +1,20 @@
 -- Values and bodies that mean the same, part by part: fields, elements, emptiness tests, conditions and choices.
-use Rattle.std.proofs.Common.{◌≡◌, ℕ, zero, suc, List, [], ◌∷◌, ◌++◌, map, refl, sym, ap, ap₂, ◌∙◌, subst, subst₂, Bool, true, false, cond, filter, flat_map, length, get_or, append-nil, ◌&&◌, not}
+use Rattle.nq_model.specs.declared.table.Cell.{Cell}
+use Rattle.nq_model.specs.declared.table.Cell.TheVariants as cell
+use Rattle.nq_model.proofs.Numberings.{length_map}
+use Rattle.nq_ir.proofs.Nested.{map_same, map_of_map}
+use Rattle.std.specs.Int.{int_wrap, w64}
+use Rattle.nq_model.proofs.Aggregates.{count_joined, sum_joined, count_none, sum_none}
+use Rattle.nq_model.specs.declared.term.Binary.TheVariants.{Add}
+use Rattle.nq_model.specs.Totals.{sum_of}
+use Rattle.nq_model.specs.Terms.{Aggregate, Emptiness, Count, Sum}
+use Rattle.std.proofs.Common.{◌≡◌, ℕ, pos, append_assoc, zero, suc, List, [], ◌∷◌, ◌++◌, map, refl, sym, ap, ap₂, ◌∙◌, subst, subst₂, Bool, true, false, cond, filter, flat_map, length, get_or, append-nil, ◌&&◌, not}
 use Rattle.std.specs.List.{AllByRecursion as Each}
 use Rattle.std.specs.Ordering.{is_gt}
 use Rattle.std.specs.Str.{bytes_eq}
 use Rattle.nq_model.specs.Bags.{Pick, here, there, Matched, Reordered}
-use Rattle.nq_model.specs.Meaning.{is_none, cell_of, elements_in, value_under, field_in}
-use Rattle.nq_model.specs.Operators.{is_true}
+use Rattle.nq_model.specs.Meaning.{is_none, cell_of, elements_in, value_under, field_in, aggregate_value}
+use Rattle.nq_model.specs.Operators.{is_true, binary_value}
 use Rattle.nq_model.specs.Orders.{label_cmp, put_by}
 use Rattle.nq_model.specs.Types.{TypeTree, FieldTypes}
 use Rattle.nq_model.specs.Values.{Nested, base, rec, bag, Fields, field, elements, elements_of, fields_of, bag_of, Same, SameFields}
@@ -15,7 +24,7 @@ use Rattle.nq_model.proofs.Bags.{matched_weaker, reordered_append, reordered_sym
 use Rattle.nq_model.proofs.Sameness.{same_refl, same_bag, matched_same, elements_back}
 use Rattle.nq_model.specs.NamedRows.{Label, Row, no_cell}
 use Rattle.nq_ir.specs.Meanings.{Tables}
-use Rattle.nq_ir.specs.RawForms.{RawBase, no_raw, and_raw, raw_unary, RawBody, raw_plain, raw_rec, raw_bag, RawFields, no_raw_field, raw_field, RawComps, no_raw_comp, raw_comp, up_body, raw_base_in, raw_comps_in, raw_field_among, raw_field_in, put_raw, append_raw, inside, where_raw, choice, choice_of_fields, raw_tests_of, no_raw_body}
+use Rattle.nq_ir.specs.RawForms.{RawConds, RawBase, no_raw, and_raw, raw_unary, RawBody, raw_plain, raw_rec, raw_bag, RawFields, no_raw_field, raw_field, RawComps, no_raw_comp, raw_comp, up_body, raw_base_in, raw_comps_in, raw_field_among, raw_field_in, put_raw, append_raw, inside, where_raw, choice, choice_of_fields, raw_tests_of, no_raw_body, raw_literal, raw_binary, of_each, raw_count, raw_sum, plus_each, plus_all, raw_aggregate}
 use Rattle.nq_ir.proofs.RawMeanings.{picks, raw_value, raw_true, raw_none, raw_kept, raw_meaning, raw_fields_meaning, raw_comps_meaning, body_skips, inside_means, append_means}
 use Rattle.nq_ir.proofs.RawTypes.{RawBodyHas, RawFieldsHave, not_record, not_bag, mixed}
 use Rattle.nq_ir.proofs.Equal.{bytes_turned}
@@ -135,6 +144,35 @@ none_matched (x ∷ xs) [] m = absurd (no_pick m.2)
     no_pick : {z : Nested} {rest : List Nested} → Pick z [] rest → ⊥
     no_pick p = elim p [ ]
 none_matched (x ∷ xs) (y ∷ ys) m = refl
+
+-- the comprehensions one by one, joined by +, give what they give together
+module _ (ts : Tables) (env : List Row) (f : List Nested → Cell) (append : (xs ys : List Nested) → f (xs ++ ys) ≡ binary_value Add (f xs) (f ys)) (one : List Label → RawConds → RawBody → RawBase) (means : (gs : List Label) (bs : RawConds) (b : RawBody) → raw_value ts (one gs bs b) env ≡ f (map (λ e. raw_meaning ts b e) (raw_kept ts gs bs env))) where
+  plus_each_means : (cs : RawComps) (a : RawBase) (xs : List Nested) → raw_value ts a env ≡ f xs → raw_value ts (plus_each a (of_each one cs)) env ≡ f (xs ++ raw_comps_meaning ts cs env)
+  plus_each_means no_raw_comp a xs h = h ∙ ap f (sym (append-nil xs))
+  plus_each_means (raw_comp gs bs b cs) a xs h =
+      let here : List Nested = map (λ e. raw_meaning ts b e) (raw_kept ts gs bs env) in
+      plus_each_means cs (raw_binary Add a (one gs bs b)) (xs ++ here) (ap₂ (binary_value Add) h (means gs bs b) ∙ sym (append xs here)) ∙ ap f (append_assoc xs here (raw_comps_meaning ts cs env))
+
+  plus_all_means : f [] ≡ cell.Int (pos 0) → (cs : RawComps) → raw_value ts (plus_all (of_each one cs)) env ≡ f (raw_comps_meaning ts cs env)
+  plus_all_means none no_raw_comp = sym none
+  plus_all_means none (raw_comp gs bs b cs) = plus_each_means cs (one gs bs b) (map (λ e. raw_meaning ts b e) (raw_kept ts gs bs env)) (means gs bs b)
+
+cells_of_body : (ts : Tables) (b : RawBody) (e : List Row) → cell_of (raw_meaning ts b e) ≡ raw_value ts (raw_base_in b) e
+cells_of_body ts (raw_plain b) e = refl
+cells_of_body ts (raw_rec fs) e = refl
+cells_of_body ts (raw_bag cs) e = refl
+
+-- what is asked of the elements is the value of the base term that asks it
+pub aggregate_means : (ts : Tables) (g : Aggregate) (cs : RawComps) (env : List Row) → raw_value ts (raw_aggregate g cs) env ≡ aggregate_value g (raw_comps_meaning ts cs env)
+aggregate_means ts Emptiness cs env = ap cell.Bool (tests_mean ts cs env)
+aggregate_means ts Count cs env = plus_all_means ts env (aggregate_value Count) count_joined raw_count (λ gs bs b. ap (λ n. cell.Int (int_wrap w64 (pos n))) (as_many gs bs b)) count_none cs
+  where
+    as_many : (gs : List Label) (bs : RawConds) (b : RawBody) → length (map (λ rs. raw_value ts (raw_literal (cell.Int (pos 1))) (rs ++ env)) (filter (λ rs. raw_true ts bs (rs ++ env)) (picks ts gs))) ≡ length (map (λ e. raw_meaning ts b e) (raw_kept ts gs bs env))
+    as_many gs bs b = length_map (λ rs. cell.Int (pos 1)) (filter (λ rs. raw_true ts bs (rs ++ env)) (picks ts gs)) ∙ sym (length_map (λ e. raw_meaning ts b e) (raw_kept ts gs bs env) ∙ length_map (λ rs. rs ++ env) (filter (λ rs. raw_true ts bs (rs ++ env)) (picks ts gs)))
+aggregate_means ts Sum cs env = plus_all_means ts env (aggregate_value Sum) sum_joined raw_sum (λ gs bs b. ap (λ (l : List Cell). cell.Int (sum_of l)) (values gs bs b)) sum_none cs
+  where
+    values : (gs : List Label) (bs : RawConds) (b : RawBody) → map (λ rs. raw_value ts (raw_base_in b) (rs ++ env)) (filter (λ rs. raw_true ts bs (rs ++ env)) (picks ts gs)) ≡ map cell_of (map (λ e. raw_meaning ts b e) (raw_kept ts gs bs env))
+    values gs bs b = map_same (λ rs. raw_value ts (raw_base_in b) (rs ++ env)) (λ rs. cell_of (raw_meaning ts b (rs ++ env))) (λ rs. sym (cells_of_body ts b (rs ++ env))) (filter (λ rs. raw_true ts bs (rs ++ env)) (picks ts gs)) ∙ sym (ap (map cell_of) (map_of_map (λ e. raw_meaning ts b e) (λ rs. rs ++ env) (filter (λ rs. raw_true ts bs (rs ++ env)) (picks ts gs))) ∙ map_of_map cell_of (λ rs. raw_meaning ts b (rs ++ env)) (filter (λ rs. raw_true ts bs (rs ++ env)) (picks ts gs)))
 
 -- conditions in front
 pub where_means : (ts : Tables) (x : RawBase) (cs : RawComps) (env : List Row) → Reordered (cond (is_true (raw_value ts x env)) (raw_comps_meaning ts cs env) []) (raw_comps_meaning ts (inside [] (and_raw x no_raw) cs) env)

@@ -1,4 +1,5 @@
 -- What a body means where a column counts how many generators stand between, and what copies and joins of bodies mean.
+use Rattle.nq_model.specs.Totals.{total_of}
 use Rattle.std.proofs.Common.{◌≡◌, ℕ, zero, suc, ◌+◌, List, [], ◌∷◌, ◌++◌, map, refl, sym, ap, ap₂, ◌∙◌, subst, subst₂, Bool, true, false, cond, filter, flat_map, length, get_or, append_assoc, append-nil, length-append, get_or-append-add, ◌&&◌, arith}
 use Rattle.std.specs.List.{AllByRecursion as Each}
 use Rattle.std.proofs.lemmas.List.Elements.{filter-append}
@@ -12,7 +13,7 @@ use Rattle.nq_model.specs.declared.table.Cell.TheVariants as cell
 use Rattle.nq_model.proofs.Bags.{reordered_refl, reordered_trans, reordered_append, reordered_swap, reordered_sym}
 use Rattle.nq_model.specs.NamedRows.{Label, Row, cell_under}
 use Rattle.nq_ir.specs.Meanings.{Tables}
-use Rattle.nq_ir.specs.RawForms.{RawBase, raw_literal, raw_column, raw_unary, raw_binary, raw_choose, raw_empty, RawConds, no_raw, and_raw, RawTests, no_raw_test, raw_test, RawBody, raw_plain, raw_rec, raw_bag, RawFields, no_raw_field, raw_field, RawComps, no_raw_comp, raw_comp, up_index, up_base, up_bases, up_tests, up_body, up_fields, up_comps, both_raw, append_raw, inside, each_comp}
+use Rattle.nq_ir.specs.RawForms.{RawBase, raw_literal, raw_column, raw_unary, raw_binary, raw_choose, raw_empty, RawConds, no_raw, and_raw, RawTests, no_raw_test, raw_test, RawBody, raw_plain, raw_rec, raw_bag, RawFields, no_raw_field, raw_field, RawComps, no_raw_comp, raw_comp, up_index, up_base, up_bases, up_tests, up_body, up_fields, up_comps, both_raw, append_raw, inside, each_comp, raw_total}
 use Rattle.nq_ir.proofs.Spots.{each_filter}
 use Rattle.nq_ir.proofs.Nested.{map_flat, map_of_map, flat_same, flat_flat, flat_of_map, each_flat, each_mapped}
 use Rattle.nq_ir.proofs.Distinct.{each_join}
@@ -30,6 +31,7 @@ abbrev mutual
   raw_value ts (raw_binary o a b) env = binary_value o (raw_value ts a env) (raw_value ts b env)
   raw_value ts (raw_choose x a b) env = cond (is_true (raw_value ts x env)) (raw_value ts a env) (raw_value ts b env)
   raw_value ts (raw_empty xs) env = cell.Bool (raw_none ts xs env)
+  raw_value ts (raw_total g gs bs b) env = total_of g (map (λ rs. raw_value ts b (rs ++ env)) (filter (λ rs. raw_true ts bs (rs ++ env)) (picks ts gs)))
 
   pub raw_true : Tables → RawConds → List Row → Bool
   raw_true ts no_raw env = true
@@ -69,6 +71,10 @@ pub map_each : {A B : Type 0} (P : A → Type 0) (f g : A → B) → ((x : A) �
 map_each P f g h [] e = refl
 map_each P f g h (x ∷ xs) e = ap₂ (λ y (l : List _). y ∷ l) (h x e.0) (map_each P f g h xs e.1)
 
+-- what is kept, with its values, where conditions and values are alike
+pub kept_each : {A B : Type 0} (P : A → Type 0) (p q : A → Bool) (f g : A → B) → ((x : A) → P x → p x ≡ q x) → ((x : A) → P x → f x ≡ g x) → (xs : List A) → Each P xs → map f (filter p xs) ≡ map g (filter q xs)
+kept_each P p q f g h k xs e = ap (map f) (filter_each P p q h xs e) ∙ map_each P f g k (filter q xs) (each_filter P q xs e)
+
 -- a copy under more generators means the same
 module _ (ts : Tables) (mid env : List Row) where
   index_skips : (front : List Row) (i : ℕ) → get_or (front ++ (mid ++ env)) (up_index (length mid) (length front) i) [] ≡ get_or (front ++ env) i []
@@ -85,6 +91,8 @@ module _ (ts : Tables) (mid env : List Row) where
     base_skips (raw_choose x a b) front =
         ap (λ z. cond (is_true z) (raw_value ts (up_base (length mid) (length front) a) (front ++ (mid ++ env))) (raw_value ts (up_base (length mid) (length front) b) (front ++ (mid ++ env)))) (base_skips x front) ∙ ap₂ (λ y z. cond (is_true (raw_value ts x (front ++ env))) y z) (base_skips a front) (base_skips b front)
     base_skips (raw_empty xs) front = ap cell.Bool (tests_skip xs front)
+    base_skips (raw_total g gs bs b) front =
+        ap (total_of g) (kept_each (λ rs. length rs ≡ length gs) (λ rs. raw_true ts (up_bases (length mid) (length gs + length front) bs) (rs ++ (front ++ (mid ++ env)))) (λ rs. raw_true ts bs (rs ++ (front ++ env))) (λ rs. raw_value ts (up_base (length mid) (length gs + length front) b) (rs ++ (front ++ (mid ++ env)))) (λ rs. raw_value ts b (rs ++ (front ++ env))) (λ rs h. ap₂ (λ n (l : List Row). raw_true ts (up_bases (length mid) n bs) l) (ap (λ n. n + length front) (sym h) ∙ sym (length-append rs front)) (sym (append_assoc rs front (mid ++ env))) ∙ bases_skip bs (rs ++ front) ∙ ap (raw_true ts bs) (append_assoc rs front env)) (λ rs h. ap₂ (λ n (l : List Row). raw_value ts (up_base (length mid) n b) l) (ap (λ n. n + length front) (sym h) ∙ sym (length-append rs front)) (sym (append_assoc rs front (mid ++ env))) ∙ base_skips b (rs ++ front) ∙ ap (raw_value ts b) (append_assoc rs front env)) (picks ts gs) (pick_length ts gs))
 
     bases_skip : (bs : RawConds) (front : List Row) → raw_true ts (up_bases (length mid) (length front) bs) (front ++ (mid ++ env)) ≡ raw_true ts bs (front ++ env)
     bases_skip no_raw front = refl

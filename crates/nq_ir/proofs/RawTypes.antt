@@ -1,4 +1,5 @@
 -- The types of bodies where a column counts how many generators stand between, and that the body of a term has its type.
+use Rattle.nq_model.specs.declared.term.Binary.TheVariants.{Add}
 use Rattle.std.proofs.Common.{◌≡◌, ℕ, zero, suc, ◌+◌, List, [], ◌∷◌, ◌++◌, map, refl, sym, ap, ◌∙◌, subst, subst₂, Bool, true, false, cond, length, get_or, arith, Option, Some, None, slice_get, IsSome, bytes_eq, ⊎_elim}
 use Rattle.std.specs.List.{AllByRecursion as Each}
 use Rattle.std.specs.Ordering.{is_gt}
@@ -7,9 +8,9 @@ use Rattle.nq_model.specs.Operators.{unary_type, binary_type}
 use Rattle.nq_model.specs.Orders.{label_cmp, by_label, AreDistinct}
 use Rattle.nq_model.specs.Proper.{IsProperTerm, AreProperTerms, IsPlainTerm, ArePlainTerms}
 use Rattle.nq_model.specs.Tables.{Columns, names_of, base_type, IsProperShape}
-use Rattle.nq_model.specs.Terms.{TermTree, TermFields}
+use Rattle.nq_model.specs.Terms.{TermTree, TermFields, Aggregate, Emptiness, Count, Sum}
 use Rattle.nq_model.specs.Types.{TypeTree, FieldTypes, field_types_of}
-use Rattle.nq_model.specs.Typing.{HasType, HaveTypes, shape_named, type_at, put_type}
+use Rattle.nq_model.specs.Typing.{HasType, HaveTypes, shape_named, type_at, put_type, aggregate_type}
 use Rattle.nq_model.specs.declared.table.ColumnType.{ColumnType}
 use Rattle.nq_model.specs.declared.table.ColumnType.TheVariants as column_type
 use Rattle.nq_model.specs.declared.table.Schema.{Schema}
@@ -18,7 +19,7 @@ use Rattle.nq_model.specs.declared.term.Unary.TheVariants.{Not}
 use Rattle.nq_model.proofs.Typing.{put_type_list, either_some}
 use Rattle.nq_model.specs.NamedRows.{Label}
 use Rattle.nq_ir.specs.WellFormed.{columns_or_none, table_columns, IsLiteral, column_type_in}
-use Rattle.nq_ir.specs.RawForms.{RawBase, raw_literal, raw_column, raw_unary, raw_binary, raw_choose, raw_empty, RawConds, no_raw, and_raw, RawTests, no_raw_test, raw_test, RawBody, raw_plain, raw_rec, raw_bag, RawFields, no_raw_field, raw_field, RawComps, no_raw_comp, raw_comp, up_index, up_base, up_bases, up_tests, up_body, up_fields, up_comps, raw_base_in, raw_comps_in, raw_field_among, raw_field_in, put_raw, both_raw, append_raw, inside, where_raw, choice, choice_of_fields, raw_tests_of, columns_body, each_comp, no_raw_body, raw_form, raw_fields}
+use Rattle.nq_ir.specs.RawForms.{RawBase, raw_literal, raw_column, raw_unary, raw_binary, raw_choose, raw_empty, RawConds, no_raw, and_raw, RawTests, no_raw_test, raw_test, RawBody, raw_plain, raw_rec, raw_bag, RawFields, no_raw_field, raw_field, RawComps, no_raw_comp, raw_comp, up_index, up_base, up_bases, up_tests, up_body, up_fields, up_comps, raw_base_in, raw_comps_in, raw_field_among, raw_field_in, put_raw, both_raw, append_raw, inside, where_raw, choice, choice_of_fields, raw_tests_of, columns_body, each_comp, no_raw_body, raw_form, raw_fields, raw_total, of_each, raw_count, raw_sum, plus_each, plus_all, raw_aggregate}
 use Rattle.nq_ir.proofs.Distinct.{each_join}
 use Rattle.nq_ir.proofs.Equal.{bytes_same, bytes_differ}
 
@@ -44,6 +45,8 @@ abbrev mutual
       (U : ColumnType) × (V : ColumnType) × RawBaseHas S sc a U × RawBaseHas S sc b V × (binary_type op U V ≡ Some T)
   RawBaseHas S sc (raw_choose x a b) T = RawBaseHas S sc x column_type.Bool × RawBaseHas S sc a T × RawBaseHas S sc b T
   RawBaseHas S sc (raw_empty xs) T = (T ≡ column_type.Bool) × RawTestsHave S sc xs
+  RawBaseHas S sc (raw_total g gs bs b) T =
+      (T ≡ column_type.Int) × Each (Known S) gs × RawCondsHave S (under gs sc) bs × RawBaseHas S (under gs sc) b column_type.Int
 
   pub RawCondsHave : List TableShape → List Label → RawConds → Type 0
   RawCondsHave S sc no_raw = Unit {0}
@@ -105,6 +108,8 @@ module _ (S : List TableShape) (mid sc : List Label) where
     base_up (raw_binary o a b) front T h = (h.0, h.1, base_up a front h.0 h.2, base_up b front h.1 h.3, h.4)
     base_up (raw_choose x a b) front T h = (base_up x front column_type.Bool h.0, base_up a front T h.1, base_up b front T h.2)
     base_up (raw_empty xs) front T h = (h.0, tests_up xs front h.1)
+    base_up (raw_total g gs bs b) front T h =
+        (h.0, h.1, subst₂ (λ (z : List Label) n. RawCondsHave S z (up_bases (length mid) n bs)) (sym (under_append gs front (mid ++ sc))) (under_length gs front) (bases_up bs (under gs front) (subst (λ (z : List Label). RawCondsHave S z bs) (under_append gs front sc) h.2)), subst₂ (λ (z : List Label) n. RawBaseHas S z (up_base (length mid) n b) column_type.Int) (sym (under_append gs front (mid ++ sc))) (under_length gs front) (base_up b (under gs front) column_type.Int (subst (λ (z : List Label). RawBaseHas S z b column_type.Int) (under_append gs front sc) h.3)))
 
     bases_up : (bs : RawConds) (front : List Label) → RawCondsHave S (front ++ sc) bs → RawCondsHave S (front ++ (mid ++ sc)) (up_bases (length mid) (length front) bs)
     bases_up no_raw front h = tt
@@ -181,6 +186,18 @@ module _ (S : List TableShape) where
   tests_have : (sc : List Label) (cs : RawComps) (B : TypeTree) → RawCompsHave S sc cs B → RawTestsHave S sc (raw_tests_of cs)
   tests_have sc no_raw_comp B h = tt
   tests_have sc (raw_comp gs bs b cs) B h = (h.0, h.1, tests_have sc cs B h.3)
+
+  plus_each_has : (sc : List Label) (a : RawBase) (bs : List RawBase) → RawBaseHas S sc a column_type.Int → Each (λ b. RawBaseHas S sc b column_type.Int) bs → RawBaseHas S sc (plus_each a bs) column_type.Int
+  plus_each_has sc a [] h e = h
+  plus_each_has sc a (b ∷ bs) h e = plus_each_has sc (raw_binary Add a b) bs (column_type.Int, column_type.Int, h, e.0, refl) e.1
+
+  plus_all_has : (sc : List Label) (bs : List RawBase) → Each (λ b. RawBaseHas S sc b column_type.Int) bs → RawBaseHas S sc (plus_all bs) column_type.Int
+  plus_all_has sc [] e = (refl, record { digits = 0; value = refl; small = omega arith })
+  plus_all_has sc (b ∷ bs) e = plus_each_has sc b bs e.0 e.1
+
+  counts_have : (sc : List Label) (cs : RawComps) (B : TypeTree) → RawCompsHave S sc cs B → Each (λ b. RawBaseHas S sc b column_type.Int) (of_each raw_count cs)
+  counts_have sc no_raw_comp B h = tt
+  counts_have sc (raw_comp gs bs b cs) B h = ((refl, h.0, h.1, (refl, record { digits = 1; value = refl; small = omega arith })), counts_have sc cs B h.3)
 
 pub not_record : (A : TypeTree) (T : ColumnType) (gs : FieldTypes) → A ≡ base_type T → A ≡ TypeTree.rec gs → ⊥
 not_record A column_type.Int gs e f = let u : TypeTree.int ≡ TypeTree.rec gs = sym e ∙ f in cc
@@ -317,6 +334,17 @@ var_has S sc (B ∷ g) [] k A h e = absurd e
 var_has S sc (B ∷ g) (b ∷ es) zero A h e = let v : B ≡ A = cc in subst (λ (z : TypeTree). RawBodyHas S sc b z) v e.0
 var_has S sc (B ∷ g) (b ∷ es) (suc k) A h e = var_has S sc g es k A h e.1
 
+module _ (S : List TableShape) where
+  sums_have : (sc : List Label) (cs : RawComps) → RawCompsHave S sc cs TypeTree.int → Each (λ b. RawBaseHas S sc b column_type.Int) (of_each raw_sum cs)
+  sums_have sc no_raw_comp h = tt
+  sums_have sc (raw_comp gs bs b cs) h = ((refl, h.0, h.1, base_has S (under gs sc) b TypeTree.int column_type.Int refl h.2), sums_have sc cs h.3)
+
+  aggregate_has : (sc : List Label) (g : Aggregate) (cs : RawComps) (B A : TypeTree) → RawCompsHave S sc cs B → aggregate_type g B ≡ Some A → RawBodyHas S sc (raw_plain (raw_aggregate g cs)) A
+  aggregate_has sc Emptiness cs B A h e = (column_type.Bool, (refl, tests_have S sc cs B h), cc)
+  aggregate_has sc Count cs B A h e = (column_type.Int, plus_all_has S sc (of_each raw_count cs) (counts_have S sc cs B h), cc)
+  aggregate_has sc Sum cs TypeTree.int A h e = (column_type.Int, plus_all_has S sc (of_each raw_sum cs) (sums_have sc cs h), cc)
+  aggregate_has sc Sum cs _ A h e = absurd (cc)
+
 module _ (schema : Schema) (proper : Each IsProperShape schema.tables) where
   mutual
     -- the body of a typed term has its type, and each column names a generator in scope
@@ -340,8 +368,8 @@ module _ (schema : Schema) (proper : Each IsProperShape schema.tables) where
     raw_has (TermTree.rec fs) g A p q h es sc e = (h.0, fields_have fs g h.0 p.1 q h.1 es sc e, h.2)
     raw_has (TermTree.field a l) g A p q h es sc e =
         field_has schema.tables sc l (raw_form schema.tables a es) h.0 A (TypeTree.rec h.0) refl (raw_has a g (TypeTree.rec h.0) p.0 q h.1 es sc e) h.2
-    raw_has (TermTree.empty a) g A p q h es sc e =
-        (column_type.Bool, (refl, tests_have schema.tables sc (raw_comps_in (raw_form schema.tables a es)) h.0 (comps_have schema.tables sc (raw_form schema.tables a es) (TypeTree.bag h.0) h.0 refl (raw_has a g (TypeTree.bag h.0) p q h.1 es sc e))), h.2)
+    raw_has (TermTree.aggregate f a) g A p q h es sc e =
+        aggregate_has schema.tables sc f (raw_comps_in (raw_form schema.tables a es)) h.0 A (comps_have schema.tables sc (raw_form schema.tables a es) (TypeTree.bag h.0) h.0 refl (raw_has a g (TypeTree.bag h.0) p q h.1 es sc e)) h.2
     raw_has (TermTree.single a) g A p q h es sc e = (h.0, (tt, tt, raw_has a g h.0 p q h.1 es sc e, tt), h.3)
     raw_has (TermTree.nil B) g A p q h es sc e = (B, tt, h.1)
     raw_has (TermTree.union a b) g A p q h es sc e =

@@ -11,13 +11,13 @@ use Rattle.nq_ir.proofs.Levels.{AllBody, AllComps, AllFields}
 use Rattle.nq_ir.proofs.Nested.{Avoids, AvoidsAll, AvoidsTests}
 use Rattle.nq_model.specs.NamedRows.{Label}
 use Rattle.nq_ir.specs.Spots.{PlacedComp, both, shaped}
-use Rattle.nq_ir.specs.Trees.{BaseTree, Bodies, BodyTree, Comps, Conds, Tests, and_cond, bag_body, binary, choose, column, comp, empty, literal, no_body, no_comp, no_cond, no_test, plain_body, rec_body, test, unary, with_body}
+use Rattle.nq_ir.specs.Trees.{BaseTree, Bodies, BodyTree, Comps, Conds, Tests, and_cond, bag_body, binary, choose, column, comp, empty, total, literal, no_body, no_comp, no_cond, no_test, plain_body, rec_body, test, unary, with_body}
 use Rattle.nq_ir.specs.WellFormed.{BaseHas, BodiesHave, BodyHas, CompsHave, CondsHave, TestsHave, base_numbers, bodies_numbers, bodies_tags, body_numbers, body_tags, column_type_in, comps_numbers, comps_tags, conds_numbers, gen_columns, numbers, table_columns, tests_numbers}
 use Rattle.nq_ir.specs.declared.base.Gen.{Gen}
 use Rattle.nq_model.proofs.Numberings.{each_map}
 use Rattle.nq_model.specs.Types.{field, FieldTypes, TypeTree, bag, bool, fun, int, none, rec, text}
 use Rattle.nq_model.specs.declared.table.ColumnType.{ColumnType}
-use Rattle.nq_model.specs.declared.table.ColumnType.TheVariants.{Bool as BoolColumn}
+use Rattle.nq_model.specs.declared.table.ColumnType.TheVariants.{Bool as BoolColumn, Int as IntColumn}
 use Rattle.nq_model.specs.declared.table.TableShape.{TableShape}
 use Rattle.std.specs.List.{AllByRecursion as Each}
 
@@ -30,6 +30,7 @@ abbrev mutual
   Within V (binary o a b) = Within V a × Within V b
   Within V (choose t a b) = Within V t × Within V a × Within V b
   Within V (empty xs) = WithinTests V xs
+  Within V (total g gens conds b) = WithinAll V conds × Within V b
 
   WithinAll : List ℕ → Conds → Type 0
   WithinAll V no_cond = Unit {0}
@@ -47,6 +48,7 @@ mutual
   within_avoids V ns a (binary o x b) h = (within_avoids V ns a x h.0, within_avoids V ns a b h.1)
   within_avoids V ns a (choose t x b) h = (within_avoids V ns a t h.0, within_avoids V ns a x h.1, within_avoids V ns a b h.2)
   within_avoids V ns a (empty xs) h = within_avoids_tests V ns a xs h
+  within_avoids V ns a (total g gens conds b) h = (within_avoids_all V ns a conds h.0, within_avoids V ns a b h.1)
 
   within_avoids_all : (V ns : List ℕ) → Apart V ns → (bs : Conds) → WithinAll V bs → AvoidsAll ns bs
   within_avoids_all V ns a no_cond h = tt
@@ -83,6 +85,9 @@ mutual
   within_typed S sc V (binary o a b) T h i j = (within_typed S sc V a h.0 h.2 i (λ n m. j n (among_left (base_numbers b) m)), within_typed S sc V b h.1 h.3 i (λ n m. j n (among_right (base_numbers a) m)))
   within_typed S sc V (choose t a b) T h i j = (within_typed S sc V t BoolColumn h.0 i (λ n m. j n (among_left (base_numbers a ++ base_numbers b) m)), within_typed S sc V a T h.1 i (λ n m. j n (among_right (base_numbers t) (among_left (base_numbers b) m))), within_typed S sc V b T h.2 i (λ n m. j n (among_right (base_numbers t) (among_right (base_numbers a) m))))
   within_typed S sc V (empty xs) T h i j = within_typed_tests S sc V xs h.1 i j
+  within_typed S sc V (total g gens conds b) T h i j =
+      let inner : Inside (numbers (gens ++ sc)) V = subst (λ (z : List ℕ). Inside z V) (sym (numbers_append gens sc)) (inside_append (numbers gens) (numbers sc) V (λ n m. j n (among_left (conds_numbers conds ++ base_numbers b) m)) i) in
+      (within_typed_all S (gens ++ sc) V conds h.2 inner (λ n m. j n (among_right (numbers gens) (among_left (base_numbers b) m))), within_typed S (gens ++ sc) V b IntColumn h.3 inner (λ n m. j n (among_right (numbers gens) (among_right (conds_numbers conds) m))))
 
   within_typed_all : (S : (List TableShape)) (sc : List Gen) (V : List ℕ) (bs : Conds) → CondsHave S sc bs → Inside (numbers sc) V → Inside (conds_numbers bs) V → WithinAll V bs
   within_typed_all S sc V no_cond h i j = tt
@@ -103,6 +108,7 @@ mutual
   within_more V W i (binary o a b) h = (within_more V W i a h.0, within_more V W i b h.1)
   within_more V W i (choose t a b) h = (within_more V W i t h.0, within_more V W i a h.1, within_more V W i b h.2)
   within_more V W i (empty xs) h = within_more_tests V W i xs h
+  within_more V W i (total g gens conds b) h = (within_more_all V W i conds h.0, within_more V W i b h.1)
 
   within_more_all : (V W : List ℕ) → Inside V W → (bs : Conds) → WithinAll V bs → WithinAll W bs
   within_more_all V W i no_cond h = tt

@@ -1,4 +1,5 @@
 -- The body of a typed plain term means what the term means.
+use Rattle.nq_model.proofs.Aggregates.{same_aggregate}
 use Rattle.std.proofs.Common.{◌≡◌, List, [], ◌∷◌, ◌++◌, map, zip, refl, sym, ap, ap₂, ◌∙◌, subst, subst₂, Bool, true, false, cond, filter, flat_map, length, append-nil, Some, find}
 use Rattle.std.specs.List.{AllByRecursion as Each}
 use Rattle.std.specs.Str.{bytes_eq}
@@ -27,7 +28,7 @@ use Rattle.nq_ir.specs.WellFormed.{columns_or_none, table_columns}
 use Rattle.nq_ir.proofs.Equal.{bytes_same, bytes_differ}
 use Rattle.nq_ir.proofs.RawMeanings.{raw_value, raw_meaning, raw_fields_meaning, raw_comps_meaning, Run, runs, runs_values, runs_length, append_means, each_comp_means}
 use Rattle.nq_ir.proofs.RawTypes.{under, RawBodyHas, RawCompsHave, EachHas, bodies_under, comps_have, raw_has, shape_found}
-use Rattle.nq_ir.proofs.RawChoices.{matched_unmap, matched_each, Related, related_up, related_at, cell_means, elements_mean, field_means, tests_mean, none_matched, where_means, put_value, put_listed, same_put, put_means, choose_means}
+use Rattle.nq_ir.proofs.RawChoices.{matched_unmap, matched_each, Related, related_up, related_at, cell_means, elements_mean, field_means, tests_mean, none_matched, where_means, put_value, put_listed, same_put, put_means, choose_means, aggregate_means}
 use Rattle.nq_ir.proofs.RawMeanings.{picks, raw_true}
 use Rattle.nq_ir.proofs.Distinct.{each_join}
 
@@ -139,8 +140,8 @@ module _ (schema : Schema) (proper : Each IsProperShape schema.tables) (tables :
         same_choice : (b : Bool) (xs ys : List Nested) → Matched Same xs ys → Matched Same (cond b xs []) (cond b ys [])
         same_choice true xs ys m = m
         same_choice false xs ys m = refl
-    raw_means (TermTree.empty a) g A p q h vs es sc env w r =
-        ap cell.Bool (none_matched (elements_in (meaning tables vs a)) (raw_comps_meaning ts (raw_comps_in (raw_form schema.tables a es)) env) (elements_mean ts env (meaning tables vs a) (raw_form schema.tables a es) (raw_means a g (TypeTree.bag h.0) p q h.1 vs es sc env w r)) ∙ sym (tests_mean ts (raw_comps_in (raw_form schema.tables a es)) env))
+    raw_means (TermTree.aggregate f a) g A p q h vs es sc env w r =
+        same_aggregate f (elements_in (meaning tables vs a)) (raw_comps_meaning ts (raw_comps_in (raw_form schema.tables a es)) env) (elements_mean ts env (meaning tables vs a) (raw_form schema.tables a es) (raw_means a g (TypeTree.bag h.0) p q h.1 vs es sc env w r)) ∙ sym (aggregate_means ts f (raw_comps_in (raw_form schema.tables a es)) env)
     raw_means (TermTree.fun a t) g A p q h vs es sc env w r = absurd q
     raw_means (TermTree.apply a b) g A p q h vs es sc env w r = absurd q
     raw_means (TermTree.bind a b) g A p q h vs es sc env w r = absurd q

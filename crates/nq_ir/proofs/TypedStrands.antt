@@ -14,7 +14,7 @@ use Rattle.nq_ir.specs.declared.base.Gen.{Gen}
 use Rattle.nq_ir.specs.Meanings.{EachBoth}
 use Rattle.nq_ir.specs.Parts.{element_types}
 use Rattle.nq_ir.specs.Spots.{PlacedComp, both, levels, shape_of, shape_of_fields, shaped, strands}
-use Rattle.nq_ir.specs.Trees.{BaseTree, literal, column, unary, binary, choose, empty, Conds, no_cond, and_cond, Tests, no_test, test, BodyTree, plain_body, rec_body, bag_body, Bodies, no_body, with_body, Comps, no_comp, comp, FormTree}
+use Rattle.nq_ir.specs.Trees.{BaseTree, literal, column, unary, binary, choose, empty, Conds, no_cond, and_cond, Tests, no_test, test, BodyTree, plain_body, rec_body, bag_body, Bodies, no_body, with_body, Comps, no_comp, comp, FormTree, total}
 use Rattle.nq_ir.specs.TypedStrands.{ShapeHas, ShapesHave, IsTypedStrand}
 use Rattle.nq_ir.specs.WellFormed.{AreTables, BaseHas, BodiesHave, BodyHas, CompsHave, CondsHave, IsNumber, IsWellFormed, TestsHave, column_type_in, comps_numbers, comps_tags, gen_columns, numbers, table_columns}
 use Rattle.nq_ir.proofs.Distinct.{Distinct, distinct, each_join}
@@ -41,6 +41,8 @@ module _ (S : List TableShape) (more : List Gen) where
     base_kept sc (binary op a b) T h = (h.0, h.1, base_kept sc a h.0 h.2, base_kept sc b h.1 h.3, h.4)
     base_kept sc (choose x a b) T h = (base_kept sc x column_type.Bool h.0, base_kept sc a T h.1, base_kept sc b T h.2)
     base_kept sc (empty xs) T h = (h.0, tests_kept sc xs h.1)
+    base_kept sc (total g gens conds b) T h =
+        (h.0, h.1, subst (λ (z : List Gen). CondsHave S z conds) (append_assoc gens sc more) (conds_kept (gens ++ sc) conds h.2), subst (λ (z : List Gen). BaseHas S z b column_type.Int) (append_assoc gens sc more) (base_kept (gens ++ sc) b column_type.Int h.3))
 
     conds_kept : (sc : List Gen) (bs : Conds) → CondsHave S sc bs → CondsHave S (sc ++ more) bs
     conds_kept sc no_cond h = tt

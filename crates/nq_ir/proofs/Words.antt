@@ -13,9 +13,9 @@ use Rattle.nq_model.specs.declared.table.ColumnType.{ColumnType}
 use Rattle.nq_model.specs.declared.table.ColumnType.TheVariants as column_type
 use Rattle.nq_model.specs.declared.table.Schema.{Schema}
 use Rattle.nq_model.specs.declared.table.TableShape.{TableShape}
-use Rattle.nq_model.proofs.Typing.{cond_both, each_get, either_some, put_type_list}
+use Rattle.nq_model.proofs.Typing.{cond_both, each_get, either_some, put_type_list, aggregate_base}
 use Rattle.nq_ir.specs.declared.base.Gen.{Gen}
-use Rattle.nq_ir.specs.Trees.{BaseTree, literal, column, unary, binary, choose, empty, Conds, no_cond, and_cond, Tests, no_test, test, BodyTree, plain_body, rec_body, bag_body, Bodies, no_body, with_body, Comps, no_comp, comp}
+use Rattle.nq_ir.specs.Trees.{BaseTree, literal, column, unary, binary, choose, empty, Conds, no_cond, and_cond, Tests, no_test, test, BodyTree, plain_body, rec_body, bag_body, Bodies, no_body, with_body, Comps, no_comp, comp, total}
 use Rattle.nq_ir.specs.WellFormed.{AreTables, BaseHas, BodiesHave, BodyHas, CompsHave, CondsHave, TestsHave, column_type_in, columns_or_none, gen_columns, table_columns}
 use Rattle.nq_ir.specs.Words.{SchemaWords, TypeWords, FieldsWords, TermWords, TermFieldsWords, GensWords, BaseWords, CondsWords, TestsWords, BodyWords, BodiesWords, CompsWords}
 use Rattle.nq_ir.proofs.RawTypes.{column_fields, shape_found}
@@ -68,6 +68,7 @@ module _ (Word : Label → Type 0) (S : List TableShape) (words : SchemaWords Wo
     base_words (binary op a b) sc T h = (base_words a sc h.0 h.2, base_words b sc h.1 h.3)
     base_words (choose x a b) sc T h = (base_words x sc column_type.Bool h.0, base_words a sc T h.1, base_words b sc T h.2)
     base_words (empty xs) sc T h = tests_words xs sc h.1
+    base_words (total g gens conds b) sc T h = (gens_words gens h.1, conds_words conds (gens ++ sc) h.2, base_words b (gens ++ sc) column_type.Int h.3)
 
     conds_words : (bs : Conds) (sc : List Gen) → CondsHave S sc bs → CondsWords Word bs
     conds_words no_cond sc h = tt
@@ -150,7 +151,7 @@ module _ (Word : Label → Type 0) where
       type_words cx (TermTree.apply t u) A r w h = (type_words cx t (fun h.0 A) r w.0 h.1).1
       type_words cx (TermTree.rec fs) A r w h = words_of A (rec h.0) h.2 (fields_words cx fs h.0 r w h.1)
       type_words cx (TermTree.field t l) A r w h = found_words l h.0 A (type_words cx t (rec h.0) r w.0 h.1) h.2
-      type_words cx (TermTree.empty t) A r w h = words_of A bool h.2 tt
+      type_words cx (TermTree.aggregate g t) A r w h = let b = aggregate_base g h.0 A h.2 in words_of A (base_type b.0) b.1 (base_type_words b.0)
       type_words cx (TermTree.single t) A r w h = words_of A (bag h.0) h.3 (type_words cx t h.0 r w h.1)
       type_words cx (TermTree.nil a) A r w h = words_of A (bag a) h.1 w
       type_words cx (TermTree.union t u) A r w h = type_words cx t A r w.0 h.2

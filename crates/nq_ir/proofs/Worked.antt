@@ -1,7 +1,7 @@
 -- Worked examples: normal forms of plain terms, as they print, and their tags, checked by computing them.
 use Rattle.std.proofs.Common.{◌≡◌, true, [], ◌∷◌, refl, codes, pos, ℕ, List}
 use Rattle.std.specs.Fmt.{digits}
-use Rattle.nq_model.specs.Terms.{TermTree, TermFields}
+use Rattle.nq_model.specs.Terms.{TermTree, TermFields, Emptiness, Count, Sum}
 use Rattle.nq_model.specs.Types.{TypeTree, FieldTypes}
 use Rattle.nq_model.specs.declared.table.ColumnType.TheVariants as column
 use Rattle.nq_model.specs.declared.table.TableShape.{TableShape}
@@ -33,7 +33,7 @@ unfolding digits
 three_levels_print = refl
 
 -- a test has generators and no tag; its body is gone
-pub test_prints : printed_text (normal_form org TypeTree.bool (TermTree.single (TermTree.empty (TermTree.table (codes "tasks"))))) ≡ codes "[empty(for (x1 <- table tasks) [()])]"
+pub test_prints : printed_text (normal_form org TypeTree.bool (TermTree.single (TermTree.aggregate Emptiness (TermTree.table (codes "tasks"))))) ≡ codes "[empty(for (x1 <- table tasks) [()])]"
 unfolding digits
 test_prints = refl
 
@@ -66,3 +66,36 @@ sides_query =
 
 pub numbers_of_three_levels : comps_numbers (normal_form org department three_levels).comps ≡ 1 ∷ 2 ∷ 3 ∷ []
 numbers_of_three_levels = refl
+
+-- how many employees each department has, and what they earn together
+abbrev pub staffed : TermTree → TermTree
+staffed body = TermTree.for (TermTree.table (codes "employees")) (TermTree.guard (TermTree.binary Eq (at 0 (codes "dept")) (at 1 (codes "name"))) (TermTree.single body))
+
+abbrev pub totals_query : TermTree
+totals_query =
+    TermTree.for (TermTree.table (codes "departments")) (TermTree.single (TermTree.rec (TermFields.with_field (codes "d") (at 0 (codes "name")) (TermFields.with_field (codes "n") (TermTree.aggregate Count (staffed (TermTree.var 0))) (TermFields.with_field (codes "s") (TermTree.aggregate Sum (staffed (at 0 (codes "salary")))) TermFields.none)))))
+
+abbrev pub totals_type : TypeTree
+totals_type = TypeTree.rec (FieldTypes.field (codes "d") TypeTree.text (FieldTypes.field (codes "n") TypeTree.int (FieldTypes.field (codes "s") TypeTree.int FieldTypes.none)))
+
+pub totals_print : printed_text (normal_form org totals_type totals_query)
+    ≡ codes "nq 2; for (x1 <- table departments) [(d = x1.name, n = count(for (x2 <- table employees) where (x2.dept == x1.name) [()]), s = sum(for (x3 <- table employees) where (x3.dept == x1.name) [x3.salary]))]"
+unfolding digits
+totals_print = refl
+
+-- a count of none is the number 0, and needs no header
+pub no_count_prints : printed_text (normal_form org TypeTree.int (TermTree.single (TermTree.aggregate Count (TermTree.nil TypeTree.int)))) ≡ codes "[0]"
+unfolding digits
+no_count_prints = refl
+
+-- one sum for each comprehension, joined from the left
+pub sums_print : printed_text (normal_form org TypeTree.int (TermTree.single (TermTree.aggregate Sum (TermTree.union (TermTree.single (TermTree.int (pos 1))) (TermTree.union (TermTree.single (TermTree.int (pos 2))) (TermTree.single (TermTree.int (pos 3))))))))
+    ≡ codes "nq 2; [sum([1]) + sum([2]) + sum([3])]"
+unfolding digits
+sums_print = refl
+
+-- a count inside an emptiness test's condition; the body of the test is gone
+pub nested_prints : printed_text (normal_form org TypeTree.bool (TermTree.single (TermTree.aggregate Emptiness (TermTree.for (TermTree.table (codes "departments")) (TermTree.guard (TermTree.binary Eq (TermTree.aggregate Count (TermTree.table (codes "tasks"))) (TermTree.int (pos 2))) (TermTree.single (TermTree.aggregate Sum (TermTree.nil TypeTree.int))))))))
+    ≡ codes "nq 2; [empty(for (x1 <- table departments) where (count(for (x2 <- table tasks) [()]) == 2) [()])]"
+unfolding digits
+nested_prints = refl

@@ -6,11 +6,12 @@ use Rattle.nq_model.specs.Databases.{FilledTable}
 use Rattle.nq_model.specs.Meaning.{is_none}
 use Rattle.nq_model.specs.Operators.{is_true, unary_value, binary_value}
 use Rattle.nq_model.specs.NamedRows.{Label, Row, cell_under, named_table, rows_named}
+use Rattle.nq_model.specs.Totals.{total_of}
 use Rattle.nq_model.specs.Values.{Nested, base, rec, Fields, bag_of}
 use Rattle.nq_model.specs.declared.table.Cell.{Cell}
 use Rattle.nq_model.specs.declared.table.Cell.TheVariants as cell
 use Rattle.nq_ir.specs.declared.base.Gen.{Gen}
-use Rattle.nq_ir.specs.Trees.{BaseTree, literal, column, unary, binary, choose, empty, Conds, no_cond, and_cond, Tests, no_test, test, BodyTree, plain_body, rec_body, bag_body, Bodies, no_body, with_body, Comps, no_comp, comp, FormTree}
+use Rattle.nq_ir.specs.Trees.{BaseTree, literal, column, unary, binary, choose, empty, total, Conds, no_cond, and_cond, Tests, no_test, test, BodyTree, plain_body, rec_body, bag_body, Bodies, no_body, with_body, Comps, no_comp, comp, FormTree}
 
 -- the rows of each table, in row order
 abbrev pub Tables : Type 0
@@ -50,6 +51,7 @@ abbrev mutual
   value ts (binary op a b) env = binary_value op (value ts a env) (value ts b env)
   value ts (choose x a b) env = cond (is_true (value ts x env)) (value ts a env) (value ts b env)
   value ts (empty xs) env = cell.Bool (no_kept ts xs env)
+  value ts (total g gens conds b) env = total_of g (map (λ rs. value ts b (rs ++ env)) (filter (λ rs. all_true ts conds (rs ++ env)) (choices ts gens)))
 
   pub all_true : Tables → Conds → Env → Bool
   all_true ts no_cond env = true

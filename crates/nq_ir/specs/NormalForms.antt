@@ -9,8 +9,8 @@ use Rattle.nq_model.specs.Types.{TypeTree, int, bool, text, rec, bag, fun, Field
 use Rattle.nq_model.specs.declared.table.TableShape.{TableShape}
 use Rattle.nq_ir.specs.declared.base.Gen.{Gen}
 use Rattle.nq_model.specs.NamedRows.{Label}
-use Rattle.nq_ir.specs.RawForms.{RawBase, raw_literal, raw_column, raw_unary, raw_binary, raw_choose, raw_empty, RawConds, no_raw, and_raw, RawTests, no_raw_test, raw_test, RawBody, raw_plain, raw_rec, raw_bag, RawFields, no_raw_field, raw_field, RawComps, no_raw_comp, raw_comp, raw_comps_in, raw_form}
-use Rattle.nq_ir.specs.Trees.{BaseTree, literal, column, unary, binary, Conds, no_cond, and_cond, Tests, no_test, test, BodyTree, plain_body, rec_body, bag_body, Bodies, no_body, with_body, Comps, no_comp, comp, FormTree}
+use Rattle.nq_ir.specs.RawForms.{RawBase, raw_literal, raw_column, raw_unary, raw_binary, raw_choose, raw_empty, raw_total, RawConds, no_raw, and_raw, RawTests, no_raw_test, raw_test, RawBody, raw_plain, raw_rec, raw_bag, RawFields, no_raw_field, raw_field, RawComps, no_raw_comp, raw_comp, raw_comps_in, raw_form}
+use Rattle.nq_ir.specs.Trees.{BaseTree, literal, column, unary, binary, total, Conds, no_cond, and_cond, Tests, no_test, test, BodyTree, plain_body, rec_body, bag_body, Bodies, no_body, with_body, Comps, no_comp, comp, FormTree}
 
 -- how many generators stand in a part
 abbrev mutual
@@ -21,6 +21,7 @@ abbrev mutual
   gens_in_base (raw_binary o a b) = gens_in_base a + gens_in_base b
   gens_in_base (raw_choose x a b) = gens_in_base x + (gens_in_base a + gens_in_base b)
   gens_in_base (raw_empty xs) = gens_in_tests xs
+  gens_in_base (raw_total g gs bs b) = length gs + (gens_in_conds bs + gens_in_base b)
 
   pub gens_in_conds : RawConds → ℕ
   gens_in_conds no_raw = 0
@@ -79,6 +80,8 @@ abbrev mutual
   number_base n sc (raw_choose x a b) =
       BaseTree.choose (number_base n sc x) (number_base (n + gens_in_base x) sc a) (number_base (n + gens_in_base x + gens_in_base a) sc b)
   number_base n sc (raw_empty xs) = BaseTree.empty (number_tests n sc xs)
+  number_base n sc (raw_total g gs bs b) =
+      total g (number_gens n gs) (number_conds (n + length gs) (deal n gs sc) bs) (number_base (n + length gs + gens_in_conds bs) (deal n gs sc) b)
 
   pub number_conds : ℕ → List ℕ → RawConds → Conds
   number_conds n sc no_raw = no_cond

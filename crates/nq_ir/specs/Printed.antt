@@ -1,8 +1,10 @@
 -- The text of a normal form: a term of the query language with the variable xk for the generator k.
-use Rattle.std.specs.Prelude.{ℕ, suc, List, [], ◌∷◌, ◌++◌, Bool, true, false, cond, nat_eq, nat_le, codes}
+use Rattle.std.specs.Prelude.{ℕ, suc, List, [], ◌∷◌, ◌++◌, Bool, true, false, ◌||◌, cond, nat_eq, nat_le, codes}
 use Rattle.std.specs.Fmt.{decimal}
 use Rattle.nq_model.specs.Canonical.{cell_text}
-use Rattle.nq_model.specs.Terms.{TermTree, TermFields}
+use Rattle.nq_model.specs.Terms.{TermTree, TermFields, Aggregate, Emptiness, Count, Sum}
+use Rattle.nq_model.specs.Totals.{HowMany, SumOf}
+use Rattle.nq_model.specs.QueryGrammar.{aggregate_word}
 use Rattle.nq_model.specs.Types.{TypeTree, FieldTypes}
 use Rattle.nq_model.specs.declared.table.Cell.{Cell}
 use Rattle.nq_model.specs.declared.table.Cell.TheVariants as cell
@@ -30,7 +32,7 @@ mutual
     union : NamedTerm → NamedTerm → NamedTerm
     for : ℕ → NamedTerm → NamedTerm → NamedTerm
     guard : NamedTerm → NamedTerm → NamedTerm
-    empty : NamedTerm → NamedTerm
+    aggregate : Aggregate → NamedTerm → NamedTerm
 
   pub data NamedFields : Type 0 where
     no_field : NamedFields
@@ -62,7 +64,7 @@ abbrev mutual
   bound sc (union a b) = TermTree.union (bound sc a) (bound sc b)
   bound sc (for k a b) = TermTree.for (bound sc a) (bound (k ∷ sc) b)
   bound sc (guard x a) = TermTree.guard (bound sc x) (bound sc a)
-  bound sc (empty a) = TermTree.empty (bound sc a)
+  bound sc (aggregate g a) = TermTree.aggregate g (bound sc a)
 
   pub bound_fields : List ℕ → NamedFields → TermFields
   bound_fields sc no_field = TermFields.none
@@ -83,7 +85,9 @@ abbrev mutual
   named_base (BaseTree.unary op b) = unary op (named_base b)
   named_base (BaseTree.binary op a b) = binary op (named_base a) (named_base b)
   named_base (BaseTree.choose x a b) = choose (named_base x) (named_base a) (named_base b)
-  named_base (BaseTree.empty xs) = empty (named_tests xs)
+  named_base (BaseTree.empty xs) = aggregate Emptiness (named_tests xs)
+  named_base (BaseTree.total HowMany gens bs b) = aggregate Count (under_gens gens (named_where bs unit_bag))
+  named_base (BaseTree.total SumOf gens bs b) = aggregate Sum (under_gens gens (named_where bs (single (named_base b))))
 
   -- `where`, with the conditions joined from the left, and nothing where there are none
   pub named_where : Conds → NamedTerm → NamedTerm
@@ -201,7 +205,7 @@ level (nil A) = 10
 level (union a b) = 2
 level (for k a b) = 1
 level (guard x a) = 1
-level (empty a) = 10
+level (aggregate g a) = 10
 
 abbrev pub name_text : ℕ → List ℕ
 name_text k = codes "x" ++ decimal k
@@ -229,12 +233,40 @@ abbrev mutual
       fenced (nat_le 2 (level a)) (text_of a) ++ (codes " ++ " ++ fenced (nat_le 3 (level b)) (text_of b))
   text_of (for k a b) = codes "for (" ++ (name_text k ++ (codes " <- " ++ (text_of a ++ (codes ") " ++ text_of b))))
   text_of (guard x a) = codes "where (" ++ (text_of x ++ (codes ") " ++ text_of a))
-  text_of (empty a) = codes "empty(" ++ (text_of a ++ codes ")")
+  text_of (aggregate g a) = aggregate_word g ++ (codes "(" ++ (text_of a ++ codes ")"))
 
   pub more_text : NamedFields → List ℕ
   more_text no_field = codes ")"
   more_text (with_field l a fs) = codes ", " ++ (l ++ (codes " = " ++ (text_of a ++ more_text fs)))
 
+-- whether a count or a sum stands in the term
+abbrev mutual
+  pub has_total : NamedTerm → Bool
+  has_total (var k) = false
+  has_total (constant c) = false
+  has_total (unary op a) = has_total a
+  has_total (binary op a b) = has_total a || has_total b
+  has_total (choose x a b) = has_total x || (has_total a || has_total b)
+  has_total (table t) = false
+  has_total (rec fs) = have_total fs
+  has_total (field a l) = has_total a
+  has_total (single a) = has_total a
+  has_total (nil a) = false
+  has_total (union a b) = has_total a || has_total b
+  has_total (for k a b) = has_total a || has_total b
+  has_total (guard x a) = has_total x || has_total a
+  has_total (aggregate Emptiness a) = has_total a
+  has_total (aggregate Count a) = true
+  has_total (aggregate Sum a) = true
+
+  pub have_total : NamedFields → Bool
+  have_total no_field = false
+  have_total (with_field l a fs) = has_total a || have_total fs
+
+-- the second edition's header, where a count or a sum stands in the form
+abbrev pub header_text : FormTree → List ℕ
+header_text form = cond (has_total (named_form form)) (codes "nq 2; ") []
+
 -- the text as which a form prints
 abbrev pub printed_text : FormTree → List ℕ
-printed_text form = text_of (named_form form)
+printed_text form = header_text form ++ text_of (named_form form)

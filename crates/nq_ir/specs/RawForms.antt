@@ -3,15 +3,17 @@
 -- After Cheney, Lindley and Wadler, "Query Shredding", SIGMOD 2014, and Cooper, "The script-writer's dream",
 -- DBPL 2009. Here a column names its generator by how many stand between it and its use, so a body that is used
 -- more than once has generators of its own in each copy. Nothing is simplified.
-use Rattle.std.specs.Prelude.{ℕ, zero, suc, ◌+◌, List, [], ◌∷◌, ◌++◌, map, length, get_or, cond, bytes_eq}
+use Rattle.std.specs.Prelude.{ℕ, zero, suc, pos, ◌+◌, List, [], ◌∷◌, ◌++◌, map, length, get_or, cond, bytes_eq}
 use Rattle.std.specs.Ordering.{is_gt}
 use Rattle.nq_model.specs.Orders.{label_cmp}
 use Rattle.nq_model.specs.Tables.{Columns}
-use Rattle.nq_model.specs.Terms.{TermTree, TermFields}
+use Rattle.nq_model.specs.Terms.{TermTree, TermFields, Aggregate, Emptiness, Count, Sum}
+use Rattle.nq_model.specs.Totals.{Total, HowMany, SumOf}
 use Rattle.nq_model.specs.declared.table.Cell.{Cell}
 use Rattle.nq_model.specs.declared.table.Cell.TheVariants as cell
 use Rattle.nq_model.specs.declared.table.TableShape.{TableShape}
 use Rattle.nq_model.specs.declared.term.Binary.{Binary}
+use Rattle.nq_model.specs.declared.term.Binary.TheVariants.{Add}
 use Rattle.nq_model.specs.declared.term.Unary.{Unary}
 use Rattle.nq_model.specs.declared.term.Unary.TheVariants.{Not}
 use Rattle.nq_model.specs.NamedRows.{Label, no_cell}
@@ -26,6 +28,7 @@ mutual
     raw_binary : Binary → RawBase → RawBase → RawBase
     raw_choose : RawBase → RawBase → RawBase → RawBase
     raw_empty : RawTests → RawBase
+    raw_total : Total → List Label → RawConds → RawBase → RawBase
 
   pub data RawConds : Type 0 where
     no_raw : RawConds
@@ -63,6 +66,7 @@ abbrev mutual
   up_base n c (raw_binary o a b) = raw_binary o (up_base n c a) (up_base n c b)
   up_base n c (raw_choose x a b) = raw_choose (up_base n c x) (up_base n c a) (up_base n c b)
   up_base n c (raw_empty xs) = raw_empty (up_tests n c xs)
+  up_base n c (raw_total g gs bs b) = raw_total g gs (up_bases n (length gs + c) bs) (up_base n (length gs + c) b)
 
   pub up_bases : ℕ → ℕ → RawConds → RawConds
   up_bases n c no_raw = no_raw
@@ -149,6 +153,33 @@ abbrev pub raw_tests_of : RawComps → RawTests
 raw_tests_of no_raw_comp = no_raw_test
 raw_tests_of (raw_comp gs bs b cs) = raw_test gs bs (raw_tests_of cs)
 
+-- a base term for each comprehension
+abbrev pub of_each : (List Label → RawConds → RawBody → RawBase) → RawComps → List RawBase
+of_each one no_raw_comp = []
+of_each one (raw_comp gs bs b cs) = one gs bs b ∷ of_each one cs
+
+-- how many elements a comprehension gives, and the sum of its body over them
+abbrev pub raw_count : List Label → RawConds → RawBody → RawBase
+raw_count gs bs b = raw_total HowMany gs bs (raw_literal (cell.Int (pos 1)))
+
+abbrev pub raw_sum : List Label → RawConds → RawBody → RawBase
+raw_sum gs bs b = raw_total SumOf gs bs (raw_base_in b)
+
+-- joined by `+` from the left; of none it is the number 0
+abbrev pub plus_each : RawBase → List RawBase → RawBase
+plus_each a [] = a
+plus_each a (b ∷ bs) = plus_each (raw_binary Add a b) bs
+
+abbrev pub plus_all : List RawBase → RawBase
+plus_all [] = raw_literal (cell.Int (pos 0))
+plus_all (b ∷ bs) = plus_each b bs
+
+-- an emptiness test of all comprehensions, or the counts or the sums of each
+abbrev pub raw_aggregate : Aggregate → RawComps → RawBase
+raw_aggregate Emptiness cs = raw_empty (raw_tests_of cs)
+raw_aggregate Count cs = plus_all (of_each raw_count cs)
+raw_aggregate Sum cs = plus_all (of_each raw_sum cs)
+
 -- the record of the columns of a table, its labels in byte order
 abbrev pub columns_body : Columns → RawFields
 columns_body [] = no_raw_field
@@ -178,7 +209,7 @@ abbrev mutual
   raw_form S (TermTree.choose x a b) es = choice (raw_base_in (raw_form S x es)) (raw_form S a es) (raw_form S b es)
   raw_form S (TermTree.rec fs) es = raw_rec (raw_fields S fs es)
   raw_form S (TermTree.field a l) es = raw_field_in l (raw_form S a es)
-  raw_form S (TermTree.empty a) es = raw_plain (raw_empty (raw_tests_of (raw_comps_in (raw_form S a es))))
+  raw_form S (TermTree.aggregate g a) es = raw_plain (raw_aggregate g (raw_comps_in (raw_form S a es)))
   raw_form S (TermTree.single a) es = raw_bag (raw_comp [] no_raw (raw_form S a es) no_raw_comp)
   raw_form S (TermTree.nil type) es = raw_bag no_raw_comp
   raw_form S (TermTree.union a b) es = raw_bag (append_raw (raw_comps_in (raw_form S a es)) (raw_comps_in (raw_form S b es)))

@@ -1,7 +1,8 @@
 -- Normal forms as plain trees.
 --
 -- After Cheney, Lindley and Wadler, "Query Shredding", SIGMOD 2014.
-use Rattle.std.specs.Prelude.{ℕ, List, [], ◌∷◌, map}
+use Rattle.std.specs.Prelude.{ℕ, pos, List, [], ◌∷◌, map}
+use Rattle.nq_model.specs.Totals.{Total, HowMany, SumOf}
 use Rattle.nq_model.specs.Types.{TypeTree, type_tree}
 use Rattle.nq_model.specs.declared.term.Unary.{Unary}
 use Rattle.nq_model.specs.declared.term.Binary.{Binary}
@@ -29,6 +30,8 @@ mutual
     binary : Binary → BaseTree → BaseTree → BaseTree
     choose : BaseTree → BaseTree → BaseTree → BaseTree
     empty : Tests → BaseTree
+    -- over the choices that the generators and conditions keep: how many there are, where the value is 1, or the sum of the value
+    total : Total → List Gen → Conds → BaseTree → BaseTree
 
   pub data Conds : Type 0 where
     no_cond : Conds
@@ -112,6 +115,8 @@ base_layer (Base-F.Unary op b) = unary op b.value
 base_layer (Base-F.Binary op a b) = binary op a.value b.value
 base_layer (Base-F.Choose x a b) = choose x.value a.value b.value
 base_layer (Base-F.Empty ts) = empty (tests_of ts)
+base_layer (Base-F.Count t) = total HowMany t.gens t.conds (literal (cell.Int (pos 1)))
+base_layer (Base-F.Sum t b) = total SumOf t.gens t.conds b.value
 
 abbrev pub test_layer : Test-F BaseTree TestPart → TestPart
 test_layer t = record { gens = t.gens; conds = conds_of t.conds }

@@ -14,7 +14,7 @@ use Rattle.nq_model.specs.declared.table.ColumnType.{ColumnType}
 use Rattle.nq_model.specs.declared.table.ColumnType.TheVariants as column_type
 use Rattle.nq_model.specs.declared.table.TableShape.{TableShape}
 use Rattle.nq_ir.specs.declared.base.Gen.{Gen}
-use Rattle.nq_ir.specs.Trees.{BaseTree, literal, column, unary, binary, choose, empty, Conds, no_cond, and_cond, Tests, no_test, test, BodyTree, plain_body, rec_body, bag_body, Bodies, no_body, with_body, Comps, no_comp, comp, FormTree}
+use Rattle.nq_ir.specs.Trees.{BaseTree, literal, column, unary, binary, choose, empty, total, Conds, no_cond, and_cond, Tests, no_test, test, BodyTree, plain_body, rec_body, bag_body, Bodies, no_body, with_body, Comps, no_comp, comp, FormTree}
 use Rattle.nq_model.specs.NamedRows.{Label}
 
 abbrev pub columns_or_none : Option TableShape → Columns
@@ -60,6 +60,8 @@ abbrev mutual
       (U : ColumnType) × (V : ColumnType) × BaseHas S scope a U × BaseHas S scope b V × (binary_type op U V ≡ Some T)
   BaseHas S scope (choose x a b) T = BaseHas S scope x column_type.Bool × BaseHas S scope a T × BaseHas S scope b T
   BaseHas S scope (empty xs) T = (T ≡ column_type.Bool) × TestsHave S scope xs
+  BaseHas S scope (total g gens conds b) T =
+      (T ≡ column_type.Int) × AreTables S gens × CondsHave S (gens ++ scope) conds × BaseHas S (gens ++ scope) b column_type.Int
 
   pub CondsHave : List TableShape → List Gen → Conds → Type 0
   CondsHave S scope no_cond = Unit {0}
@@ -129,6 +131,7 @@ abbrev mutual
   base_numbers (binary op a b) = base_numbers a ++ base_numbers b
   base_numbers (choose x a b) = base_numbers x ++ (base_numbers a ++ base_numbers b)
   base_numbers (empty xs) = tests_numbers xs
+  base_numbers (total g gens conds b) = numbers gens ++ (conds_numbers conds ++ base_numbers b)
 
   pub conds_numbers : Conds → List ℕ
   conds_numbers no_cond = []

@@ -42,7 +42,7 @@ module _ (Word : Label → Type 0) where
     TermWords (TermTree.apply t u) = TermWords t × TermWords u
     TermWords (TermTree.rec fs) = TermFieldsWords fs
     TermWords (TermTree.field t l) = TermWords t × Word l
-    TermWords (TermTree.empty t) = TermWords t
+    TermWords (TermTree.aggregate g t) = TermWords t
     TermWords (TermTree.single t) = TermWords t
     TermWords (TermTree.nil a) = TypeWords a
     TermWords (TermTree.union t u) = TermWords t × TermWords u
@@ -65,6 +65,7 @@ module _ (Word : Label → Type 0) where
     BaseWords (BaseTree.binary op a b) = BaseWords a × BaseWords b
     BaseWords (BaseTree.choose x a b) = BaseWords x × BaseWords a × BaseWords b
     BaseWords (BaseTree.empty xs) = TestsWords xs
+    BaseWords (BaseTree.total g gens conds b) = GensWords gens × CondsWords conds × BaseWords b
 
     pub CondsWords : Conds → Type 0
     CondsWords no_cond = ⊤

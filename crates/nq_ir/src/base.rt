@@ -25,7 +25,8 @@ impl Gen {
 }
 
 /// A term of a base type. `Column` names a generator in scope by its number, and a column of its table.
-/// An `Int` is from 0 to 2^63 - 1. `Empty` tests whether none of its comprehensions gives an element.
+/// An `Int` is from 0 to 2^63 - 1. `Empty` tests whether none of its comprehensions gives an element. `Count` is how
+/// many elements one comprehension gives, and `Sum` the sum of a value over them, at 64 bits.
 ///
 /// After Cheney, Lindley and Wadler, "Query Shredding", SIGMOD 2014.
 #[cycle(base)]
@@ -53,6 +54,11 @@ pub enum Base {
         no: Box<Base>,
     },
     Empty(List<Test>),
+    Count(Test),
+    Sum {
+        over: Test,
+        value: Box<Base>,
+    },
 }
 
 /// A comprehension of an emptiness test: its generators, outermost first, and its conditions. It has no
@@ -67,7 +73,7 @@ pub struct Test {
 impl Base {
     /// A copy of the term.
     #[cycle(copy)]
-    #[tactic(auto, using(crate::proofs::Forms::base_empty))]
+    #[tactic(auto, using(crate::proofs::Forms::base_empty, crate::proofs::Forms::base_count, crate::proofs::Forms::base_sum))]
     pub fn copy(&self, alloc: Global) -> Result<Base, Memory>
         ensures { IfOk result (λ copy. base_tree copy ≡ base_tree self.now) }
     {
@@ -94,6 +100,11 @@ impl Base {
                 no: boxed(alloc, no.copy(alloc)?)?,
             }),
             Base::Empty(tests) => Ok(Base::Empty(copy_tests(alloc, tests.as_slice())?)),
+            Base::Count(test) => Ok(Base::Count(copy_test(alloc, test)?)),
+            Base::Sum { over, value } => Ok(Base::Sum {
+                over: copy_test(alloc, over)?,
+                value: boxed(alloc, value.copy(alloc)?)?,
+            }),
         }
     }
 }

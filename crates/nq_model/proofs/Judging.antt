@@ -3,8 +3,8 @@ use Rattle.std.proofs.Common.{◌≡◌, ℕ, List, [], ◌∷◌, Option, Some,
 use Rattle.nq_model.specs.Types.{TypeTree, is_well_formed}
 use Rattle.nq_model.specs.Terms.{PlacedTerm, PlacedNode, PlacedFields, at, bare, bare_node, bare_fields}
 use Rattle.nq_model.specs.Typing.{HasType, IsAccepted, IsPlainBag}
-use Rattle.nq_model.specs.TypeOf.{type_of, types_of, and_then, table_given, unary_given, binary_given, choice_given, parameter_given, application_given, field_given, test_given, bag_given, union_given, body_given, guard_given, element_of}
-use Rattle.nq_model.specs.Judging.{Verdict, BrokenRule, judged, node_judged, fields_judged, program_judged, then_judge, by_rule, unary_rule, binary_rule}
+use Rattle.nq_model.specs.TypeOf.{type_of, types_of, and_then, table_given, unary_given, binary_given, choice_given, parameter_given, application_given, field_given, aggregate_given, bag_given, union_given, body_given, guard_given, element_of}
+use Rattle.nq_model.specs.Judging.{Verdict, BrokenRule, judged, node_judged, fields_judged, program_judged, then_judge, by_rule, unary_rule, binary_rule, aggregate_rule}
 use Rattle.nq_model.proofs.TypeOf.{typed, has_type, body_asks, body_gives, and_then_some}
 use Rattle.nq_model.proofs.Typing.{well_formed_type}
 use Rattle.nq_model.specs.declared.table.Schema.{Schema}
@@ -58,8 +58,8 @@ module _ (schema : Schema) where
         given_then (fields_judged schema cx fs) (types_of schema cx (bare_fields fs)) _ _ (fields_agree cx fs) (λ fields. refl)
     node_agree cx place (PlacedNode.field t l) =
         given_then (judged schema cx t) (type_of schema cx (bare t)) _ _ (agree cx t) (λ a. given_rule 15 place (field_given l a))
-    node_agree cx place (PlacedNode.empty t) =
-        given_then (judged schema cx t) (type_of schema cx (bare t)) _ _ (agree cx t) (λ a. given_rule 16 place (test_given a))
+    node_agree cx place (PlacedNode.aggregate g t) =
+        given_then (judged schema cx t) (type_of schema cx (bare t)) _ _ (agree cx t) (λ a. given_rule (aggregate_rule g) place (aggregate_given g a))
     node_agree cx place (PlacedNode.single t) =
         given_then (judged schema cx t) (type_of schema cx (bare t)) _ _ (agree cx t) (λ a. given_rule 17 place (bag_given a))
     node_agree cx place (PlacedNode.union t u) =

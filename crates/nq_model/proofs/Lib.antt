@@ -20,3 +20,6 @@ pub mod Substitution
 pub mod Unfolding
 pub mod StableSorts
 pub mod FieldSorts
+pub mod Totals
+pub mod Aggregates
+pub mod QueryHeaders

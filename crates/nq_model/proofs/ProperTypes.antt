@@ -5,13 +5,13 @@ use Rattle.std.proofs.lemmas.List.Elements.{All-head, All-tail}
 use Rattle.std.specs.Ordering.{is_gt}
 use Rattle.nq_model.specs.Orders.{label_cmp, by_label, AreDistinct, AreRising}
 use Rattle.nq_model.specs.Types.{TypeTree, FieldTypes, field_types_of}
-use Rattle.nq_model.specs.Terms.{TermTree, TermFields, PlacedTerm, PlacedNode, PlacedFields, at, bare, bare_node, bare_fields}
+use Rattle.nq_model.specs.Terms.{TermTree, TermFields, PlacedTerm, PlacedNode, PlacedFields, at, bare, bare_node, bare_fields, Aggregate, Emptiness, Count, Sum}
 use Rattle.nq_model.specs.Tables.{Columns, names_of, base_type, table_type, IsProperShape, IsProperSchema}
 use Rattle.nq_model.specs.Typing.{HasType, HaveTypes, shape_named, type_at, put_type}
-use Rattle.nq_model.specs.TypeOf.{table_given, unary_given, binary_given, choice_given, parameter_given, application_given, field_given, test_given, bag_given, union_given, body_given, guard_given, element_of}
-use Rattle.nq_model.specs.Judging.{Verdict, BrokenRule, judged, node_judged, fields_judged, program_judged, then_judge, by_rule, broken, unary_rule, binary_rule}
+use Rattle.nq_model.specs.TypeOf.{table_given, unary_given, binary_given, choice_given, parameter_given, application_given, field_given, aggregate_given, bag_given, union_given, body_given, guard_given, element_of}
+use Rattle.nq_model.specs.Judging.{Verdict, BrokenRule, judged, node_judged, fields_judged, program_judged, then_judge, by_rule, broken, unary_rule, binary_rule, aggregate_rule}
 use Rattle.nq_model.specs.Proper.{labels_of, field_labels, IsOrdered, AreOrdered, IsProperTerm, AreProperTerms, IsClosed, IsClosedUnder, AreClosedUnder}
-use Rattle.nq_model.proofs.Typing.{each_get, put_type_list, either_some, cond_both}
+use Rattle.nq_model.proofs.Typing.{aggregate_base, each_get, put_type_list, either_some, cond_both}
 use Rattle.nq_model.proofs.FieldOrders.{each_label_put, rising_put}
 use Rattle.nq_model.specs.declared.term.Unary.{Unary}
 use Rattle.nq_model.specs.declared.term.Unary.TheVariants.{Minus, Not}
@@ -104,7 +104,7 @@ module _ (schema : Schema) (proper : IsProperSchema schema) where
     ordered_type cx (TermTree.rec fs) k all p h =
         ordered_is (TypeTree.rec h.0) k h.2 (labels_rise cx fs h.0 h.1 p.0, ordered_types cx fs h.0 all p.1 h.1)
     ordered_type cx (TermTree.field t l) k all p h = field_ordered l h.0 k (ordered_type cx t (TypeTree.rec h.0) all p.0 h.1).1 h.2
-    ordered_type cx (TermTree.empty t) k all p h = ordered_is TypeTree.bool k h.2 tt
+    ordered_type cx (TermTree.aggregate g t) k all p h = let b = aggregate_base g h.0 k h.2 in ordered_is (base_type b.0) k b.1 (base_ordered b.0)
     ordered_type cx (TermTree.single t) k all p h = ordered_is (TypeTree.bag h.0) k h.3 (ordered_type cx t h.0 all p h.1)
     ordered_type cx (TermTree.nil a) k all p h = ordered_is (TypeTree.bag a) k h.1 p.ordered
     ordered_type cx (TermTree.union t u) k all p h = ordered_type cx t k all p.0 h.2
@@ -131,6 +131,11 @@ avoids_then (Err b) f h g e is r = let same : b ≡ e = cc in h b refl (ap (λ (
 
 same_rule : (rule place : ℕ) (e : BrokenRule) → broken rule place ≡ e → e.rule ≡ 1 → rule ≡ 1
 same_rule rule place e same r = ap (λ (x : BrokenRule). x.rule) same ∙ r
+
+rule_after_one : (g : Aggregate) → aggregate_rule g ≡ 1 → ⊥
+rule_after_one Emptiness e = omega arith
+rule_after_one Count e = omega arith
+rule_after_one Sum e = omega arith
 
 avoids_rule : {A : Type 0} (rule place : ℕ) (o : Option A) → (rule ≡ 1 → ⊥) → Avoids (by_rule rule place o)
 avoids_rule rule place (Some a) other e is r = cc
@@ -192,8 +197,8 @@ module _ (schema : Schema) where
         avoids_then (fields_judged schema cx fs) _ (fields_avoid n cx fs e h) (λ fields. avoids_ok (TypeTree.rec fields))
     node_avoids n cx place (PlacedNode.field t l) e h =
         avoids_then (judged schema cx t) _ (closed_avoids n cx t e h) (λ a. avoids_rule 15 place (field_given l a) (λ x. omega arith))
-    node_avoids n cx place (PlacedNode.empty t) e h =
-        avoids_then (judged schema cx t) _ (closed_avoids n cx t e h) (λ a. avoids_rule 16 place (test_given a) (λ x. omega arith))
+    node_avoids n cx place (PlacedNode.aggregate g t) e h =
+        avoids_then (judged schema cx t) _ (closed_avoids n cx t e h) (λ a. avoids_rule (aggregate_rule g) place (aggregate_given g a) (rule_after_one g))
     node_avoids n cx place (PlacedNode.single t) e h =
         avoids_then (judged schema cx t) _ (closed_avoids n cx t e h) (λ a. avoids_rule 17 place (bag_given a) (λ x. omega arith))
     node_avoids n cx place (PlacedNode.union t u) e h =

@@ -20,7 +20,7 @@ mutual
   bare_shift d c (at p (PlacedNode.apply t u)) = rw (bare_shift d c t, bare_shift d c u) refl
   bare_shift d c (at p (PlacedNode.rec fs)) = ap TermTree.rec (bare_shift_fields d c fs)
   bare_shift d c (at p (PlacedNode.field t l)) = ap (λ x. TermTree.field x l) (bare_shift d c t)
-  bare_shift d c (at p (PlacedNode.empty t)) = ap TermTree.empty (bare_shift d c t)
+  bare_shift d c (at p (PlacedNode.aggregate g t)) = ap (λ x. TermTree.aggregate g x) (bare_shift d c t)
   bare_shift d c (at p (PlacedNode.single t)) = ap TermTree.single (bare_shift d c t)
   bare_shift d c (at p (PlacedNode.nil k)) = refl
   bare_shift d c (at p (PlacedNode.union t u)) = rw (bare_shift d c t, bare_shift d c u) refl
@@ -54,7 +54,7 @@ mutual
   bare_subst c s (at p (PlacedNode.apply t u)) = rw (bare_subst c s t, bare_subst c s u) refl
   bare_subst c s (at p (PlacedNode.rec fs)) = ap TermTree.rec (bare_subst_fields c s fs)
   bare_subst c s (at p (PlacedNode.field t l)) = ap (λ x. TermTree.field x l) (bare_subst c s t)
-  bare_subst c s (at p (PlacedNode.empty t)) = ap TermTree.empty (bare_subst c s t)
+  bare_subst c s (at p (PlacedNode.aggregate g t)) = ap (λ x. TermTree.aggregate g x) (bare_subst c s t)
   bare_subst c s (at p (PlacedNode.single t)) = ap TermTree.single (bare_subst c s t)
   bare_subst c s (at p (PlacedNode.nil k)) = refl
   bare_subst c s (at p (PlacedNode.union t u)) = rw (bare_subst c s t, bare_subst c s u) refl

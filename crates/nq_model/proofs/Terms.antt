@@ -1,7 +1,7 @@
 -- The trees of types and terms, form by form.
 use Rattle.std.proofs.Common.{◌≡◌, ℕ, ℤ, Bool, List, [], ◌∷◌, refl, sym, ap, ◌∙◌, Box, Global}
 use Rattle.nq_model.specs.Types.{TypeTree, field_types_of, type_layer, type_tree, fields_view as types_view}
-use Rattle.nq_model.specs.Terms.{PlacedTerm, PlacedNode, at, TermTree, with_field, placed, placed_node, placed_fields, node_layer, term_layer, term_tree, node_tree, bare_node, bare_fields, term_fields_of, fields_view}
+use Rattle.nq_model.specs.Terms.{PlacedTerm, PlacedNode, at, TermTree, Emptiness, Count, Sum, with_field, placed, placed_node, placed_fields, node_layer, term_layer, term_tree, node_tree, bare_node, bare_fields, term_fields_of, fields_view}
 use Rattle.nq_model.specs.declared.ty.Ty.{Ty, Ty-F, fold-roll-Ty}
 use Rattle.nq_model.specs.declared.ty.Ty.TheVariants.{Rec as TyRec, rolls-Rec as rolls-TyRec}
 use Rattle.nq_model.specs.declared.term.Unary.{Unary}
@@ -50,8 +50,14 @@ node_apply t u = ap placed_node (sym (node.rolls-Apply t u)) ∙ fold-roll-Node 
 pub node_field : (t : Box Term Global) (l : List ℕ) → placed_node (node.Field t l) ≡ PlacedNode.field (placed t.value) l
 node_field t l = ap placed_node (sym (node.rolls-Field t l)) ∙ fold-roll-Node PlacedNode PlacedTerm node_layer term_layer (Node-F.Field t l)
 
-pub node_empty : (t : Box Term Global) → placed_node (node.Empty t) ≡ PlacedNode.empty (placed t.value)
+pub node_empty : (t : Box Term Global) → placed_node (node.Empty t) ≡ PlacedNode.aggregate Emptiness (placed t.value)
 node_empty t = ap placed_node (sym (node.rolls-Empty t)) ∙ fold-roll-Node PlacedNode PlacedTerm node_layer term_layer (Node-F.Empty t)
+
+pub node_count : (t : Box Term Global) → placed_node (node.Count t) ≡ PlacedNode.aggregate Count (placed t.value)
+node_count t = ap placed_node (sym (node.rolls-Count t)) ∙ fold-roll-Node PlacedNode PlacedTerm node_layer term_layer (Node-F.Count t)
+
+pub node_sum : (t : Box Term Global) → placed_node (node.Sum t) ≡ PlacedNode.aggregate Sum (placed t.value)
+node_sum t = ap placed_node (sym (node.rolls-Sum t)) ∙ fold-roll-Node PlacedNode PlacedTerm node_layer term_layer (Node-F.Sum t)
 
 pub node_single : (t : Box Term Global) → placed_node (node.Single t) ≡ PlacedNode.single (placed t.value)
 node_single t = ap placed_node (sym (node.rolls-Single t)) ∙ fold-roll-Node PlacedNode PlacedTerm node_layer term_layer (Node-F.Single t)

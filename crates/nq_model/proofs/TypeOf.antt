@@ -170,11 +170,10 @@ module _ (schema : Schema) where
         let a = and_then_some (type_of schema cx t) _ k e in
         let fields = and_then_some (fields_in a.0) _ k a.2 in
         (fields.0, typed cx t (TypeTree.rec fields.0) (asked cx t a.0 _ a.1 (fields_some a.0 fields.0 fields.1)), fields.2)
-    typed cx (TermTree.empty t) k e =
+    typed cx (TermTree.aggregate g t) k e =
         let a = and_then_some (type_of schema cx t) _ k e in
         let el = and_then_some (element_of a.0) _ k a.2 in
-        let g : TypeTree.bool ≡ k = cc (el.2) in
-        (el.0, typed cx t (TypeTree.bag el.0) (asked cx t a.0 _ a.1 (element_some a.0 el.0 el.1)), sym g)
+        (el.0, typed cx t (TypeTree.bag el.0) (asked cx t a.0 _ a.1 (element_some a.0 el.0 el.1)), el.2)
     typed cx (TermTree.single t) k e =
         let a = and_then_some (type_of schema cx t) _ k e in
         let h = when_some (is_plain a.0) (TypeTree.bag a.0) k a.2 in
@@ -230,7 +229,7 @@ module _ (schema : Schema) where
     has_type cx (TermTree.apply t u) k h = rw (has_type cx t (TypeTree.fun h.0 k) h.1, has_type cx u h.0 h.2) (application_gives h.0 k)
     has_type cx (TermTree.rec fs) k h = rw (all_have cx fs h.0 h.1) (ap Some (sym h.2))
     has_type cx (TermTree.field t l) k h = rw (has_type cx t (TypeTree.rec h.0) h.1) h.2
-    has_type cx (TermTree.empty t) k h = rw (has_type cx t (TypeTree.bag h.0) h.1) (ap Some (sym h.2))
+    has_type cx (TermTree.aggregate g t) k h = rw (has_type cx t (TypeTree.bag h.0) h.1) h.2
     has_type cx (TermTree.single t) k h = rw (has_type cx t h.0 h.1) (bag_gives h.0 h.2 ∙ ap Some (sym h.3))
     has_type cx (TermTree.nil a) k h = bag_gives a h.0 ∙ ap Some (sym h.1)
     has_type cx (TermTree.union t u) k h = rw (has_type cx t k h.2, has_type cx u k h.3) (union_gives h.0 k h.1)

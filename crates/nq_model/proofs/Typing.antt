@@ -4,14 +4,21 @@ use Rattle.std.specs.List.{AllByRecursion as Each}
 use Rattle.std.specs.Ordering.{is_gt}
 use Rattle.nq_model.specs.Orders.{label_cmp, put_by, by_label}
 use Rattle.nq_model.specs.Types.{TypeTree, FieldTypes, field_types_of, is_plain, are_plain, is_well_formed, are_well_formed}
-use Rattle.nq_model.specs.Terms.{TermTree, TermFields}
+use Rattle.nq_model.specs.Terms.{TermTree, TermFields, Aggregate, Emptiness, Count, Sum}
 use Rattle.nq_model.specs.Tables.{Columns, base_type}
-use Rattle.nq_model.specs.Typing.{HasType, HaveTypes, type_at, put_type}
+use Rattle.nq_model.specs.Typing.{HasType, HaveTypes, type_at, put_type, aggregate_type}
 use Rattle.nq_model.proofs.Types.{and_split, both, plain_well_formed}
 use Rattle.nq_model.proofs.TypeOf.{has_type}
 use Rattle.nq_model.specs.declared.table.ColumnType.{ColumnType}
 use Rattle.nq_model.specs.declared.table.ColumnType.TheVariants as column
 use Rattle.nq_model.specs.declared.table.Schema.{Schema}
+
+-- what is asked of a bag is of a base type
+pub aggregate_base : (g : Aggregate) (a k : TypeTree) → aggregate_type g a ≡ Some k → (c : ColumnType) × (k ≡ base_type c)
+aggregate_base Emptiness a k e = (column.Bool, cc)
+aggregate_base Count a k e = (column.Int, cc)
+aggregate_base Sum TypeTree.int k e = (column.Int, cc)
+aggregate_base Sum _ k e = absurd (cc)
 
 -- a term has at most one type
 pub one_type : (schema : Schema) (cx : List TypeTree) (t : TermTree) (a b : TypeTree) → HasType schema cx t a → HasType schema cx t b → a ≡ b
@@ -98,7 +105,8 @@ module _ (schema : Schema) where
         (and_split (is_well_formed h.0) (is_well_formed k) (well_formed_type cx t (TypeTree.fun h.0 k) all h.1)).1
     well_formed_type cx (TermTree.rec fs) k all h = ap is_well_formed h.2 ∙ well_formed_types cx fs h.0 all h.1
     well_formed_type cx (TermTree.field t l) k all h = field_well_formed l h.0 k (well_formed_type cx t (TypeTree.rec h.0) all h.1) h.2
-    well_formed_type cx (TermTree.empty t) k all h = ap is_well_formed h.2
+    well_formed_type cx (TermTree.aggregate g t) k all h =
+        let b = aggregate_base g h.0 k h.2 in ap is_well_formed b.1 ∙ base_well_formed b.0
     well_formed_type cx (TermTree.single t) k all h = ap is_well_formed h.3 ∙ h.2
     well_formed_type cx (TermTree.nil a) k all h = ap is_well_formed h.1 ∙ h.0
     well_formed_type cx (TermTree.union t u) k all h = well_formed_type cx t k all h.2

@@ -2,7 +2,7 @@
 use Rattle.std.proofs.Common.{◌≡◌, ℕ, cond, Bool, true, false, List, Option, Some, None, bytes_eq, refl, sym, ap, ◌∙◌, subst as along}
 use Rattle.std.specs.Prelude.{option_map}
 use Rattle.nq_model.specs.Terms.{PlacedTerm, PlacedNode, PlacedFields, at, TermTree, bare, bare_fields}
-use Rattle.nq_model.specs.Unfolding.{part, picked, contract_apply, contract_field, step, step_fields, Chain, here, after, Reaches, Steps, Unfolds, Around, AroundField, unary_of, binary_left, binary_right, choose_test, choose_yes, choose_no, fun_body, apply_func, apply_arg, rec_field, field_of, empty_of, single_of, union_left, union_right, for_source, for_body, guard_test, guard_body, bind_value, bind_body, first_field, later_field, picked_tree, contract_tree_apply, contract_tree_field, step_tree, step_tree_fields, TreeSteps, TreeUnfolds}
+use Rattle.nq_model.specs.Unfolding.{part, picked, contract_apply, contract_field, step, step_fields, Chain, here, after, Reaches, Steps, Unfolds, Around, AroundField, unary_of, binary_left, binary_right, choose_test, choose_yes, choose_no, fun_body, apply_func, apply_arg, rec_field, field_of, aggregate_of, single_of, union_left, union_right, for_source, for_body, guard_test, guard_body, bind_value, bind_body, first_field, later_field, picked_tree, contract_tree_apply, contract_tree_field, step_tree, step_tree_fields, TreeSteps, TreeUnfolds}
 use Rattle.nq_model.proofs.Substitution.{bare_subst}
 
 pub join : {A : Type 0} {next : A → Option A} {t u v : A} → Chain next t u → Chain next u v → Chain next t v
@@ -61,7 +61,7 @@ bare_contract_apply p (at q (PlacedNode.fun k t)) a = ap Some (bare_subst 0 a t)
 bare_contract_apply p (at q (PlacedNode.apply t u)) a = refl
 bare_contract_apply p (at q (PlacedNode.rec fs)) a = refl
 bare_contract_apply p (at q (PlacedNode.field t l)) a = refl
-bare_contract_apply p (at q (PlacedNode.empty t)) a = refl
+bare_contract_apply p (at q (PlacedNode.aggregate g t)) a = refl
 bare_contract_apply p (at q (PlacedNode.single t)) a = refl
 bare_contract_apply p (at q (PlacedNode.nil k)) a = refl
 bare_contract_apply p (at q (PlacedNode.union t u)) a = refl
@@ -82,7 +82,7 @@ bare_contract_field p (at q (PlacedNode.fun k t)) l = refl
 bare_contract_field p (at q (PlacedNode.apply t u)) l = refl
 bare_contract_field p (at q (PlacedNode.rec fs)) l = bare_picked l fs
 bare_contract_field p (at q (PlacedNode.field t m)) l = refl
-bare_contract_field p (at q (PlacedNode.empty t)) l = refl
+bare_contract_field p (at q (PlacedNode.aggregate g t)) l = refl
 bare_contract_field p (at q (PlacedNode.single t)) l = refl
 bare_contract_field p (at q (PlacedNode.nil k)) l = refl
 bare_contract_field p (at q (PlacedNode.union t u)) l = refl
@@ -104,7 +104,7 @@ mutual
   bare_step (at p (PlacedNode.apply t u)) = part_bare bare bare (step t) _ _ _ (bare_step t) (λ y. refl) (part_bare bare bare (step u) _ _ _ (bare_step u) (λ y. refl) (bare_contract_apply p t u))
   bare_step (at p (PlacedNode.rec fs)) = part_bare bare_fields bare (step_fields fs) _ _ _ (bare_step_fields fs) (λ y. refl) refl
   bare_step (at p (PlacedNode.field t l)) = part_bare bare bare (step t) _ _ _ (bare_step t) (λ y. refl) (bare_contract_field p t l)
-  bare_step (at p (PlacedNode.empty t)) = part_bare bare bare (step t) _ _ _ (bare_step t) (λ y. refl) refl
+  bare_step (at p (PlacedNode.aggregate g t)) = part_bare bare bare (step t) _ _ _ (bare_step t) (λ y. refl) refl
   bare_step (at p (PlacedNode.single t)) = part_bare bare bare (step t) _ _ _ (bare_step t) (λ y. refl) refl
   bare_step (at p (PlacedNode.nil k)) = refl
   bare_step (at p (PlacedNode.union t u)) = part_bare bare bare (step t) _ _ _ (bare_step t) (λ y. refl) (part_bare bare bare (step u) _ _ _ (bare_step u) (λ y. refl) refl)
@@ -148,7 +148,7 @@ mutual
   step_around t u (apply_arg d) e = rw (d, e) refl
   step_around t u (rec_field h) e = rw (step_around_field t u h e) refl
   step_around t u field_of e = rw e refl
-  step_around t u empty_of e = rw e refl
+  step_around t u aggregate_of e = rw e refl
   step_around t u single_of e = rw e refl
   step_around t u union_left e = rw e refl
   step_around t u (union_right d) e = rw (d, e) refl

@@ -1,5 +1,5 @@
 -- What a typed term means is of the term's type.
-use Rattle.std.proofs.Common.{◌≡◌, ℕ, zero, suc, ℤ, pos, ◌+ℤ◌, ◌-ℤ◌, ◌*ℤ◌, neg_ℤ, Bool, true, false, cond, bytes_eq, List, [], ◌∷◌, ◌++◌, map, zip, find, flat_map, get_or, slice_get, Some, All, refl, ap, ap₂, sym, ◌∙◌, subst, arith}
+use Rattle.std.proofs.Common.{◌≡◌, ℕ, zero, suc, ℤ, pos, ◌+ℤ◌, ◌-ℤ◌, ◌*ℤ◌, neg_ℤ, Bool, true, false, cond, bytes_eq, List, [], ◌∷◌, ◌++◌, map, zip, find, flat_map, length, get_or, slice_get, Some, All, refl, ap, ap₂, sym, ◌∙◌, subst, arith}
 use Rattle.std.specs.Cmp.Lexicographic.{nat_list_eq_equiv}
 use Rattle.std.specs.Int.{w64}
 use Rattle.std.specs.Int.RustNames.{FitsSigned}
@@ -9,17 +9,18 @@ use Rattle.std.proofs.lemmas.Int.{wrapping_add_is, wrapping_sub_is, wrapping_mul
 use Rattle.std.proofs.lemmas.List.Elements.{recursion_from_All}
 use Rattle.nq_model.specs.Cells.{RowFits, column_type_of}
 use Rattle.nq_model.specs.Databases.{FilledTable, filled, database, rows_value, table_meaning}
-use Rattle.nq_model.specs.Meaning.{meaning, field_meanings, cell_of, elements_in, value_under, field_in, put_field}
+use Rattle.nq_model.specs.Meaning.{meaning, field_meanings, cell_of, elements_in, aggregate_value, value_under, field_in, put_field}
 use Rattle.nq_model.specs.Operators.{is_true, int_of, unary_value, binary_value, unary_type, binary_type, both_int, both_bool, same_base}
 use Rattle.nq_model.specs.Orders.{label_cmp, by_label, AreRising}
 use Rattle.nq_model.specs.Proper.{IsNumeral, IsOrdered, AreOrdered, labels_of, IsPlainTerm, ArePlainTerms, IsProperTerm, AreProperTerms}
 use Rattle.nq_model.specs.QueryMeaning.{Means}
 use Rattle.nq_model.specs.SchemaTables.{IsSound, IsTableOf, AreTablesOf}
 use Rattle.nq_model.specs.Tables.{Columns, names_of, types_of, base_type, table_type, table_value, row_record}
-use Rattle.nq_model.specs.Terms.{TermTree, TermFields, PlacedTerm, bare}
+use Rattle.nq_model.specs.Terms.{TermTree, TermFields, PlacedTerm, bare, Aggregate, Emptiness, Count, Sum}
 use Rattle.nq_model.specs.Types.{TypeTree, FieldTypes, field_types_of}
-use Rattle.nq_model.specs.Typing.{HasType, HaveTypes, shape_named, type_at, put_type}
+use Rattle.nq_model.specs.Typing.{HasType, HaveTypes, shape_named, type_at, put_type, aggregate_type}
 use Rattle.nq_model.specs.Values.{Nested, Fields, Elements, base, rec, bag, elements, elements_of, fields_of, labels, IsProper, FieldsAreProper, ElementsAreProper}
+use Rattle.nq_model.specs.Totals.{whole_sum}
 use Rattle.nq_model.specs.ValueTypes.{IsOfType, FieldsAreOfTypes, ElementsAreOfType}
 use Rattle.nq_model.specs.declared.table.Cell.{Cell}
 use Rattle.nq_model.specs.declared.table.Cell.TheVariants as cell
@@ -37,6 +38,14 @@ use Rattle.nq_model.proofs.Unfolding.{reached_once}
 -- a value of a type is of each type that equals it
 of_equal : (a k : TypeTree) (v : Nested) → k ≡ a → IsOfType a v → IsOfType k v
 of_equal a k v e h = subst (λ b. IsOfType b v) (sym e) h
+
+of_aggregate : (g : Aggregate) (a k : TypeTree) (vs : List Nested) → aggregate_type g a ≡ Some k → IsOfType k (base (aggregate_value g vs))
+of_aggregate Emptiness a k vs e = let f : k ≡ TypeTree.bool = cc in of_equal TypeTree.bool k (base (aggregate_value Emptiness vs)) f tt
+of_aggregate Count a k vs e = let f : k ≡ TypeTree.int = cc in of_equal TypeTree.int k (base (aggregate_value Count vs)) f (SFits-int_wrap w64 (pos (length vs)))
+of_aggregate Sum TypeTree.int k vs e =
+    let f : k ≡ TypeTree.int = cc in
+    of_equal TypeTree.int k (base (aggregate_value Sum vs)) f (SFits-int_wrap w64 (whole_sum (map int_of (map cell_of vs))))
+of_aggregate Sum _ k vs e = absurd (cc)
 
 of_cond : (k : TypeTree) (b : Bool) (v w : Nested) → IsOfType k v → IsOfType k w → IsOfType k (cond b v w)
 of_cond k true v w h i = h
@@ -277,7 +286,7 @@ module _ (schema : Schema) (tables : List FilledTable)
     of_term context env all (TermTree.rec fs) k p q h = of_equal (TypeTree.rec h.0) k (meaning tables env (TermTree.rec fs)) h.2 (of_fields context env all fs h.0 p.1 q h.1)
     of_term context env all (TermTree.field t l) k p q h =
         of_record l h.0 (meaning tables env t) k (of_term context env all t (TypeTree.rec h.0) p.0 q h.1) h.2
-    of_term context env all (TermTree.empty t) k p q h = of_equal TypeTree.bool k (meaning tables env (TermTree.empty t)) h.2 tt
+    of_term context env all (TermTree.aggregate g t) k p q h = of_aggregate g h.0 k (elements_in (meaning tables env t)) h.2
     of_term context env all (TermTree.single t) k p q h = of_equal (TypeTree.bag h.0) k (meaning tables env (TermTree.single t)) h.3 (of_term context env all t h.0 p q h.1, tt)
     of_term context env all (TermTree.nil a) k p q h = of_equal (TypeTree.bag a) k (meaning tables env (TermTree.nil a)) h.1 tt
     of_term context env all (TermTree.union t u) k p q h =

@@ -10,9 +10,9 @@ use Rattle.nq_model.specs.declared.term.Binary.{Binary}
 use Rattle.nq_model.specs.declared.term.Binary.TheVariants.{Add, Sub, Mul, Eq, Ne, Lt, Le, Gt, Ge, And, Or}
 use Rattle.nq_model.specs.declared.table.Schema.{Schema}
 use Rattle.nq_model.specs.Types.{TypeTree, FieldTypes}
-use Rattle.nq_model.specs.Terms.{PlacedTerm, PlacedNode, PlacedFields, at}
+use Rattle.nq_model.specs.Terms.{PlacedTerm, PlacedNode, PlacedFields, at, Aggregate, Emptiness, Count, Sum}
 use Rattle.nq_model.specs.Typing.{put_type}
-use Rattle.nq_model.specs.TypeOf.{table_given, unary_given, binary_given, choice_given, parameter_given, application_given, field_given, test_given, bag_given, union_given, body_given, guard_given, element_of}
+use Rattle.nq_model.specs.TypeOf.{table_given, unary_given, binary_given, choice_given, parameter_given, application_given, field_given, aggregate_given, bag_given, union_given, body_given, guard_given, element_of}
 
 -- the number of the rule, and the place of the node that breaks it
 pub record BrokenRule : Type 0 where
@@ -54,6 +54,12 @@ binary_rule Ge = 9
 binary_rule And = 10
 binary_rule Or = 10
 
+-- emptiness tests, counts, then sums
+abbrev pub aggregate_rule : Aggregate → ℕ
+aggregate_rule Emptiness = 16
+aggregate_rule Count = 24
+aggregate_rule Sum = 25
+
 module _ (schema : Schema) where
   abbrev mutual
     pub judged : List TypeTree → PlacedTerm → Verdict TypeTree
@@ -77,7 +83,7 @@ module _ (schema : Schema) where
         then_judge (judged context t) (λ f. then_judge (judged context u) (λ a. by_rule 13 place (application_given f a)))
     node_judged context place (PlacedNode.rec fs) = then_judge (fields_judged context fs) (λ fields. Ok (TypeTree.rec fields))
     node_judged context place (PlacedNode.field t l) = then_judge (judged context t) (λ a. by_rule 15 place (field_given l a))
-    node_judged context place (PlacedNode.empty t) = then_judge (judged context t) (λ a. by_rule 16 place (test_given a))
+    node_judged context place (PlacedNode.aggregate g t) = then_judge (judged context t) (λ a. by_rule (aggregate_rule g) place (aggregate_given g a))
     node_judged context place (PlacedNode.single t) = then_judge (judged context t) (λ a. by_rule 17 place (bag_given a))
     node_judged context place (PlacedNode.nil a) = by_rule 18 place (bag_given a)
     node_judged context place (PlacedNode.union t u) =

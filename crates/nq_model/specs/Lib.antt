@@ -16,6 +16,7 @@ pub mod NamedRows
 pub mod SchemaTables
 pub mod Meaning
 pub mod Operators
+pub mod Totals
 pub mod Numberings
 pub mod OpenLists
 pub mod Substitution

@@ -2,12 +2,13 @@
 --
 -- After Cheney, Lindley and Wadler, "Query Shredding", SIGMOD 2014. A term that is not typed has a meaning
 -- too, which no clause rests on: a value of the wrong kind counts as false, as no field or as no element.
-use Rattle.std.specs.Prelude.{ℕ, Bool, true, false, cond, List, [], ◌∷◌, ◌++◌, flat_map, get_or}
+use Rattle.std.specs.Prelude.{ℕ, Bool, true, false, cond, List, [], ◌∷◌, ◌++◌, map, flat_map, get_or}
 use Rattle.std.specs.Str.{bytes_eq}
 use Rattle.nq_model.specs.Databases.{FilledTable, table_meaning}
 use Rattle.nq_model.specs.Operators.{is_true, unary_value, binary_value}
 use Rattle.nq_model.specs.Orders.{label_cmp, put_by}
-use Rattle.nq_model.specs.Terms.{TermTree, TermFields}
+use Rattle.nq_model.specs.Terms.{TermTree, TermFields, Aggregate, Emptiness, Count, Sum}
+use Rattle.nq_model.specs.Totals.{count_of, sum_of}
 use Rattle.nq_model.specs.Values.{Nested, base, rec, bag, Fields, elements, bag_of, rec_of}
 use Rattle.nq_model.specs.declared.table.Cell.{Cell}
 use Rattle.nq_model.specs.declared.table.Cell.TheVariants as cell
@@ -42,6 +43,12 @@ abbrev pub is_none : {A : Type 0} → List A → Bool
 is_none [] = true
 is_none (x ∷ xs) = false
 
+-- what is asked of the elements of a bag
+abbrev pub aggregate_value : Aggregate → List Nested → Cell
+aggregate_value Emptiness vs = cell.Bool (is_none vs)
+aggregate_value Count vs = cell.Int (count_of vs)
+aggregate_value Sum vs = cell.Int (sum_of (map cell_of vs))
+
 -- The meaning over tables, where the variables have these values, the innermost first.
 module _ (tables : List FilledTable) where
   abbrev mutual
@@ -56,7 +63,7 @@ module _ (tables : List FilledTable) where
     meaning env (TermTree.choose t u v) = cond (is_true (cell_of (meaning env t))) (meaning env u) (meaning env v)
     meaning env (TermTree.rec fields) = rec_of (field_meanings env fields)
     meaning env (TermTree.field t label) = field_in label (meaning env t)
-    meaning env (TermTree.empty t) = base (cell.Bool (is_none (elements_in (meaning env t))))
+    meaning env (TermTree.aggregate g t) = base (aggregate_value g (elements_in (meaning env t)))
     meaning env (TermTree.single t) = bag_of (meaning env t ∷ [])
     meaning env (TermTree.nil type) = bag_of []
     meaning env (TermTree.union t u) = bag_of (elements_in (meaning env t) ++ elements_in (meaning env u))

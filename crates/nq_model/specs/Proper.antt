@@ -74,7 +74,7 @@ abbrev mutual
   IsProperTerm (TermTree.apply t u) = IsProperTerm t × IsProperTerm u
   IsProperTerm (TermTree.rec fs) = AreDistinct (field_labels fs) × AreProperTerms fs
   IsProperTerm (TermTree.field t l) = IsProperTerm t × IsQueryWord l
-  IsProperTerm (TermTree.empty t) = IsProperTerm t
+  IsProperTerm (TermTree.aggregate g t) = IsProperTerm t
   IsProperTerm (TermTree.single t) = IsProperTerm t
   IsProperTerm (TermTree.nil a) = IsProperType a
   IsProperTerm (TermTree.union t u) = IsProperTerm t × IsProperTerm u
@@ -101,7 +101,7 @@ abbrev mutual
   IsClosedUnder n (TermTree.apply t u) = IsClosedUnder n t × IsClosedUnder n u
   IsClosedUnder n (TermTree.rec fs) = AreClosedUnder n fs
   IsClosedUnder n (TermTree.field t l) = IsClosedUnder n t
-  IsClosedUnder n (TermTree.empty t) = IsClosedUnder n t
+  IsClosedUnder n (TermTree.aggregate g t) = IsClosedUnder n t
   IsClosedUnder n (TermTree.single t) = IsClosedUnder n t
   IsClosedUnder n (TermTree.nil a) = ⊤
   IsClosedUnder n (TermTree.union t u) = IsClosedUnder n t × IsClosedUnder n u
@@ -132,7 +132,7 @@ abbrev mutual
   IsPlainTerm (TermTree.apply t u) = ⊥
   IsPlainTerm (TermTree.rec fs) = ArePlainTerms fs
   IsPlainTerm (TermTree.field t l) = IsPlainTerm t
-  IsPlainTerm (TermTree.empty t) = IsPlainTerm t
+  IsPlainTerm (TermTree.aggregate g t) = IsPlainTerm t
   IsPlainTerm (TermTree.single t) = IsPlainTerm t
   IsPlainTerm (TermTree.nil a) = ⊤
   IsPlainTerm (TermTree.union t u) = IsPlainTerm t × IsPlainTerm u

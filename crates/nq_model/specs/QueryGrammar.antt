@@ -6,7 +6,8 @@
 use Rattle.std.specs.Prelude.{◌≡◌, ℕ, suc, ◌≤◌, max, Bool, true, false, ⊤, cond, List, [], ◌∷◌, codes}
 use Rattle.std.specs.Str.{bytes_eq}
 use Rattle.nq_model.specs.SchemaTexts.{type_word}
-use Rattle.nq_model.specs.QueryTokens.{Operator, Union, Of, Opening, Closing, OpeningBag, ClosingBag, Comma, Colon, Semicolon, Dot, Assign, From, Arrow, Bang, Constant, Token, Word, Value, Oper, Sign, End}
+use Rattle.nq_model.specs.Terms.{Aggregate, Emptiness, Count, Sum}
+use Rattle.nq_model.specs.QueryTokens.{Operator, Union, Of, Opening, Closing, OpeningBag, ClosingBag, Comma, Colon, Semicolon, Dot, Assign, From, Arrow, Bang, Constant, Number, Token, Word, Value, Oper, Sign, End}
 use Rattle.nq_model.specs.declared.term.Unary.{Unary as UnaryOp}
 use Rattle.nq_model.specs.declared.term.Unary.TheVariants.{Minus, Not}
 use Rattle.nq_model.specs.declared.term.Binary.{Binary as BinaryOp}
@@ -17,6 +18,7 @@ use Rattle.nq_model.specs.declared.table.ColumnType.TheVariants as column
 -- the versions of the language, which differ in their reserved words and forms
 pub data Edition : Type 0 where
   First : Edition
+  Second : Edition
 
 -- what a word is where a variable might stand; only `IsName` may be a variable
 pub data Kind : Type 0 where
@@ -28,7 +30,7 @@ pub data Kind : Type 0 where
   IsFun : Kind
   IsLet : Kind
   IsTable : Kind
-  IsEmpty : Kind
+  IsAggregate : Aggregate → Kind
   IsTruth : Bool → Kind
   IsBase : ColumnType → Kind
   IsName : Kind
@@ -36,6 +38,13 @@ pub data Kind : Type 0 where
 -- what an edition makes of a word that is not reserved in the first
 abbrev pub later_kind : Edition → List ℕ → Kind
 later_kind First w = IsName
+later_kind Second w = cond (bytes_eq w (codes "count")) (IsAggregate Count) (cond (bytes_eq w (codes "sum")) (IsAggregate Sum) IsName)
+
+-- how what is asked of a bag is spelled
+abbrev pub aggregate_word : Aggregate → List ℕ
+aggregate_word Emptiness = codes "empty"
+aggregate_word Count = codes "count"
+aggregate_word Sum = codes "sum"
 
 -- how a truth value is spelled
 abbrev pub truth_word : Bool → List ℕ
@@ -52,7 +61,7 @@ kind ed w =
     (cond (bytes_eq w (codes "fun")) IsFun
     (cond (bytes_eq w (codes "let")) IsLet
     (cond (bytes_eq w (codes "table")) IsTable
-    (cond (bytes_eq w (codes "empty")) IsEmpty
+    (cond (bytes_eq w (codes "empty")) (IsAggregate Emptiness)
     (cond (bytes_eq w (codes "true")) (IsTruth true)
     (cond (bytes_eq w (codes "false")) (IsTruth false)
     (cond (bytes_eq w (codes "int")) (IsBase column.Int)
@@ -81,7 +90,7 @@ mutual
     Truth : ℕ → Bool → Syntax
     Var : ℕ → List ℕ → Syntax
     Table : ℕ → ℕ → List ℕ → Syntax
-    Empty : ℕ → ℕ → Syntax → ℕ → Syntax
+    Aggregated : Aggregate → ℕ → ℕ → Syntax → ℕ → Syntax
     Paren : ℕ → Syntax → ℕ → Syntax
     NoFields : ℕ → ℕ → Syntax
     Rec : Fields → ℕ → Syntax
@@ -127,7 +136,7 @@ abbrev mutual
   tokens (Truth p b) x = Word p (truth_word b) ∷ x
   tokens (Var p y) x = Word p y ∷ x
   tokens (Table p v l) x = Word p (codes "table") ∷ Word v l ∷ x
-  tokens (Empty p o e c) x = Word p (codes "empty") ∷ Sign o Opening ∷ tokens e (Sign c Closing ∷ x)
+  tokens (Aggregated g p o e c) x = Word p (aggregate_word g) ∷ Sign o Opening ∷ tokens e (Sign c Closing ∷ x)
   tokens (Paren p e q) x = Sign p Opening ∷ tokens e (Sign q Closing ∷ x)
   tokens (NoFields p q) x = Sign p Opening ∷ Sign q Closing ∷ x
   tokens (Rec fs q) x = fields_tokens fs (Sign q Closing ∷ x)
@@ -194,7 +203,7 @@ abbrev mutual
   Fits ed n (Truth p b) = ⊤
   Fits ed n (Var p y) = kind ed y ≡ IsName
   Fits ed n (Table p v l) = ⊤
-  Fits ed n (Empty p o e c) = Fits ed 1 e
+  Fits ed n (Aggregated g p o e c) = (kind ed (aggregate_word g) ≡ IsAggregate g) × Fits ed 1 e
   Fits ed n (Paren p e q) = Fits ed 1 e
   Fits ed n (NoFields p q) = ⊤
   Fits ed n (Rec fs q) = FieldsFit ed fs
@@ -235,7 +244,7 @@ abbrev mutual
   depth (Truth p b) = 1
   depth (Var p y) = 1
   depth (Table p v l) = 1
-  depth (Empty p o e c) = suc (depth e)
+  depth (Aggregated g p o e c) = suc (depth e)
   depth (Paren p e q) = suc (depth e)
   depth (NoFields p q) = 1
   depth (Rec fs q) = suc (fields_depth fs)
@@ -262,7 +271,7 @@ abbrev mutual
   deepest (Truth p b) = 0
   deepest (Var p y) = 0
   deepest (Table p v l) = 0
-  deepest (Empty p o e c) = deepest e
+  deepest (Aggregated g p o e c) = deepest e
   deepest (Paren p e q) = deepest e
   deepest (NoFields p q) = 0
   deepest (Rec fs q) = fields_deepest fs
@@ -282,9 +291,22 @@ abbrev mutual
   fields_deepest (One p v l a e) = deepest e
   fields_deepest (More fs c v l a e) = max (fields_deepest fs) (deepest e)
 
+-- what stands before a program of an edition: nothing, or `nq` `2` `;`, each with its place, and then x
+abbrev pub Header : Edition → Type 0
+Header First = ⊤
+Header Second = ℕ × ℕ × ℕ
+
+abbrev pub header_tokens : (ed : Edition) → Header ed → List Token → List Token
+header_tokens First h x = x
+header_tokens Second h x = Word h.0 (codes "nq") ∷ Value h.1 (Number 2 1) ∷ Sign h.2 Semicolon ∷ x
+
+-- the tokens are those of what stands behind the header, and the end of the text
+abbrev pub IsBody : Edition → List Token → Syntax → Type 0
+IsBody ed ts s = Fits ed 0 s × (q : ℕ) × (ts ≡ tokens s (End q ∷ []))
+
 -- the tokens are those of a program, and the end of the text
 abbrev pub IsProgram : Edition → List Token → Syntax → Type 0
-IsProgram ed ts s = Fits ed 0 s × (q : ℕ) × (ts ≡ tokens s (End q ∷ []))
+IsProgram ed ts s = (h : Header ed) × (body : List Token) × (ts ≡ header_tokens ed h body) × IsBody ed body s
 
 -- neither the program nor a type in it is deeper than d
 abbrev pub Within : ℕ → Syntax → Type 0

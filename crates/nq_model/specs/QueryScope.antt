@@ -8,7 +8,7 @@ use Rattle.nq_model.specs.Types.{TypeTree, field_types_of}
 use Rattle.nq_model.specs.Tables.{base_type}
 use Rattle.nq_model.specs.Terms.{PlacedTerm, PlacedNode, PlacedFields, at}
 use Rattle.nq_model.specs.QueryTokens.{is_quote, Operator, Union, Of, Constant, Number, Literal}
-use Rattle.nq_model.specs.QueryGrammar.{TypeSyntax, TBase, TBag, TParen, TNoFields, TRec, TFun, TypeFields, TOne, TMore, Syntax, Const, Truth, Var, Table, Empty, Paren, NoFields, Rec, Bag, Nil, For, Where, If, Fun, Let, Prefix, Infix, Apply, Field, Fields, One, More}
+use Rattle.nq_model.specs.QueryGrammar.{TypeSyntax, TBase, TBag, TParen, TNoFields, TRec, TFun, TypeFields, TOne, TMore, Syntax, Const, Truth, Var, Table, Aggregated, Paren, NoFields, Rec, Bag, Nil, For, Where, If, Fun, Let, Prefix, Infix, Apply, Field, Fields, One, More}
 
 abbrev pub Name : Type 0
 Name = List ℕ
@@ -65,7 +65,7 @@ abbrev mutual
   term_of (Truth p b) xs = at p (PlacedNode.bool b)
   term_of (Var p x) xs = at p (PlacedNode.var (number_of x xs))
   term_of (Table p v l) xs = at p (PlacedNode.table l)
-  term_of (Empty p o e c) xs = at p (PlacedNode.empty (term_of e xs))
+  term_of (Aggregated g p o e c) xs = at p (PlacedNode.aggregate g (term_of e xs))
   term_of (Paren p e q) xs = term_of e xs
   term_of (NoFields p q) xs = at p (PlacedNode.rec PlacedFields.none)
   term_of (Rec fs q) xs = at (fields_place fs) (PlacedNode.rec (fields_of fs xs PlacedFields.none))
@@ -128,7 +128,7 @@ abbrev mutual
   wrongs (Truth p b) xs = []
   wrongs (Var p x) xs = if_unbound (among x xs) p
   wrongs (Table p v l) xs = []
-  wrongs (Empty p o e c) xs = wrongs e xs
+  wrongs (Aggregated g p o e c) xs = wrongs e xs
   wrongs (Paren p e q) xs = wrongs e xs
   wrongs (NoFields p q) xs = []
   wrongs (Rec fs q) xs = fields_wrongs fs xs

@@ -2,18 +2,20 @@
 --
 -- The faults come in this order: no UTF-8; then no token, or a number that is too large, whichever comes
 -- first; then the first token with which the tokens are not open; then, of names, what comes first.
-use Rattle.std.specs.Prelude.{◌≡◌, ℕ, List, [], ◌∷◌, ◌++◌, Ok, Err}
+use Rattle.std.specs.Prelude.{◌≡◌, ℕ, ◌&&◌, ◌==◌, cond, codes, List, [], ◌∷◌, ◌++◌, Ok, Err}
+use Rattle.std.specs.Str.{bytes_eq}
 use Rattle.std.specs.Str.{IsUtf8, IsValidUpTo}
 use Rattle.nq_model.specs.OpenLists.{IsFaultAt}
 use Rattle.nq_model.specs.OpenLists as open_lists
 use Rattle.nq_model.specs.Terms.{PlacedTerm}
-use Rattle.nq_model.specs.QueryTokens.{Token, place_of, Stop, NoToken, TooLarge, tokens_of}
-use Rattle.nq_model.specs.QueryGrammar.{Edition, First, Syntax, IsProgram, Within, IsSpelled}
+use Rattle.nq_model.specs.QueryTokens.{Token, Word, Value, Sign, Number, Semicolon, place_of, Stop, NoToken, TooLarge, tokens_of}
+use Rattle.nq_model.specs.QueryGrammar.{Edition, First, Second, Syntax, IsProgram, Within, IsSpelled}
 use Rattle.nq_model.specs.QueryScope.{term_of, Wrong, Unbound, TwiceLabel, wrongs}
 
--- the edition in which the tokens are read
+-- the edition in which the tokens are read: the second behind `nq` `2` `;`
 abbrev pub edition_of : List Token → Edition
-edition_of ts = First
+edition_of (Word p w ∷ Value q (Number n digits) ∷ Sign r Semicolon ∷ ts) = cond (bytes_eq w (codes "nq") && (n == 2 && digits == 1)) Second First
+edition_of _ = First
 
 -- the bytes are UTF-8, and these are their tokens
 abbrev pub HasTokens : List ℕ → List Token → Type 0

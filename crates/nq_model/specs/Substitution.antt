@@ -24,7 +24,7 @@ abbrev mutual
   shift d c (at p (PlacedNode.apply t u)) = at p (PlacedNode.apply (shift d c t) (shift d c u))
   shift d c (at p (PlacedNode.rec fs)) = at p (PlacedNode.rec (shift_fields d c fs))
   shift d c (at p (PlacedNode.field t l)) = at p (PlacedNode.field (shift d c t) l)
-  shift d c (at p (PlacedNode.empty t)) = at p (PlacedNode.empty (shift d c t))
+  shift d c (at p (PlacedNode.aggregate g t)) = at p (PlacedNode.aggregate g (shift d c t))
   shift d c (at p (PlacedNode.single t)) = at p (PlacedNode.single (shift d c t))
   shift d c (at p (PlacedNode.nil k)) = at p (PlacedNode.nil k)
   shift d c (at p (PlacedNode.union t u)) = at p (PlacedNode.union (shift d c t) (shift d c u))
@@ -56,7 +56,7 @@ abbrev mutual
   subst c s (at p (PlacedNode.apply t u)) = at p (PlacedNode.apply (subst c s t) (subst c s u))
   subst c s (at p (PlacedNode.rec fs)) = at p (PlacedNode.rec (subst_fields c s fs))
   subst c s (at p (PlacedNode.field t l)) = at p (PlacedNode.field (subst c s t) l)
-  subst c s (at p (PlacedNode.empty t)) = at p (PlacedNode.empty (subst c s t))
+  subst c s (at p (PlacedNode.aggregate g t)) = at p (PlacedNode.aggregate g (subst c s t))
   subst c s (at p (PlacedNode.single t)) = at p (PlacedNode.single (subst c s t))
   subst c s (at p (PlacedNode.nil k)) = at p (PlacedNode.nil k)
   subst c s (at p (PlacedNode.union t u)) = at p (PlacedNode.union (subst c s t) (subst c s u))
@@ -83,7 +83,7 @@ abbrev mutual
   shift_tree d c (TermTree.apply t u) = TermTree.apply (shift_tree d c t) (shift_tree d c u)
   shift_tree d c (TermTree.rec fs) = TermTree.rec (shift_tree_fields d c fs)
   shift_tree d c (TermTree.field t l) = TermTree.field (shift_tree d c t) l
-  shift_tree d c (TermTree.empty t) = TermTree.empty (shift_tree d c t)
+  shift_tree d c (TermTree.aggregate g t) = TermTree.aggregate g (shift_tree d c t)
   shift_tree d c (TermTree.single t) = TermTree.single (shift_tree d c t)
   shift_tree d c (TermTree.nil k) = TermTree.nil k
   shift_tree d c (TermTree.union t u) = TermTree.union (shift_tree d c t) (shift_tree d c u)
@@ -112,7 +112,7 @@ abbrev mutual
   subst_tree c s (TermTree.apply t u) = TermTree.apply (subst_tree c s t) (subst_tree c s u)
   subst_tree c s (TermTree.rec fs) = TermTree.rec (subst_tree_fields c s fs)
   subst_tree c s (TermTree.field t l) = TermTree.field (subst_tree c s t) l
-  subst_tree c s (TermTree.empty t) = TermTree.empty (subst_tree c s t)
+  subst_tree c s (TermTree.aggregate g t) = TermTree.aggregate g (subst_tree c s t)
   subst_tree c s (TermTree.single t) = TermTree.single (subst_tree c s t)
   subst_tree c s (TermTree.nil k) = TermTree.nil k
   subst_tree c s (TermTree.union t u) = TermTree.union (subst_tree c s t) (subst_tree c s u)

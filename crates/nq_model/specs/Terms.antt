@@ -10,6 +10,12 @@ use Rattle.nq_model.specs.declared.term.Node.{Node}
 use Rattle.nq_model.specs.declared.term.Node.TheFolds.{fold-Node, fold-Term}
 use Rattle.nq_model.specs.declared.term.Node.TheOpen.{Node-F, Term-F}
 
+-- what is asked of a bag: whether it has no element, how many it has, or their sum
+pub data Aggregate : Type 0 where
+  Emptiness : Aggregate
+  Count : Aggregate
+  Sum : Aggregate
+
 mutual
   pub data TermTree : Type 0 where
     var : ℕ → TermTree
@@ -24,7 +30,7 @@ mutual
     apply : TermTree → TermTree → TermTree
     rec : TermFields → TermTree
     field : TermTree → List ℕ → TermTree
-    empty : TermTree → TermTree
+    aggregate : Aggregate → TermTree → TermTree
     single : TermTree → TermTree
     nil : TypeTree → TermTree
     union : TermTree → TermTree → TermTree
@@ -58,7 +64,7 @@ mutual
     apply : PlacedTerm → PlacedTerm → PlacedNode
     rec : PlacedFields → PlacedNode
     field : PlacedTerm → List ℕ → PlacedNode
-    empty : PlacedTerm → PlacedNode
+    aggregate : Aggregate → PlacedTerm → PlacedNode
     single : PlacedTerm → PlacedNode
     nil : TypeTree → PlacedNode
     union : PlacedTerm → PlacedTerm → PlacedNode
@@ -92,7 +98,7 @@ abbrev mutual
   bare_node (PlacedNode.apply t u) = TermTree.apply (bare t) (bare u)
   bare_node (PlacedNode.rec fs) = TermTree.rec (bare_fields fs)
   bare_node (PlacedNode.field t l) = TermTree.field (bare t) l
-  bare_node (PlacedNode.empty t) = TermTree.empty (bare t)
+  bare_node (PlacedNode.aggregate g t) = TermTree.aggregate g (bare t)
   bare_node (PlacedNode.single t) = TermTree.single (bare t)
   bare_node (PlacedNode.nil k) = TermTree.nil k
   bare_node (PlacedNode.union t u) = TermTree.union (bare t) (bare u)
@@ -117,7 +123,9 @@ node_layer (Node-F.Fun k t) = PlacedNode.fun (type_tree k) t.value
 node_layer (Node-F.Apply t u) = PlacedNode.apply t.value u.value
 node_layer (Node-F.Rec fs) = PlacedNode.rec (placed_fields_of fs)
 node_layer (Node-F.Field t l) = PlacedNode.field t.value l
-node_layer (Node-F.Empty t) = PlacedNode.empty t.value
+node_layer (Node-F.Empty t) = PlacedNode.aggregate Emptiness t.value
+node_layer (Node-F.Count t) = PlacedNode.aggregate Count t.value
+node_layer (Node-F.Sum t) = PlacedNode.aggregate Sum t.value
 node_layer (Node-F.Single t) = PlacedNode.single t.value
 node_layer (Node-F.Nil k) = PlacedNode.nil (type_tree k)
 node_layer (Node-F.Union t u) = PlacedNode.union t.value u.value

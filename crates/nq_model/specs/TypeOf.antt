@@ -1,10 +1,10 @@
 -- The type of a term, computed rule by rule; none where a rule is broken.
 use Rattle.std.specs.Prelude.{ℕ, Bool, true, false, ◌&&◌, List, ◌∷◌, Option, Some, None, slice_get}
 use Rattle.nq_model.specs.Types.{TypeTree, FieldTypes, is_plain, is_well_formed, type_eq}
-use Rattle.nq_model.specs.Terms.{TermTree, TermFields}
+use Rattle.nq_model.specs.Terms.{TermTree, TermFields, Aggregate}
 use Rattle.nq_model.specs.Tables.{base_type, table_type}
 use Rattle.nq_model.specs.Operators.{unary_type, binary_type}
-use Rattle.nq_model.specs.Typing.{shape_named, type_at, put_type}
+use Rattle.nq_model.specs.Typing.{shape_named, type_at, put_type, aggregate_type}
 use Rattle.nq_model.specs.declared.term.Unary.{Unary}
 use Rattle.nq_model.specs.declared.term.Binary.{Binary}
 use Rattle.nq_model.specs.declared.table.ColumnType.{ColumnType}
@@ -64,8 +64,8 @@ application_given f a = and_then (sides_of f) (λ sides. when (type_eq sides.0 a
 abbrev pub field_given : List ℕ → TypeTree → Option TypeTree
 field_given l a = and_then (fields_in a) (type_at l)
 
-abbrev pub test_given : TypeTree → Option TypeTree
-test_given a = and_then (element_of a) (λ _. Some TypeTree.bool)
+abbrev pub aggregate_given : Aggregate → TypeTree → Option TypeTree
+aggregate_given g a = and_then (element_of a) (aggregate_type g)
 
 abbrev pub bag_given : TypeTree → Option TypeTree
 bag_given a = when (is_plain a) (TypeTree.bag a)
@@ -98,7 +98,7 @@ module _ (schema : Schema) where
         and_then (type_of context t) (λ f. and_then (type_of context u) (application_given f))
     type_of context (TermTree.rec fs) = and_then (types_of context fs) (λ fields. Some (TypeTree.rec fields))
     type_of context (TermTree.field t l) = and_then (type_of context t) (field_given l)
-    type_of context (TermTree.empty t) = and_then (type_of context t) test_given
+    type_of context (TermTree.aggregate g t) = and_then (type_of context t) (aggregate_given g)
     type_of context (TermTree.single t) = and_then (type_of context t) bag_given
     type_of context (TermTree.nil a) = bag_given a
     type_of context (TermTree.union t u) = and_then (type_of context t) (λ a. and_then (type_of context u) (union_given a))

@@ -9,7 +9,7 @@ use Rattle.std.specs.Str.{bytes_eq}
 use Rattle.std.specs.Ordering.{is_gt}
 use Rattle.nq_model.specs.Orders.{label_cmp}
 use Rattle.nq_model.specs.Types.{TypeTree, FieldTypes, is_plain, is_well_formed}
-use Rattle.nq_model.specs.Terms.{TermTree, TermFields}
+use Rattle.nq_model.specs.Terms.{TermTree, TermFields, Aggregate, Emptiness, Count, Sum}
 use Rattle.nq_model.specs.Tables.{base_type, table_type}
 use Rattle.nq_model.specs.Operators.{unary_type, binary_type}
 use Rattle.nq_model.specs.declared.table.ColumnType.{ColumnType}
@@ -32,6 +32,13 @@ put_type l t FieldTypes.none = FieldTypes.field l t FieldTypes.none
 put_type l t (FieldTypes.field m u fields) =
     cond (is_gt (label_cmp l m)) (FieldTypes.field m u (put_type l t fields)) (FieldTypes.field l t (FieldTypes.field m u fields))
 
+-- the type of what is asked of a bag with this element type; a sum is asked of numbers alone
+abbrev pub aggregate_type : Aggregate → TypeTree → Option TypeTree
+aggregate_type Emptiness a = Some TypeTree.bool
+aggregate_type Count a = Some TypeTree.int
+aggregate_type Sum TypeTree.int = Some TypeTree.int
+aggregate_type Sum _ = None
+
 module _ (schema : Schema) where
   abbrev mutual
     -- in this context the term has the type
@@ -52,7 +59,7 @@ module _ (schema : Schema) where
     HasType context (TermTree.apply t u) k = (a : TypeTree) × HasType context t (TypeTree.fun a k) × HasType context u a
     HasType context (TermTree.rec fs) k = (fields : FieldTypes) × HaveTypes context fs fields × (k ≡ TypeTree.rec fields)
     HasType context (TermTree.field t l) k = (fields : FieldTypes) × HasType context t (TypeTree.rec fields) × (type_at l fields ≡ Some k)
-    HasType context (TermTree.empty t) k = (a : TypeTree) × HasType context t (TypeTree.bag a) × (k ≡ TypeTree.bool)
+    HasType context (TermTree.aggregate g t) k = (a : TypeTree) × HasType context t (TypeTree.bag a) × (aggregate_type g a ≡ Some k)
     HasType context (TermTree.single t) k = (a : TypeTree) × HasType context t a × (is_plain a ≡ true) × (k ≡ TypeTree.bag a)
     HasType context (TermTree.nil a) k = (is_plain a ≡ true) × (k ≡ TypeTree.bag a)
     HasType context (TermTree.union t u) k = (a : TypeTree) × (k ≡ TypeTree.bag a) × HasType context t k × HasType context u k

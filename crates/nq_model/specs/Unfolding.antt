@@ -6,7 +6,7 @@ use Rattle.std.specs.Prelude.{◌≡◌, ℕ, cond, bytes_eq, List, Option, Some
 use Rattle.nq_model.specs.Types.{TypeTree}
 use Rattle.nq_model.specs.declared.term.Unary.{Unary}
 use Rattle.nq_model.specs.declared.term.Binary.{Binary}
-use Rattle.nq_model.specs.Terms.{PlacedTerm, PlacedNode, PlacedFields, at, TermTree, TermFields}
+use Rattle.nq_model.specs.Terms.{PlacedTerm, PlacedNode, PlacedFields, at, TermTree, TermFields, Aggregate}
 use Rattle.nq_model.specs.Substitution.{subst, subst_tree}
 
 -- the part's step with what stands around it, and else what comes after it
@@ -48,7 +48,7 @@ abbrev mutual
   step (at p (PlacedNode.apply t u)) = part (step t) (λ x. at p (PlacedNode.apply x u)) (part (step u) (λ x. at p (PlacedNode.apply t x)) (contract_apply p t u))
   step (at p (PlacedNode.rec fs)) = part (step_fields fs) (λ x. at p (PlacedNode.rec x)) None
   step (at p (PlacedNode.field t l)) = part (step t) (λ x. at p (PlacedNode.field x l)) (contract_field p t l)
-  step (at p (PlacedNode.empty t)) = part (step t) (λ x. at p (PlacedNode.empty x)) None
+  step (at p (PlacedNode.aggregate g t)) = part (step t) (λ x. at p (PlacedNode.aggregate g x)) None
   step (at p (PlacedNode.single t)) = part (step t) (λ x. at p (PlacedNode.single x)) None
   step (at p (PlacedNode.nil k)) = None
   step (at p (PlacedNode.union t u)) = part (step t) (λ x. at p (PlacedNode.union x u)) (part (step u) (λ x. at p (PlacedNode.union t x)) None)
@@ -92,7 +92,7 @@ mutual
     apply_arg : {p : ℕ} {t : PlacedTerm} → step t ≡ None → Around (λ x. at p (PlacedNode.apply t x))
     rec_field : {p : ℕ} {f : PlacedTerm → PlacedFields} → AroundField f → Around (λ x. at p (PlacedNode.rec (f x)))
     field_of : {p : ℕ} {l : List ℕ} → Around (λ x. at p (PlacedNode.field x l))
-    empty_of : {p : ℕ} → Around (λ x. at p (PlacedNode.empty x))
+    aggregate_of : {p : ℕ} {g : Aggregate} → Around (λ x. at p (PlacedNode.aggregate g x))
     single_of : {p : ℕ} → Around (λ x. at p (PlacedNode.single x))
     union_left : {p : ℕ} {u : PlacedTerm} → Around (λ x. at p (PlacedNode.union x u))
     union_right : {p : ℕ} {t : PlacedTerm} → step t ≡ None → Around (λ x. at p (PlacedNode.union t x))
@@ -136,7 +136,7 @@ abbrev mutual
   step_tree (TermTree.apply t u) = part (step_tree t) (λ x. TermTree.apply x u) (part (step_tree u) (TermTree.apply t) (contract_tree_apply t u))
   step_tree (TermTree.rec fs) = part (step_tree_fields fs) TermTree.rec None
   step_tree (TermTree.field t l) = part (step_tree t) (λ x. TermTree.field x l) (contract_tree_field t l)
-  step_tree (TermTree.empty t) = part (step_tree t) TermTree.empty None
+  step_tree (TermTree.aggregate g t) = part (step_tree t) (λ x. TermTree.aggregate g x) None
   step_tree (TermTree.single t) = part (step_tree t) TermTree.single None
   step_tree (TermTree.nil k) = None
   step_tree (TermTree.union t u) = part (step_tree t) (λ x. TermTree.union x u) (part (step_tree u) (TermTree.union t) None)

@@ -75,6 +75,8 @@ pub enum Node {
         label: Label,
     },
     Empty(Box<Term>),
+    Count(Box<Term>),
+    Sum(Box<Term>),
     Single(Box<Term>),
     Nil(Ty),
     Union {

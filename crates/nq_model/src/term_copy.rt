@@ -89,6 +89,14 @@ impl Term {
                 place,
                 node: Node::Empty(copy_box(alloc, of)?),
             }),
+            Node::Count(of) => Ok(Term {
+                place,
+                node: Node::Count(copy_box(alloc, of)?),
+            }),
+            Node::Sum(of) => Ok(Term {
+                place,
+                node: Node::Sum(copy_box(alloc, of)?),
+            }),
             Node::Single(of) => Ok(Term {
                 place,
                 node: Node::Single(copy_box(alloc, of)?),

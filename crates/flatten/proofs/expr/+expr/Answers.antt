@@ -1,10 +1,10 @@
-use Rattle.std.proofs.Common.{◌≡◌, IfOk, List, [], map, length, subst, sym, ap, ◌∙◌, Bool, false}
+use Rattle.std.proofs.Common.{◌≡◌, IfOk, List, [], length, subst, sym, ap, ◌∙◌, false}
 use Rattle.std.specs.Bool.{◌==◌}
 use Rattle.nq_ir.specs.Trees.{test_part}
 use Rattle.nq_ir.specs.declared.base.Test.{Test}
-use Rattle.sql_profile.specs.Trees.{ExprTree, SelectTree, expr_tree, select_tree}
+use Rattle.sql_profile.specs.Trees.{ExprTree, SelectTree, expr_tree}
 use Rattle.flatten.specs.Emitted.{in_gens}
-use Rattle.flatten.specs.Views.{query_from, test_select}
+use Rattle.flatten.specs.Views.{query_from}
 use Rattle.flatten.proofs.Lists.{some_tests}
 use Rattle.flatten.proofs.expr.+expr.Goals as goal
 

@@ -1,7 +1,7 @@
 use Rattle.std.proofs.Common.{◌≡◌, map, take, drop}
 use Rattle.nq_ir.specs.Trees.{base_tree, conds_of, test_part}
 use Rattle.sql_profile.specs.Trees.{expr_tree, select_tree}
-use Rattle.flatten.specs.Exprs.{joined, conds_keep}
+use Rattle.flatten.specs.Exprs.{joined}
 use Rattle.flatten.specs.Emitted.{in_gens}
 use Rattle.flatten.specs.Views.{test_select}
 use Rattle.flatten.proofs.expr.+expr.Given as goal

@@ -1,10 +1,8 @@
-use Rattle.std.proofs.Common.{◌≡◌, IfOk, List, [], map, length, subst, sym, ap, ◌∙◌, Bool, false}
+use Rattle.std.proofs.Common.{◌≡◌, List, map, length, subst, false}
 use Rattle.std.specs.Bool.{◌==◌}
-use Rattle.nq_ir.specs.Lets.{PartTree, let_tree, part_tree}
+use Rattle.nq_ir.specs.Lets.{let_tree}
 use Rattle.nq_ir.specs.declared.lets.LetPart.{LetPart}
 use Rattle.nq_ir.specs.WellFormed.{column_names}
-use Rattle.sql_profile.specs.Trees.{QueryTree, SelectTree, select_tree}
-use Rattle.flatten.specs.Views.{query_from, part_strand_select}
 use Rattle.flatten.proofs.Lists.{main_done}
 use Rattle.flatten.proofs.text.main_selects.Goals as goal
 

@@ -1,4 +1,4 @@
-use Rattle.std.proofs.Common.{◌≡◌, ap₂, ◌∙◌, List, map}
+use Rattle.std.proofs.Common.{ap₂, ◌∙◌, List, map}
 use Rattle.nq_ir.specs.declared.lets.LetPart.{LetPart}
 use Rattle.nq_ir.specs.declared.lets.LetQuery.{LetQuery}
 use Rattle.nq_ir.specs.Lets.{let_tree, part_tree}
