@@ -3,9 +3,9 @@ use Rattle.std.proofs.Common.{◌≡◌, ℕ, suc, ◌+◌, max, Bool, true, fal
 use Rattle.nq_model.specs.Machines.{Outcome, Reached, Faulty}
 use Rattle.nq_model.specs.OpenLists.{Deep}
 use Rattle.sql_profile.specs.Tokens.{Token}
-use Rattle.sql_profile.specs.Grammar.{OfSource, FromSyntax, NoFrom, HasFrom, ExprSyntax, OfColumn, OfParens, OfMinus, OfNot, OfNotExists, OfCase, OfBinary, QuerySyntax, MoreSelects, SelectSyntax, OfSelect, NoWhere, HasWhere, ItemsSyntax, ItemSyntax, OfItem, Plain, OfRowNumber, Numbering, NoKeys, HasKeys, OneKey, WithSyntax, OfWith, NoWith, HasWith, NoSemi, OfText, depth, selects_depth, choice_depth, items_depth, item_depth, held_depth, key_list_depth, defs_depth, def_depth, text_depth}
+use Rattle.sql_profile.specs.Grammar.{OfSource, FromSyntax, NoFrom, HasFrom, ExprSyntax, OfColumn, OfParens, OfMinus, OfNot, OfNotExists, OfCase, OfBinary, OfScalar, ScalarSyntax, Summed, OfSum, OfTail, QuerySyntax, MoreSelects, SelectSyntax, OfSelect, NoWhere, HasWhere, ItemsSyntax, ItemSyntax, OfItem, Plain, OfRowNumber, Numbering, NoKeys, HasKeys, OneKey, WithSyntax, OfWith, NoWith, HasWith, NoSemi, OfText, depth, selects_depth, choice_depth, items_depth, item_depth, held_depth, key_list_depth, scalar_depth, defs_depth, def_depth, text_depth}
 use Rattle.sql_profile.specs.Machine as machine
-use Rattle.sql_profile.specs.Machine.{Before, Fresh, Behind, ItemHead, AtSelect, AtComma, KeyHead, AtBy, KeyComma, DefHead, AtWith, DefComma, put_select, put_item, put_key, put_source, put_def, Around, InParen, InNeg, InNot, InWhen, InThen, InElse, InRight, InItem, InKey, InWhere, Outside, InMain, InDef, InExists, one, named, numbering, some_name, some_query, some_select, close, close_query, close_items, close_held, close_want}
+use Rattle.sql_profile.specs.Machine.{Before, Fresh, Behind, ItemHead, AtSelect, AtComma, KeyHead, AtBy, KeyComma, DefHead, AtWith, DefComma, put_select, put_item, put_key, put_source, put_def, Around, InParen, InNeg, InNot, InWhen, InThen, InElse, InRight, InItem, InKey, InWhere, InSum, InScalarWhere, Outside, InMain, InDef, InExists, one, named, numbering, counted, some_name, some_query, some_select, some_tail, close, close_query, close_items, close_held, close_scalar, close_want}
 use Rattle.sql_reader.specs.Parts.{Base}
 use Rattle.sql_reader.specs.Steps as reader
 use Rattle.sql_reader.specs.Steps.{Form, State}
@@ -92,6 +92,9 @@ mutual
       let x = OfSelect i f (HasWhere p s) in
       let e = select_deep b x in
       in_query c (put_select b x) (max (before b).depth (suc (items_depth i))) (depth s) (closed_query c (put_select b x)) (omega (arith, e))
+  closed (InSum h k) s = form k (OfScalar (Summed h s some_tail) NoFrom NoWhere 0) 0 (depth s) (closed k (OfScalar (Summed h s some_tail) NoFrom NoWhere 0)) (omega arith)
+  closed (InScalarWhere p h f k) s =
+      form k (OfScalar h f (HasWhere p s) 0) (suc (scalar_depth h)) (depth s) (closed k (OfScalar h f (HasWhere p s) 0)) (omega arith)
 
   closed_query : (c : Outside) (q : QuerySyntax) → text_depth (close_query c q) ≡ over (outer_base c) (outer_forms c) (selects_depth q)
   closed_query (InMain NoWith) q = omega arith
@@ -118,7 +121,7 @@ item_over i h b c n d =
 
 want_over : (k : Around) → text_depth (close_want k) ≡ least_depth (stand (machine.Want k))
 want_over (InItem h b c) = item_over (named numbering) h b c 0 refl
-want_over (InParen p k) = closed (InParen p k) one
+want_over (InParen p k) = form k (OfScalar (counted p 0 0 0 0 0) NoFrom NoWhere 0) 0 0 (closed k (OfScalar (counted p 0 0 0 0 0) NoFrom NoWhere 0)) refl
 want_over (InNeg p k) = closed (InNeg p k) one
 want_over (InNot p k) = closed (InNot p k) one
 want_over (InWhen p w k) = closed (InWhen p w k) one
@@ -127,6 +130,11 @@ want_over (InElse p w t h y e k) = closed (InElse p w t h y e k) one
 want_over (InRight l p op k) = closed (InRight l p op k) one
 want_over (InKey g r h b c) = closed (InKey g r h b c) one
 want_over (InWhere p i f b c) = closed (InWhere p i f b c) one
+want_over (InSum h k) = closed (InSum h k) one
+want_over (InScalarWhere p h f k) = closed (InScalarWhere p h f k) one
+
+scalar_over : (h : ScalarSyntax) (f : FromSyntax) (k : Around) → text_depth (close_scalar h f k) ≡ over (base_of k) (forms_of k) (suc (scalar_depth h))
+scalar_over h f k = inside_over k (OfScalar h f NoWhere 0) (suc (scalar_depth h)) (omega arith)
 
 select_over : (b : Before) (c : Outside) → text_depth (close_query c (put_select b some_select)) ≡ least_depth (stand (machine.WantSelect b c))
 select_over Fresh (InMain NoWith) = refl
@@ -162,6 +170,20 @@ deep (machine.HaveItems i f b c) = items_over i f b c
 deep (machine.AtSource h i b c) = items_over i (HasFrom (put_source h (OfSource 0 some_name 0 0 some_name))) b c
 deep (machine.AtSourceName h p t i b c) = items_over i (HasFrom (put_source h (OfSource p t 0 0 some_name))) b c
 deep (machine.AtSourceAs h p t a i b c) = items_over i (HasFrom (put_source h (OfSource p t a 0 some_name))) b c
+deep (machine.AtScalar p s k) = scalar_over (counted p s 0 0 0 0) NoFrom k
+deep (machine.AtCount p s c k) = scalar_over (counted p s c 0 0 0) NoFrom k
+deep (machine.AtCountOpen p s c o k) = scalar_over (counted p s c o 0 0) NoFrom k
+deep (machine.AtCountStar p s c o t k) = scalar_over (counted p s c o t 0) NoFrom k
+deep (machine.AtCoalesce p s c k) = scalar_over (Summed (OfSum p s c 0 0 0) one some_tail) NoFrom k
+deep (machine.AtCoalesceOpen p s c o k) = scalar_over (Summed (OfSum p s c o 0 0) one some_tail) NoFrom k
+deep (machine.AtSum p s c o u k) = scalar_over (Summed (OfSum p s c o u 0) one some_tail) NoFrom k
+deep (machine.AtSumClose h e z k) = scalar_over (Summed h e (OfTail z 0 0 0)) NoFrom k
+deep (machine.AtSumComma h e z c k) = scalar_over (Summed h e (OfTail z c 0 0)) NoFrom k
+deep (machine.AtSumZero h e z c q k) = scalar_over (Summed h e (OfTail z c q 0)) NoFrom k
+deep (machine.HaveScalar h f k) = scalar_over h f k
+deep (machine.AtScalarSource i h k) = scalar_over h (HasFrom (put_source i (OfSource 0 some_name 0 0 some_name))) k
+deep (machine.AtScalarSourceName i p t h k) = scalar_over h (HasFrom (put_source i (OfSource p t 0 0 some_name))) k
+deep (machine.AtScalarSourceAs i p t a h k) = scalar_over h (HasFrom (put_source i (OfSource p t a 0 some_name))) k
 deep (machine.AtSemi NoWith q p) = omega arith
 deep (machine.AtSemi (HasWith ds) q p) = omega arith
 deep (machine.Ready (OfText NoWith q s) e) = omega arith

@@ -1,5 +1,5 @@
 -- Lists of parts with one more, as what the reader keeps.
-use Rattle.std.proofs.Common.{◌≡◌, ℕ, Bool, true, false, List, [], ◌∷◌, ◌++◌, map, refl, ap, ◌∙◌}
+use Rattle.std.proofs.Common.{◌≡◌, ℕ, Bool, true, false, List, [], ◌∷◌, ◌++◌, map, Option, Some, None, refl, ap, ◌∙◌}
 use Rattle.std.specs.Option.{option_map}
 use Rattle.std.proofs.lemmas.List.{map-append}
 use Rattle.nq_model.specs.QueryScope.{undoubled}
@@ -7,8 +7,10 @@ use Rattle.sql_profile.specs.Tokens.{is_quote, place_of, unquoted_from}
 use Rattle.sql_profile.specs.declared.tree.Expr.{Expr}
 use Rattle.sql_profile.specs.declared.tree.Item.{Item}
 use Rattle.sql_profile.specs.declared.tree.Select.{Select, out-Select}
+use Rattle.sql_profile.specs.declared.tree.Picked.{roll-Picked, fold-roll-Picked}
+use Rattle.sql_profile.specs.declared.tree.Source.{Source}
 use Rattle.sql_profile.specs.declared.tree.With.{With}
-use Rattle.sql_profile.specs.Trees.{PlacedExpr, PlacedValue, PlacedItem, PlacedQuery, PlacedSelect, node_layer, value_layer, expr_layer, item_layer, query_layer, select_layer, placed_expr, placed_item, placed_query, placed_select, placed_with, placed_value, items_of, keep_of, query_of, select_at, item_at}
+use Rattle.sql_profile.specs.Trees.{PlacedExpr, PlacedValue, PlacedItem, PlacedPicked, PlacedQuery, PlacedSelect, node_layer, value_layer, expr_layer, item_layer, picked_layer, query_layer, select_layer, placed_expr, placed_picked, placed_item, placed_query, placed_select, placed_with, placed_value, items_of, keep_of, query_of, select_at, item_at}
 use Rattle.sql_profile.specs.declared.tree.Query.{roll-Query, fold-roll-Query}
 use Rattle.sql_profile.proofs.Trees.{item_placed, select_placed}
 use Rattle.sql_reader.specs.Symbols.{symbol_view}
@@ -44,4 +46,9 @@ place_there p s = refl
 
 -- the tree of a query
 pub query_tree : (ss : List Select) → placed_query (roll-Query (record { selects = ss })) ≡ query_of (map placed_select ss)
-query_tree ss = fold-roll-Query (ℕ → PlacedExpr) PlacedValue PlacedExpr PlacedItem PlacedQuery PlacedSelect node_layer value_layer expr_layer item_layer query_layer select_layer (record { selects = ss })
+query_tree ss = fold-roll-Query (ℕ → PlacedExpr) PlacedValue PlacedExpr PlacedItem PlacedPicked PlacedQuery PlacedSelect node_layer value_layer expr_layer item_layer picked_layer query_layer select_layer (record { selects = ss })
+
+-- the sources and the condition of a scalar query
+pub picked_kept : (from : List Source) (keep : Option Expr) → placed_picked (roll-Picked (record { from = from; keep = keep })) ≡ record { from = from; keep = keep_of (option_map placed_expr keep) }
+picked_kept from None = fold-roll-Picked (ℕ → PlacedExpr) PlacedValue PlacedExpr PlacedItem PlacedPicked PlacedQuery PlacedSelect node_layer value_layer expr_layer item_layer picked_layer query_layer select_layer (record { from = from; keep = None })
+picked_kept from (Some e) = fold-roll-Picked (ℕ → PlacedExpr) PlacedValue PlacedExpr PlacedItem PlacedPicked PlacedQuery PlacedSelect node_layer value_layer expr_layer item_layer picked_layer query_layer select_layer (record { from = from; keep = Some e })

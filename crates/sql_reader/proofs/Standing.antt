@@ -1,16 +1,17 @@
 -- A state of the machine as what the reader keeps of it. Both take the same steps, and fit the same depths.
-use Rattle.std.proofs.Common.{◌≡◌, ℕ, suc, max, Bool, true, false, cond, leb, List, [], ◌∷◌, ◌++◌, refl, sym, ◌∙◌, ap, ap₂, arith, append_assoc, append-nil, Option, Some, None, option_map}
-use Rattle.nq_model.specs.declared.term.Binary.TheVariants.{Sub}
+use Rattle.std.proofs.Common.{◌≡◌, ℕ, zero, suc, max, Bool, true, false, cond, leb, ◌&&◌, ◌==◌, List, [], ◌∷◌, ◌++◌, refl, sym, ◌∙◌, ap, ap₂, arith, append_assoc, append-nil, Option, Some, None, option_map}
+use Rattle.std.proofs.lemmas.Bool.Decides.{nat_tests}
+use Rattle.nq_model.specs.declared.term.Binary.TheVariants.{Sub, Mul}
 use Rattle.sql_profile.specs.declared.tree.Source.{Source}
-use Rattle.sql_profile.specs.Tokens.{Token, Value as Constant, Name, Key, Oper, Open, Close, Comma, Dot, Semi, End, As, Union, All, Select, From, RowNumber, Over, Order, By, Exists, Case, Stop}
+use Rattle.sql_profile.specs.Tokens.{Token, Value as Constant, Name, Key, Oper, Open, Close, Comma, Dot, Semi, End, As, Union, All, Select, From, RowNumber, Over, Order, By, Exists, Case, Stop, Count, Coalesce}
 use Rattle.sql_profile.specs.Tokens as sql
 use Rattle.sql_profile.specs.Grammar as grammar
-use Rattle.sql_profile.specs.Grammar.{SourceSyntax, OfSource, SourcesSyntax, OneSource, MoreSources, FromSyntax, NoFrom, HasFrom, ExprSyntax, OfConstant, OfColumn, OfParens, OfMinus, OfNot, OfNotExists, OfCase, OfBinary, QuerySyntax, OneSelect, MoreSelects, SelectSyntax, OfSelect, KeepSyntax, NoWhere, HasWhere, ItemsSyntax, OneItem, MoreItems, ItemSyntax, OfItem, ValueSyntax, Plain, Numbering, NoKeys, HasKeys, KeyListSyntax, OneKey, MoreKeys, WithSyntax, OfWith, WithListSyntax, OneDef, MoreDefs, WithsSyntax, NoWith, HasWith, TextSyntax, OfText, depth, selects_depth, choice_depth, items_depth, held_depth, key_list_depth, withs_depth, defs_depth, text_depth, expr_of, selects_of, select_of, value_of, key_list_of, source_of, sources_of, with_of, with_list_of, first_place, level, left_level}
+use Rattle.sql_profile.specs.Grammar.{SourceSyntax, OfSource, SourcesSyntax, OneSource, MoreSources, FromSyntax, NoFrom, HasFrom, ExprSyntax, OfConstant, OfColumn, OfParens, OfMinus, OfNot, OfNotExists, OfCase, OfBinary, OfScalar, ScalarSyntax, Counted, Summed, CountHead, OfCount, SumHead, OfSum, OfTail, QuerySyntax, OneSelect, MoreSelects, SelectSyntax, OfSelect, KeepSyntax, NoWhere, HasWhere, ItemsSyntax, OneItem, MoreItems, ItemSyntax, OfItem, ValueSyntax, Plain, Numbering, NoKeys, HasKeys, KeyListSyntax, OneKey, MoreKeys, WithSyntax, OfWith, WithListSyntax, OneDef, MoreDefs, WithsSyntax, NoWith, HasWith, TextSyntax, OfText, depth, selects_depth, choice_depth, items_depth, held_depth, key_list_depth, withs_depth, defs_depth, text_depth, expr_of, selects_of, select_of, value_of, key_list_of, source_of, sources_of, with_of, with_list_of, first_place, level, left_level}
 use Rattle.sql_profile.specs.Machine as machine
-use Rattle.sql_profile.specs.Machine.{Before, Fresh, Behind, ItemHead, AtSelect, AtComma, KeyHead, AtBy, KeyComma, SourceHead, AtFrom, SourceComma, DefHead, AtWith, DefComma, put_select, put_item, put_key, put_source, put_def, Around, InParen, InNeg, InNot, InWhen, InThen, InElse, InRight, InItem, InKey, InWhere, Outside, InMain, InDef, InExists, binds, level_of, asks}
+use Rattle.sql_profile.specs.Machine.{Before, Fresh, Behind, ItemHead, AtSelect, AtComma, KeyHead, AtBy, KeyComma, SourceHead, AtFrom, SourceComma, DefHead, AtWith, DefComma, put_select, put_item, put_key, put_source, put_def, Around, InParen, InNeg, InNot, InWhen, InThen, InElse, InRight, InItem, InKey, InWhere, InSum, InScalarWhere, Outside, InMain, InDef, InExists, binds, level_of, asks}
 use Rattle.sql_profile.specs.Trees.{PlacedSelect, select_at, not_exists_at, number_at, no_select_at, query_of, PlacedItem, no_item_at, item_at, items_of, PlacedExpr, none_at, exprs_of, PlacedWith}
 use Rattle.sql_reader.specs.Parts as kept
-use Rattle.sql_reader.specs.Parts.{Named, named, Part, Selects, Keys, Begun, Value, Base, no_selects, no_keys}
+use Rattle.sql_reader.specs.Parts.{Named, named, Part, Selects, Keys, Begun, Scalar, Ranged, Value, Base, no_selects, no_keys}
 use Rattle.sql_reader.specs.Steps.{Form, Position, State, On}
 use Rattle.sql_reader.specs.Steps as reader
 
@@ -115,6 +116,24 @@ begun_of h b = record { before = before b; place = head_place h; items = head_it
 abbrev pub whole_items : ItemsSyntax → Before → Begun
 whole_items is b = record { before = before b; place = first_place is; items = item_list is; depth = items_depth is }
 
+-- the scalar query behind its head
+abbrev pub sum_place : SumHead → ℕ
+sum_place (OfSum p s c o u v) = p
+
+abbrev pub scalar_place : ScalarSyntax → ℕ
+scalar_place (Counted (OfCount p s c o t z)) = p
+scalar_place (Summed h e t) = sum_place h
+
+abbrev pub summed_of : ScalarSyntax → Option PlacedExpr
+summed_of (Counted c) = None
+summed_of (Summed h e t) = Some (expr_of e)
+
+abbrev pub scalar_kept : ScalarSyntax → Scalar
+scalar_kept h = record { place = scalar_place h; summed = summed_of h; depth = grammar.scalar_depth h }
+
+abbrev pub summing_kept : SumHead → ExprSyntax → Scalar
+summing_kept h e = kept.summing (sum_place h) (part_of e)
+
 abbrev pub keys_kept : KeyListSyntax → Keys
 keys_kept ks = record { keys = key_list ks; depth = key_list_depth ks }
 
@@ -159,6 +178,8 @@ abbrev mutual
   base_of (InItem h b c) = outer_base c
   base_of (InKey g r h b c) = outer_base c
   base_of (InWhere p i f b c) = outer_base c
+  base_of (InSum h k) = base_of k
+  base_of (InScalarWhere p h f k) = base_of k
 
   pub outer_base : Outside → Base
   outer_base (InMain w) = main_base w
@@ -167,7 +188,7 @@ abbrev mutual
 
 abbrev mutual
   pub forms_of : Around → List Form
-  forms_of (InParen p k) = reader.Paren ∷ forms_of k
+  forms_of (InParen p k) = reader.Paren p ∷ forms_of k
   forms_of (InNeg p k) = reader.Minus p ∷ forms_of k
   forms_of (InNot p k) = reader.Not p ∷ forms_of k
   forms_of (InWhen p w k) = reader.When p ∷ forms_of k
@@ -176,7 +197,9 @@ abbrev mutual
   forms_of (InRight l p op k) = reader.Right (part_of l) p op ∷ forms_of k
   forms_of (InItem h b c) = reader.Item (begun_of h b) ∷ outer_forms c
   forms_of (InKey g r h b c) = reader.OrderKey (key_head g) (begun_of h b) ∷ outer_forms c
-  forms_of (InWhere p i f b c) = reader.Where (whole_items i b) (from_list f) ∷ outer_forms c
+  forms_of (InWhere p i f b c) = reader.Where (kept.OfSelect (whole_items i b)) (from_list f) ∷ outer_forms c
+  forms_of (InSum h k) = reader.Sum (sum_place h) ∷ forms_of k
+  forms_of (InScalarWhere p h f k) = reader.Where (kept.OfScalar (scalar_kept h)) (from_list f) ∷ forms_of k
 
   pub outer_forms : Outside → List Form
   outer_forms (InMain w) = []
@@ -221,10 +244,24 @@ stand (machine.InOver r h b c) = in_item h b c reader.InOver
 stand (machine.AtOrder o r h b c) = in_item h b c reader.AtOrder
 stand (machine.AtHeld v h b c) = in_item h b c (reader.AtValue (value_kept v))
 stand (machine.AtAs v a h b c) = in_item h b c (reader.AtAs (value_kept v))
-stand (machine.HaveItems i f b c) = in_query c (reader.HaveItems (whole_items i b) (from_list f))
-stand (machine.AtSource h i b c) = in_query c (reader.AtSource (whole_items i b) (source_head h))
-stand (machine.AtSourceName h p t i b c) = in_query c (reader.AtSourceName (whole_items i b) (source_head h) (named p t))
-stand (machine.AtSourceAs h p t a i b c) = in_query c (reader.AtSourceAs (whole_items i b) (source_head h) (named p t))
+stand (machine.HaveItems i f b c) = in_query c (reader.HaveItems (kept.OfSelect (whole_items i b)) (from_list f))
+stand (machine.AtSource h i b c) = in_query c (reader.AtSource (kept.OfSelect (whole_items i b)) (source_head h))
+stand (machine.AtSourceName h p t i b c) = in_query c (reader.AtSourceName (kept.OfSelect (whole_items i b)) (source_head h) (named p t))
+stand (machine.AtSourceAs h p t a i b c) = in_query c (reader.AtSourceAs (kept.OfSelect (whole_items i b)) (source_head h) (named p t))
+stand (machine.AtScalar p s k) = inside k (reader.AtHead p reader.BehindSelect)
+stand (machine.AtCount p s c k) = inside k (reader.AtHead p reader.BehindCount)
+stand (machine.AtCountOpen p s c o k) = inside k (reader.AtHead p reader.BehindCountOpen)
+stand (machine.AtCountStar p s c o t k) = inside k (reader.AtHead p reader.BehindCountStar)
+stand (machine.AtCoalesce p s c k) = inside k (reader.AtHead p reader.BehindCoalesce)
+stand (machine.AtCoalesceOpen p s c o k) = inside k (reader.AtHead p reader.BehindCoalesceOpen)
+stand (machine.AtSum p s c o u k) = inside k (reader.AtHead p reader.BehindSum)
+stand (machine.AtSumClose h e z k) = inside k (reader.AtTail (summing_kept h e) reader.BehindClose)
+stand (machine.AtSumComma h e z c k) = inside k (reader.AtTail (summing_kept h e) reader.BehindComma)
+stand (machine.AtSumZero h e z c q k) = inside k (reader.AtTail (summing_kept h e) reader.BehindZero)
+stand (machine.HaveScalar h f k) = inside k (reader.HaveItems (kept.OfScalar (scalar_kept h)) (from_list f))
+stand (machine.AtScalarSource i h k) = inside k (reader.AtSource (kept.OfScalar (scalar_kept h)) (source_head i))
+stand (machine.AtScalarSourceName i p t h k) = inside k (reader.AtSourceName (kept.OfScalar (scalar_kept h)) (source_head i) (named p t))
+stand (machine.AtScalarSourceAs i p t a h k) = inside k (reader.AtSourceAs (kept.OfScalar (scalar_kept h)) (source_head i) (named p t))
 stand (machine.AtSemi w q p) = On (main_base w) [] (reader.AtSemi (selects_kept q))
 stand (machine.Ready (OfText w q s) e) = On (main_base w) [] (reader.Ready (selects_kept q))
 
@@ -246,6 +283,18 @@ whole_select i f w b =
     selects_put b (OfSelect i f w)
     ∙ ap (λ is. record { selects = q.selects ++ select_at (first_place i) is (grammar.from_of f) (grammar.keep_of w) ∷ []; depth = n }) (items_same i)
     ∙ ap (λ ss. record { selects = q.selects ++ select_at (first_place i) (items_of (item_list i)) ss (grammar.keep_of w) ∷ []; depth = n }) (from_same f)
+
+-- the scalar query that was begun is whole
+scalar_same : (h : ScalarSyntax) (f : FromSyntax) (w : KeepSyntax) (z : ℕ) → expr_of (OfScalar h f w z) ≡ kept.scalar_tree (scalar_place h) (summed_of h) (grammar.from_of f) (grammar.keep_of w)
+scalar_same (Counted (OfCount p s c o t y)) f w z = refl
+scalar_same (Summed (OfSum p s c o u v) e t) f w z = refl
+
+whole_scalar : (h : ScalarSyntax) (f : FromSyntax) (w : KeepSyntax) (z : ℕ) → part_of (OfScalar h f w z)
+    ≡ kept.scalar (scalar_kept h) (from_list f) (grammar.keep_of w) (grammar.keep_depth w)
+whole_scalar h f w z =
+    let n = suc (max (grammar.scalar_depth h) (grammar.keep_depth w)) in
+    ap (λ e. record { tree = e; level = 8; depth = n }) (scalar_same h f w z)
+    ∙ ap (λ ss. record { tree = kept.scalar_tree (scalar_place h) (summed_of h) ss (grammar.keep_of w); level = 8; depth = n }) (from_same f)
 
 item_put : (h : ItemHead) (b : Before) (v : ValueSyntax) (a p : ℕ) (n : List ℕ)
     → whole_items (put_item h (OfItem v a p n)) b ≡ kept.add_item (begun_of h b) (value_kept v) (named p n)
@@ -292,6 +341,10 @@ whole_steps : (i : ItemsSyntax) (f : FromSyntax) (w : KeepSyntax) (b : Before) (
 whole_steps i f w b c t =
     ap (λ q. reader.after_query (outer_base c) (outer_forms c) q t) (sym (whole_select i f w b)) ∙ query_steps c (put_select b (OfSelect i f w)) t
 
+closed_scalar : (h : ScalarSyntax) (f : FromSyntax) (w : KeepSyntax) (z : ℕ) (k : Around)
+    → Some (inside k (reader.Have (kept.scalar (scalar_kept h) (from_list f) (grammar.keep_of w) (grammar.keep_depth w)))) ≡ Some (inside k (reader.Have (part_of (OfScalar h f w z))))
+closed_scalar h f w z k = ap (λ s. Some (inside k (reader.Have s))) (sym (whole_scalar h f w z))
+
 key_steps : (ks : KeyListSyntax) (r : grammar.NumberingHead) (h : ItemHead) (b : Before) (c : Outside) (t : Token)
     → reader.after_key (outer_base c) (outer_forms c) (keys_kept ks) (begun_of h b) t ≡ option_map stand (machine.after_key ks r h b c t)
 key_steps ks r h b c (Comma p) = refl
@@ -308,6 +361,8 @@ shift_steps (InItem h b c) s (Key a As) = refl
 shift_steps (InKey h r i b c) s t =
     ap (λ ks. reader.after_key (outer_base c) (outer_forms c) ks (begun_of i b) t) (sym (key_put h s)) ∙ key_steps (put_key h s) r i b c t
 shift_steps (InWhere p i f b c) s t = whole_steps i f (HasWhere p s) b c t
+shift_steps (InSum h k) s (Close z) = refl
+shift_steps (InScalarWhere p h f k) s (Close z) = closed_scalar h f (HasWhere p s) z k
 shift_steps k s t = refl
 
 after_steps : (k : Around) (s : ExprSyntax) (t : Token) → reader.after (base_of k) (forms_of k) (part_of s) t ≡ option_map stand (machine.after k s t)
@@ -325,6 +380,8 @@ after_steps (InElse p w y h z e k) s t = shift_steps (InElse p w y h z e k) s t
 after_steps (InItem h b c) s t = shift_steps (InItem h b c) s t
 after_steps (InKey h r i b c) s t = shift_steps (InKey h r i b c) s t
 after_steps (InWhere p i f b c) s t = shift_steps (InWhere p i f b c) s t
+after_steps (InSum h k) s t = shift_steps (InSum h k) s t
+after_steps (InScalarWhere p h f k) s t = shift_steps (InScalarWhere p h f k) s t
 
 asks_same : (k : Around) → reader.asks (forms_of k) ≡ machine.asks k
 asks_same (InParen p k) = refl
@@ -337,6 +394,8 @@ asks_same (InRight l p op k) = refl
 asks_same (InItem h b c) = refl
 asks_same (InKey g r h b c) = refl
 asks_same (InWhere p i f b c) = refl
+asks_same (InSum h k) = refl
+asks_same (InScalarWhere p h f k) = refl
 
 start_steps : (k : Around) (t : Token) → reader.start (base_of k) (forms_of k) t ≡ option_map stand (machine.start k t)
 start_steps k (Constant p (sql.Number n m)) = refl
@@ -349,6 +408,7 @@ start_steps k (Key p Case) = refl
 start_steps k (Key p sql.Not) =
     ap (λ n. cond (leb n 3) (Some (inside (InNot p k) reader.Want)) None) (asks_same k) ∙ either (leb (machine.asks k) 3) (Some (machine.Want (InNot p k))) None
 start_steps (InNot p k) (Key e Exists) = refl
+start_steps (InParen p k) (Key s sql.Select) = refl
 start_steps (InItem h b c) (Key r RowNumber) = refl
 start_steps k t = refl
 
@@ -371,10 +431,10 @@ some_source : (ss : SourcesSyntax) → (x : Source) × (xs : List Source) × (so
 some_source (OneSource f s) = (source_of s, [], refl)
 some_source (MoreSources ss c s) = let e = some_source ss in (e.0, e.1 ++ source_of s ∷ [], ap (λ l. l ++ source_of s ∷ []) e.2)
 
-another_source : (ss : SourcesSyntax) (g : Begun) (b : Base) (k : List Form) → reader.comma_behind (source_list ss) g b k ≡ On b k (reader.AtSource g (source_list ss))
-another_source ss g b k = let e = some_source ss in ap (λ l. reader.comma_behind l g b k) e.2 ∙ ap (λ l. On b k (reader.AtSource g l)) (sym e.2)
+another_source : (ss : SourcesSyntax) (g : Ranged) (b : Base) (k : List Form) → reader.comma_behind (source_list ss) g b k ≡ Some (On b k (reader.AtSource g (source_list ss)))
+another_source ss g b k = let e = some_source ss in ap (λ l. reader.comma_behind l g b k) e.2 ∙ ap (λ l. Some (On b k (reader.AtSource g l))) (sym e.2)
 
-no_from : (ss : SourcesSyntax) (g : Begun) (b : Base) (k : List Form) → reader.from_behind (source_list ss) g b k ≡ None
+no_from : (ss : SourcesSyntax) (g : Ranged) (b : Base) (k : List Form) → reader.from_behind (source_list ss) g b k ≡ None
 no_from ss g b k = let e = some_source ss in ap (λ l. reader.from_behind l g b k) e.2
 
 no_query_from : (c : Outside) (q : QuerySyntax) (p : ℕ) → machine.after_query c q (Key p From) ≡ None
@@ -383,16 +443,41 @@ no_query_from (InDef h p n a o) q x = refl
 no_query_from (InExists n e o k) q p = refl
 
 items_step : (i : ItemsSyntax) (f : FromSyntax) (b : Before) (c : Outside) (t : Token)
-    → reader.have_items (whole_items i b) (from_list f) (outer_base c) (outer_forms c) t ≡ option_map stand (machine.after_items i f b c t)
+    → reader.have_items (kept.OfSelect (whole_items i b)) (from_list f) (outer_base c) (outer_forms c) t ≡ option_map stand (machine.after_items i f b c t)
 items_step i f b c (Key p sql.Where) = refl
 items_step i NoFrom b c (Comma p) = refl
 items_step i NoFrom b c (Key p From) = refl
-items_step i (HasFrom ss) b c (Comma p) = ap (λ (st : State). Some st) (another_source ss (whole_items i b) (outer_base c) (outer_forms c))
+items_step i (HasFrom ss) b c (Comma p) = another_source ss (kept.OfSelect (whole_items i b)) (outer_base c) (outer_forms c)
 items_step i (HasFrom ss) b c (Key p From) =
-    no_from ss (whole_items i b) (outer_base c) (outer_forms c)
+    no_from ss (kept.OfSelect (whole_items i b)) (outer_base c) (outer_forms c)
     ∙ sym (ap (λ (o : Option machine.State). option_map stand o) (no_query_from c (put_select b (OfSelect i (HasFrom ss) NoWhere)) p))
 items_step i NoFrom b c t = whole_steps i NoFrom NoWhere b c t
 items_step i (HasFrom ss) b c t = whole_steps i (HasFrom ss) NoWhere b c t
+
+scalar_step : (h : ScalarSyntax) (f : FromSyntax) (k : Around) (t : Token)
+    → reader.have_items (kept.OfScalar (scalar_kept h)) (from_list f) (base_of k) (forms_of k) t ≡ option_map stand (machine.after_scalar h f k t)
+scalar_step h f k (Key p sql.Where) = refl
+scalar_step h f k (Close z) = closed_scalar h f NoWhere z k
+scalar_step h NoFrom k (Comma p) = refl
+scalar_step h NoFrom k (Key p From) = refl
+scalar_step h (HasFrom ss) k (Comma p) = another_source ss (kept.OfScalar (scalar_kept h)) (base_of k) (forms_of k)
+scalar_step h (HasFrom ss) k (Key p From) = no_from ss (kept.OfScalar (scalar_kept h)) (base_of k) (forms_of k)
+scalar_step h NoFrom k t = refl
+scalar_step h (HasFrom ss) k t = refl
+
+-- the number spelled `0`
+no_zero : (n : ℕ) → (suc n == 0) ≡ false
+no_zero n = grind (arith, nat_tests)
+
+not_one : (n : ℕ) → (suc (suc n) == 1) ≡ false
+not_one n = grind (arith, nat_tests)
+
+zero_step : (h : SumHead) (e : ExprSyntax) (z c : ℕ) (k : Around) (q n m : ℕ)
+    → cond (n == 0 && m == 1) (Some (inside k (reader.AtTail (summing_kept h e) reader.BehindZero))) None ≡ option_map stand (machine.step (machine.AtSumComma h e z c k) (Constant q (sql.Number n m)))
+zero_step h e z c k q zero zero = refl
+zero_step h e z c k q zero (suc zero) = refl
+zero_step h e z c k q zero (suc (suc m)) = ap (λ b. cond b (Some (inside k (reader.AtTail (summing_kept h e) reader.BehindZero))) None) (not_one m)
+zero_step h e z c k q (suc n) m = ap (λ b. cond (b && m == 1) (Some (inside k (reader.AtTail (summing_kept h e) reader.BehindZero))) None) (no_zero n)
 
 pub steps : (st : machine.State) (t : Token) → reader.step (stand st) t ≡ option_map stand (machine.step st t)
 steps (machine.AtDef h) (Name p n) = refl
@@ -414,11 +499,26 @@ steps (machine.InOver r h b c) (Close q) = refl
 steps (machine.InOver r h b c) (Key o Order) = refl
 steps (machine.AtOrder o r h b c) (Key y By) = refl
 steps (machine.AtHeld v h b c) (Key a As) = refl
-steps (machine.AtAs v a h b c) (Name p n) = ap (λ g. Some (in_query c (reader.HaveItems g []))) (sym (item_put h b v a p n))
+steps (machine.AtAs v a h b c) (Name p n) = ap (λ g. Some (in_query c (reader.HaveItems (kept.OfSelect g) []))) (sym (item_put h b v a p n))
 steps (machine.HaveItems i f b c) t = items_step i f b c t
 steps (machine.AtSource h i b c) (Name p t) = refl
 steps (machine.AtSourceName h p t i b c) (Key a As) = refl
-steps (machine.AtSourceAs h p t a i b c) (Name q n) = ap (λ ss. Some (in_query c (reader.HaveItems (whole_items i b) ss))) (sym (source_put h p t a q n))
+steps (machine.AtSourceAs h p t a i b c) (Name q n) = ap (λ ss. Some (in_query c (reader.HaveItems (kept.OfSelect (whole_items i b)) ss))) (sym (source_put h p t a q n))
+steps (machine.AtScalar p s k) (Key c Count) = refl
+steps (machine.AtScalar p s k) (Key c Coalesce) = refl
+steps (machine.AtCount p s c k) (Open o) = refl
+steps (machine.AtCountOpen p s c o k) (Oper t Mul) = refl
+steps (machine.AtCountStar p s c o t k) (Close z) = refl
+steps (machine.AtCoalesce p s c k) (Open o) = refl
+steps (machine.AtCoalesceOpen p s c o k) (Key u sql.Sum) = refl
+steps (machine.AtSum p s c o u k) (Open v) = refl
+steps (machine.AtSumClose h e z k) (Comma c) = refl
+steps (machine.AtSumComma h e z c k) (Constant q (sql.Number n m)) = zero_step h e z c k q n m
+steps (machine.AtSumZero h e z c q k) (Close r) = refl
+steps (machine.HaveScalar h f k) t = scalar_step h f k t
+steps (machine.AtScalarSource i h k) (Name p t) = refl
+steps (machine.AtScalarSourceName i p t h k) (Key a As) = refl
+steps (machine.AtScalarSourceAs i p t a h k) (Name q n) = ap (λ ss. Some (inside k (reader.HaveItems (kept.OfScalar (scalar_kept h)) ss))) (sym (source_put i p t a q n))
 steps (machine.AtSemi w q p) (End e) = refl
 steps (machine.Ready (OfText w q s) e) t = refl
 steps st t = refl

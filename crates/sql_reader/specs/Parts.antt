@@ -1,13 +1,14 @@
 -- What the reader keeps of what it read: trees, with how strongly they bind and how deep they are.
 --
 -- It is less than a syntax tree, which keeps every token.
-use Rattle.std.specs.Prelude.{ℕ, suc, max, List, [], ◌∷◌, ◌++◌, Option, None}
+use Rattle.std.specs.Prelude.{ℕ, suc, pos, max, List, [], ◌∷◌, ◌++◌, Option, Some, None}
+use Rattle.nq_model.specs.Totals.{HowMany, SumOf}
 use Rattle.nq_model.specs.declared.term.Binary.{Binary}
 use Rattle.nq_model.specs.declared.term.Unary.TheVariants as unary
 use Rattle.sql_profile.specs.declared.tree.Source.{Source}
 use Rattle.sql_profile.specs.Grammar.{constant_at, level}
 use Rattle.sql_profile.specs.Tokens.{Constant}
-use Rattle.sql_profile.specs.Trees.{PlacedExpr, column_at, unary_at, binary_at, choose_at, not_exists_at, PlacedSelect, select_at, PlacedKeep, PlacedItem, item_at, PlacedValue, plain_at, number_at, PlacedWith, exprs_of, items_of, query_of}
+use Rattle.sql_profile.specs.Trees.{PlacedExpr, int_at, column_at, unary_at, binary_at, choose_at, not_exists_at, total_at, PlacedSelect, select_at, PlacedKeep, PlacedItem, item_at, PlacedValue, plain_at, number_at, PlacedWith, exprs_of, items_of, query_of}
 
 -- a name and its place
 pub record Named : Type 0 where
@@ -36,6 +37,17 @@ pub record Begun : Type 0 where
   pub place : ℕ
   pub items : List PlacedItem
   pub depth : ℕ
+
+-- a scalar query that was begun: its place, the expression that it sums, if it counts nothing, and how deep that is
+pub record Scalar : Type 0 where
+  pub place : ℕ
+  pub summed : Option PlacedExpr
+  pub depth : ℕ
+
+-- what sources and a condition belong to
+pub data Ranged : Type 0 where
+  OfSelect : Begun → Ranged
+  OfScalar : Scalar → Ranged
 
 -- what stands before AS in an item, and how deep it is
 pub record Value : Type 0 where
@@ -78,6 +90,21 @@ choice p t y n = record { tree = choose_at p t.tree y.tree n.tree; level = 8; de
 
 abbrev pub binary : Part → ℕ → Binary → Part → Part
 binary l p op r = record { tree = binary_at p op l.tree r.tree; level = level op; depth = suc (max l.depth r.depth) }
+
+-- a scalar query that counts, and one that sums an expression
+abbrev pub counting : ℕ → Scalar
+counting p = record { place = p; summed = None; depth = 0 }
+
+abbrev pub summing : ℕ → Part → Scalar
+summing p s = record { place = p; summed = Some s.tree; depth = s.depth }
+
+abbrev pub scalar_tree : ℕ → Option PlacedExpr → List Source → PlacedKeep → PlacedExpr
+scalar_tree p None from keep = total_at p HowMany from keep (int_at p (pos 1))
+scalar_tree p (Some e) from keep = total_at p SumOf from keep e
+
+-- the scalar query is whole, with these sources and what it keeps, which is so deep
+abbrev pub scalar : Scalar → List Source → PlacedKeep → ℕ → Part
+scalar s from keep n = record { tree = scalar_tree s.place s.summed from keep; level = 8; depth = suc (max s.depth n) }
 
 -- lists with one more
 abbrev pub no_selects : Selects

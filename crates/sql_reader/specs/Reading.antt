@@ -1,5 +1,5 @@
 -- What the reader's answer says of its run over the tokens.
-use Rattle.std.specs.Prelude.{◌≡◌, ℕ, ⊤, true, false, List, [], ◌∷◌, ◌++◌, Option, Some, None, Result, Ok, Err}
+use Rattle.std.specs.Prelude.{◌≡◌, ℕ, ⊤, true, false, List, [], ◌∷◌, ◌++◌, Some, None, Result, Ok, Err}
 use Rattle.nq_model.specs.OpenLists.{Unexpected, Deep}
 use Rattle.nq_model.specs.Machines.{Reached, Faulty}
 use Rattle.sql_profile.specs.Tokens.{Token, End, place_of}

@@ -3,13 +3,13 @@ use Rattle.std.specs.Prelude.{◌≡◌, ℕ, List, [], ◌∷◌, map, reverse,
 use Rattle.std.specs.Borrow.{Bor}
 use Rattle.sql_reader.specs.Needs.{height, needs}
 use Rattle.sql_reader.specs.Steps as reader
-use Rattle.sql_reader.specs.Views.{begun_view, keys_view, part_view}
+use Rattle.sql_reader.specs.Views.{begun_view, keys_view, part_view, ranged_view}
 use Rattle.sql_reader.specs.declared.form.Form.{Form}
 use Rattle.sql_reader.specs.declared.form.Form.TheVariants as form
 use Rattle.sql_reader.specs.declared.stack.Level.{Level}
 
 abbrev pub form_view : Form → reader.Form
-form_view form.Paren = reader.Paren
+form_view (form.Paren p) = reader.Paren p
 form_view (form.Minus p) = reader.Minus p
 form_view (form.Not p) = reader.Not p
 form_view (form.When p) = reader.When p
@@ -18,8 +18,9 @@ form_view (form.Else p t y) = reader.Else p (part_view t) (part_view y)
 form_view (form.Right l p op) = reader.Right (part_view l) p op
 form_view (form.Item g) = reader.Item (begun_view g)
 form_view (form.OrderKey ks g) = reader.OrderKey (keys_view ks) (begun_view g)
-form_view (form.Where g from) = reader.Where (begun_view g) from
+form_view (form.Where g from) = reader.Where (ranged_view g) from
 form_view (form.NotExists p) = reader.NotExists p
+form_view (form.Sum p) = reader.Sum p
 
 -- the forms, the innermost first
 abbrev pub forms_of : List Level → List reader.Form

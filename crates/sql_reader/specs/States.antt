@@ -5,10 +5,28 @@ use Rattle.sql_reader.specs.Stacks.{forms}
 use Rattle.sql_reader.specs.Parts.{Base}
 use Rattle.sql_reader.specs.Steps as reader
 use Rattle.sql_reader.specs.Steps.{Form}
-use Rattle.sql_reader.specs.Views.{base_view, begun_view, name_view, part_view, selects_view, value_view}
+use Rattle.sql_reader.specs.Views.{base_view, name_view, part_view, ranged_view, scalar_view, selects_view, value_view}
+use Rattle.sql_reader.specs.declared.state.Head.{Head}
+use Rattle.sql_reader.specs.declared.state.Head.TheVariants as heads
+use Rattle.sql_reader.specs.declared.state.Tail.{Tail}
+use Rattle.sql_reader.specs.declared.state.Tail.TheVariants as tails
 use Rattle.sql_reader.specs.declared.state.Position.{Position}
 use Rattle.sql_reader.specs.declared.state.Position.TheVariants as at
 use Rattle.sql_reader.specs.declared.state.State.{State}
+
+abbrev pub head_view : Head → reader.Head
+head_view heads.Select = reader.BehindSelect
+head_view heads.Count = reader.BehindCount
+head_view heads.CountOpen = reader.BehindCountOpen
+head_view heads.CountStar = reader.BehindCountStar
+head_view heads.Coalesce = reader.BehindCoalesce
+head_view heads.CoalesceOpen = reader.BehindCoalesceOpen
+head_view heads.Sum = reader.BehindSum
+
+abbrev pub tail_view : Tail → reader.Tail
+tail_view tails.Close = reader.BehindClose
+tail_view tails.Comma = reader.BehindComma
+tail_view tails.Zero = reader.BehindZero
 
 abbrev pub position_view : Position → reader.Position
 position_view at.AtStart = reader.AtStart
@@ -32,10 +50,12 @@ position_view at.InOver = reader.InOver
 position_view at.AtOrder = reader.AtOrder
 position_view (at.AtValue v) = reader.AtValue (value_view v)
 position_view (at.AtAs v) = reader.AtAs (value_view v)
-position_view (at.HaveItems g from) = reader.HaveItems (begun_view g) from
-position_view (at.AtSource g from) = reader.AtSource (begun_view g) from
-position_view (at.AtSourceName g from n) = reader.AtSourceName (begun_view g) from (name_view n)
-position_view (at.AtSourceAs g from n) = reader.AtSourceAs (begun_view g) from (name_view n)
+position_view (at.HaveItems g from) = reader.HaveItems (ranged_view g) from
+position_view (at.AtSource g from) = reader.AtSource (ranged_view g) from
+position_view (at.AtSourceName g from n) = reader.AtSourceName (ranged_view g) from (name_view n)
+position_view (at.AtSourceAs g from n) = reader.AtSourceAs (ranged_view g) from (name_view n)
+position_view (at.AtHead p h) = reader.AtHead p (head_view h)
+position_view (at.AtTail s z) = reader.AtTail (scalar_view s) (tail_view z)
 position_view (at.AtSemi q) = reader.AtSemi (selects_view q)
 position_view (at.Ready q) = reader.Ready (selects_view q)
 

@@ -34,6 +34,9 @@ mark_token marks.When p = sql.Key p sql.When
 mark_token marks.Then p = sql.Key p sql.Then
 mark_token marks.Else p = sql.Key p sql.Else
 mark_token marks.Stop p = sql.Key p sql.Stop
+mark_token marks.Count p = sql.Key p sql.Count
+mark_token marks.Sum p = sql.Key p sql.Sum
+mark_token marks.Coalesce p = sql.Key p sql.Coalesce
 
 abbrev pub symbol_view : ℕ → Symbol → sql.Token
 symbol_view p (symbols.Number n) = sql.Value p (sql.Number n.value n.digits)

@@ -3,14 +3,14 @@ ghost use Rattle.std.specs.Prelude.{◌≡◌};
 ghost use Rattle.sql_profile.specs.Tokens.{Key, Not};
 ghost use Rattle.sql_reader.specs.Stacks.{forms};
 ghost use Rattle.sql_reader.specs.States.{Leads, Turns, Withs};
-ghost use Rattle.sql_reader.specs.Steps.{asks, start, start_exists, start_row};
+ghost use Rattle.sql_reader.specs.Steps.{asks, start, start_exists, start_row, start_scalar};
 ghost use Rattle.sql_reader.specs.Symbols.{mark_token, token_view};
 
 use crate::form::Form;
 use crate::levels::level;
 use crate::moves::{leaf, named, wants};
 use crate::stack::Stack;
-use crate::state::Position;
+use crate::state::{Head, Position};
 use crate::token::{Mark, Symbol, Token};
 use lexical::unquoted;
 use nq_model::{Binary, Memory};
@@ -49,11 +49,12 @@ fn start_mark(
 {
     match mark {
         Mark::Truth(truth) => leaf(alloc, place, ExprNode::Bool(truth)),
-        Mark::Opening => wants(stack, Form::Paren),
+        Mark::Opening => wants(stack, Form::Paren { place }),
         Mark::Operator(Binary::Sub) => wants(stack, Form::Minus { place }),
         Mark::Case => Ok(Some(Position::AtCase { place })),
         Mark::Not => start_not(stack, place),
         Mark::Exists => Ok(start_exists(stack)),
+        Mark::Select => Ok(start_scalar(stack)),
         Mark::RowNumber => Ok(start_row(stack)),
         _ => Ok(None),
     }
@@ -76,6 +77,19 @@ fn start_exists(stack: &mut Stack) -> Option<Position>
 {
     match stack.pop()? {
         Form::Not { place } => Some(Position::AtExists { place }),
+        _ => None,
+    }
+}
+
+// SELECT behind a `(`.
+fn start_scalar(stack: &mut Stack) -> Option<Position>
+    ensures { (b : Withs) → Leads result b (forms stack.new.levels) (start_scalar (forms stack.old.levels) b) }
+{
+    match stack.pop()? {
+        Form::Paren { place } => Some(Position::AtHead {
+            place,
+            head: Head::Select,
+        }),
         _ => None,
     }
 }

@@ -1,20 +1,21 @@
 // A token behind a whole expression.
+ghost use Rattle.std.specs.Prelude.{ℕ};
 ghost use Rattle.sql_profile.specs.Tokens.{Oper};
 ghost use Rattle.sql_reader.specs.Stacks.{form_view, forms};
-ghost use Rattle.sql_reader.specs.States.{Forms, Turns, Withs};
-ghost use Rattle.sql_reader.specs.Steps.{Else, Item, OrderKey, Paren, Then, When, Where, after, after_key, behind, behind_top, shift};
+ghost use Rattle.sql_reader.specs.States.{Forms, Leads, Turns, Withs};
+ghost use Rattle.sql_reader.specs.Steps.{Else, Item, OrderKey, Paren, Sum, Then, When, Where, after, after_key, behind, behind_top, shift};
 ghost use Rattle.sql_reader.specs.Symbols.{token_view};
-ghost use Rattle.sql_reader.specs.Views.{base_view, begun_view, keys_view, part_view};
+ghost use Rattle.sql_reader.specs.Views.{base_view, begun_view, keys_view, part_view, ranged_view};
 
 use crate::form::Form;
 use crate::levels::left_level;
-use crate::lists::{Base, Begun, Keys, add_key, add_select, numbering, plain};
+use crate::lists::{Base, Begun, Keys, Ranged, add_key, numbering, plain, summing};
 use crate::moves::wants;
 use crate::part::{Part, choice, in_parens};
-use crate::queries::after_query;
+use crate::queries::after_ranged;
 use crate::settle::settle;
 use crate::stack::Stack;
-use crate::state::Position;
+use crate::state::{Position, Tail};
 use crate::token::{Mark, Symbol, Token};
 use nq_model::{Binary, List, Memory};
 use sql_profile::Source;
@@ -93,13 +94,14 @@ fn behind(
     ensures { Turns result (base_view base.new) (forms stack.new.levels) (behind (form_view form) (base_view base.old) (forms stack.old.levels) (part_view part) (token_view token.entry)) }
 {
     match form {
-        Form::Paren => behind_paren(part, token),
+        Form::Paren { .. } => behind_paren(part, token),
         Form::When { place } => behind_when(stack, place, part, token),
         Form::Then { place, test } => behind_then(stack, place, test, part, token),
         Form::Else { place, test, yes } => behind_else(alloc, place, test, yes, part, token),
         Form::Item { begun } => behind_item(stack, begun, part, token),
         Form::OrderKey { keys, begun } => behind_key(stack, keys, begun, part, token),
-        Form::Where { begun, from } => behind_where(alloc, base, stack, begun, from, part, token),
+        Form::Where { ranged, from } => behind_where(alloc, base, stack, ranged, from, part, token),
+        Form::Sum { place } => Ok(behind_sum(place, part, token)),
         Form::Minus { .. } | Form::Not { .. } | Form::Right { .. } | Form::NotExists { .. } => Ok(
             None,
         ),
@@ -108,7 +110,7 @@ fn behind(
 
 // The `)` of parentheses.
 fn behind_paren(part: Part, token: Token<'_>) -> Result<Option<Position>, Memory>
-    ensures { (b : Withs) (k : Forms) → Turns result b k (behind Paren b k (part_view part) (token_view token.entry)) }
+    ensures { (b : Withs) (k : Forms) (p : ℕ) → Turns result b k (behind (Paren p) b k (part_view part) (token_view token.entry)) }
 {
     match token.symbol {
         Symbol::Mark(Mark::Closing) => {
@@ -223,19 +225,32 @@ fn after_key(
     }
 }
 
-// A token behind what a SELECT keeps.
+// A token behind what a SELECT or a scalar query keeps.
 fn behind_where(
     alloc: Global,
     base: &mut Base,
     stack: &mut Stack,
-    begun: Begun,
+    ranged: Ranged,
     from: List<Source>,
     part: Part,
     token: Token<'_>,
 ) -> Result<Option<Position>, Memory>
-    ensures { Turns result (base_view base.new) (forms stack.new.levels) (behind (Where (begun_view begun) from) (base_view base.old) (forms stack.old.levels) (part_view part) (token_view token.entry)) }
+    ensures { Turns result (base_view base.new) (forms stack.new.levels) (behind (Where (ranged_view ranged) from) (base_view base.old) (forms stack.old.levels) (part_view part) (token_view token.entry)) }
 {
     let kept = part.extent;
-    let query = add_select(begun, from, Some(Box::into_inner(part.expr)), kept)?;
-    after_query(alloc, base, stack, query, token)
+    let keep = Some(Box::into_inner(part.expr));
+    after_ranged(alloc, base, stack, ranged, from, keep, kept, token)
+}
+
+// The `)` behind a summed expression.
+fn behind_sum(place: u64, part: Part, token: Token<'_>) -> Option<Position>
+    ensures { (b : Withs) (k : Forms) → Leads result b k (behind (Sum place) b k (part_view part) (token_view token.entry)) }
+{
+    match token.symbol {
+        Symbol::Mark(Mark::Closing) => Some(Position::AtTail {
+            scalar: summing(place, part),
+            tail: Tail::Close,
+        }),
+        _ => None,
+    }
 }

@@ -1,15 +1,16 @@
 // Whether what was read begins a text of a depth.
 ghost use Rattle.std.specs.Prelude.{◌≡◌, IfOk};
-ghost use Rattle.sql_reader.specs.Needs.{base_needs, fits, hole, want_hole};
+ghost use Rattle.sql_reader.specs.Needs.{base_needs, fits, head_hole, hole, want_hole};
 ghost use Rattle.sql_reader.specs.Stacks.{forms};
-ghost use Rattle.sql_reader.specs.States.{position_view};
+ghost use Rattle.sql_reader.specs.States.{head_view, position_view};
 ghost use Rattle.sql_reader.specs.Steps.{On};
 ghost use Rattle.sql_reader.specs.Views.{base_view};
 
+use crate::extent::one_more;
 use crate::form::Form;
 use crate::lists::Base;
-use crate::stack::{Stack, begun_depth};
-use crate::state::Position;
+use crate::stack::{Stack, ranged_depth};
+use crate::state::{Head, Position};
 use nq_model::Memory;
 
 /// Whether a text of at most this depth begins with what was read.
@@ -52,10 +53,12 @@ fn hole(at: &Position, stack: &Stack) -> Result<u64, Memory>
         | Position::AtOver
         | Position::InOver => Ok(0),
         Position::AtValue { value } | Position::AtAs { value } => Ok(value.extent.depth),
-        Position::HaveItems { begun, .. }
-        | Position::AtSource { begun, .. }
-        | Position::AtSourceName { begun, .. }
-        | Position::AtSourceAs { begun, .. } => begun_depth(begun),
+        Position::HaveItems { ranged, .. }
+        | Position::AtSource { ranged, .. }
+        | Position::AtSourceName { ranged, .. }
+        | Position::AtSourceAs { ranged, .. } => ranged_depth(ranged),
+        Position::AtHead { head, .. } => Ok(head_hole(*head)),
+        Position::AtTail { scalar, .. } => one_more(scalar.extent.depth),
         Position::AtSemi { query } | Position::Ready { query } => Ok(query.extent.depth),
         Position::AtStart
         | Position::BehindWith
@@ -68,12 +71,23 @@ fn hole(at: &Position, stack: &Stack) -> Result<u64, Memory>
     }
 }
 
-// An expression has to begin: behind SELECT or a comma of items a numbering is less.
+// How deep a scalar query is at least that begins so.
+fn head_hole(head: Head) -> u64
+    ensures { result ≡ head_hole (head_view head) }
+{
+    match head {
+        Head::Coalesce | Head::CoalesceOpen | Head::Sum => 2,
+        Head::Select | Head::Count | Head::CountOpen | Head::CountStar => 1,
+    }
+}
+
+// An expression has to begin: behind SELECT or a comma of items a numbering is less, and behind a `(` a count
+// that the `(` begins.
 fn want_hole(stack: &Stack) -> u64
     ensures { result ≡ want_hole (forms stack.now.levels) }
 {
     match stack.top() {
-        Some(Form::Item { .. }) => 0,
+        Some(Form::Item { .. }) | Some(Form::Paren { .. }) => 0,
         _ => 1,
     }
 }

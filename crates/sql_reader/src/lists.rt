@@ -1,7 +1,7 @@
 // Parts of a query that were read, of which more may come.
 ghost use Rattle.std.specs.Prelude.{◌≡◌, Option, IfOk};
-ghost use Rattle.sql_reader.specs.Parts.{add_item, add_key, add_select, add_source, begun, no_keys, no_selects, numbering, plain};
-ghost use Rattle.sql_reader.specs.Views.{begun_view, kept_tree, keys_view, name_view, part_view, selects_view, value_view};
+ghost use Rattle.sql_reader.specs.Parts.{add_item, add_key, add_select, add_source, begun, counting, no_keys, no_selects, numbering, plain, summing};
+ghost use Rattle.sql_reader.specs.Views.{begun_view, kept_tree, keys_view, name_view, part_view, scalar_view, selects_view, value_view};
 
 use crate::extent::{Extent, enclosed, greater, nothing};
 use crate::part::Part;
@@ -37,6 +37,21 @@ pub struct Begun {
     pub place: u64,
     pub items: List<Item>,
     pub extent: Extent,
+}
+
+/// A scalar query that was begun: its place, the value that it sums, if it counts nothing, and how deep that is.
+#[derive(Drop)]
+pub struct Scalar {
+    pub place: u64,
+    pub value: Option<Box<Expr>>,
+    pub extent: Extent,
+}
+
+/// What sources and a condition belong to.
+#[derive(Drop)]
+pub enum Ranged {
+    Select(Begun),
+    Scalar(Scalar),
 }
 
 /// What stands before AS in an item, and how deep it is.
@@ -153,6 +168,28 @@ pub fn add_select(
         selects,
         extent: deepest,
     })
+}
+
+/// A scalar query that counts.
+pub fn counting(place: u64) -> Scalar
+    ensures { scalar_view result ≡ counting place }
+{
+    Scalar {
+        place,
+        value: None,
+        extent: nothing(),
+    }
+}
+
+/// A scalar query that sums an expression.
+pub fn summing(place: u64, part: Part) -> Scalar
+    ensures { scalar_view result ≡ summing place (part_view part) }
+{
+    Scalar {
+        place,
+        value: Some(part.expr),
+        extent: part.extent,
+    }
 }
 
 /// An expression as an item.

@@ -7,7 +7,7 @@ use crate::front::Front;
 use crate::token::{Mark, Symbol};
 use nq_model::Binary;
 
-const KEYWORDS: [(&str, Mark); 22] = [
+const KEYWORDS: [(&str, Mark); 25] = [
     ("WITH", Mark::With),
     ("AS", Mark::As),
     ("UNION", Mark::Union),
@@ -26,6 +26,9 @@ const KEYWORDS: [(&str, Mark); 22] = [
     ("THEN", Mark::Then),
     ("ELSE", Mark::Else),
     ("END", Mark::Stop),
+    ("COUNT", Mark::Count),
+    ("SUM", Mark::Sum),
+    ("COALESCE", Mark::Coalesce),
     ("OR", Mark::Operator(Binary::Or)),
     ("AND", Mark::Operator(Binary::And)),
     ("TRUE", Mark::Truth(true)),

@@ -1,14 +1,15 @@
 // Expressions that were read whole.
-ghost use Rattle.std.specs.Prelude.{◌≡◌, IfOk};
-ghost use Rattle.sql_profile.specs.Trees.{placed_node};
-ghost use Rattle.sql_reader.specs.Parts.{binary, choice, in_parens, leaf, minus, negation, not_exists};
-ghost use Rattle.sql_reader.specs.Views.{part_view, selects_view};
+ghost use Rattle.std.specs.Prelude.{◌≡◌, ℕ, IfOk};
+ghost use Rattle.std.specs.Option.{option_map};
+ghost use Rattle.sql_profile.specs.Trees.{placed_node, placed_picked};
+ghost use Rattle.sql_reader.specs.Parts.{binary, choice, in_parens, leaf, minus, negation, not_exists, scalar, scalar_tree};
+ghost use Rattle.sql_reader.specs.Views.{boxed_tree, kept_tree, part_view, scalar_view, selects_view};
 
 use crate::extent::{Extent, deeper, enclosed, flat, greater};
 use crate::levels::level;
-use crate::lists::Selects;
-use nq_model::{Binary, Memory, Unary, boxed};
-use sql_profile::{Expr, ExprNode, Query};
+use crate::lists::{Scalar, Selects};
+use nq_model::{Binary, List, Memory, Unary, boxed};
+use sql_profile::{Expr, ExprNode, Picked, Query, Source};
 use std::alloc::Global;
 
 /// An expression, the level at which it may stand, and how deep it is.
@@ -91,6 +92,37 @@ pub fn not_exists(alloc: Global, place: u64, of: Selects) -> Result<Part, Memory
         },
     )?;
     made(alloc, place, ExprNode::NotExists(query), 3, extent)
+}
+
+/// A scalar query of these sources, and of what it keeps, which is so deep.
+#[tactic(auto, using(crate::proofs::Putting::picked_kept))]
+pub fn scalar(
+    alloc: Global,
+    begun: Scalar,
+    from: List<Source>,
+    keep: Option<Expr>,
+    kept: Extent,
+) -> Result<Part, Memory>
+    ensures { IfOk result (λ whole. part_view whole ≡ scalar (scalar_view begun) from (kept_tree keep) kept.depth) }
+{
+    let Scalar {
+        place,
+        value,
+        extent,
+    } = begun;
+    let whole = deeper(greater(extent, kept))?;
+    let over = boxed(alloc, Picked { from, keep })?;
+    made(alloc, place, total(value, over), 8, whole)
+}
+
+// The sum of a value, or else a count.
+fn total(value: Option<Box<Expr>>, over: Box<Picked>) -> ExprNode
+    ensures { (p : ℕ) → placed_node result p ≡ scalar_tree p (option_map boxed_tree value) (placed_picked over.value).from (placed_picked over.value).keep }
+{
+    match value {
+        Some(value) => ExprNode::Sum { over, value },
+        None => ExprNode::Count(over),
+    }
 }
 
 /// CASE of a test and its two arms.

@@ -1,20 +1,21 @@
-// A token behind a whole query.
+// A token behind a whole query, or behind the sources and the condition of what they belong to.
 ghost use Rattle.std.specs.Prelude.{◌≡◌, [], cond, Some, None};
+ghost use Rattle.sql_reader.specs.Parts.{scalar};
 ghost use Rattle.sql_reader.specs.Stacks.{forms};
-ghost use Rattle.sql_reader.specs.States.{Turns};
-ghost use Rattle.sql_reader.specs.Steps.{On, Position as ReaderPosition, after_query, close_query, end_def, end_main};
+ghost use Rattle.sql_reader.specs.States.{Forms, Turns, Withs};
+ghost use Rattle.sql_reader.specs.Steps.{On, Position as ReaderPosition, after_query, after_ranged, after_scalar, close_query, end_def, end_main};
 ghost use Rattle.sql_reader.specs.Symbols.{token_view};
-ghost use Rattle.sql_reader.specs.Views.{base_view, selects_view};
+ghost use Rattle.sql_reader.specs.Views.{base_view, kept_tree, ranged_view, scalar_view, selects_view};
 
-use crate::extent::{enclosed, greater};
+use crate::extent::{Extent, enclosed, greater};
 use crate::form::Form;
-use crate::lists::{Base, Selects};
-use crate::part::not_exists;
+use crate::lists::{Base, Ranged, Scalar, Selects, add_select};
+use crate::part::{not_exists, scalar};
 use crate::stack::Stack;
 use crate::state::Position;
 use crate::token::{Mark, Symbol, Token};
-use nq_model::Memory;
-use sql_profile::{Query, With};
+use nq_model::{List, Memory};
+use sql_profile::{Expr, Query, Source, With};
 use std::alloc::Global;
 
 /// A token behind a whole query: UNION, or the end of what it stands in.
@@ -96,5 +97,47 @@ fn is_main(base: &Base, stack: &Stack) -> bool
     match (stack.top(), &base.name) {
         (None, None) => true,
         _ => false,
+    }
+}
+
+/// A token behind the sources and the condition, which is so deep, of what they belong to.
+pub fn after_ranged(
+    alloc: Global,
+    base: &mut Base,
+    stack: &mut Stack,
+    ranged: Ranged,
+    from: List<Source>,
+    keep: Option<Expr>,
+    kept: Extent,
+    token: Token<'_>,
+) -> Result<Option<Position>, Memory>
+    ensures { Turns result (base_view base.new) (forms stack.new.levels) (after_ranged (ranged_view ranged) from (kept_tree keep) kept.depth (base_view base.old) (forms stack.old.levels) (token_view token.entry)) }
+{
+    match ranged {
+        Ranged::Select(begun) => {
+            let query = add_select(begun, from, keep, kept)?;
+            after_query(alloc, base, stack, query, token)
+        }
+        Ranged::Scalar(begun) => after_scalar(alloc, begun, from, keep, kept, token),
+    }
+}
+
+// The `)` of a scalar query.
+fn after_scalar(
+    alloc: Global,
+    begun: Scalar,
+    from: List<Source>,
+    keep: Option<Expr>,
+    kept: Extent,
+    token: Token<'_>,
+) -> Result<Option<Position>, Memory>
+    ensures { (b : Withs) (k : Forms) → Turns result b k (after_scalar b k (scalar (scalar_view begun) from (kept_tree keep) kept.depth) (token_view token.entry)) }
+{
+    match token.symbol {
+        Symbol::Mark(Mark::Closing) => {
+            let part = scalar(alloc, begun, from, keep, kept)?;
+            Ok(Some(Position::Have { part }))
+        }
+        _ => Ok(None),
     }
 }

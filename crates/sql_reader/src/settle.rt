@@ -23,14 +23,15 @@ fn ends(form: &Form, token: Token<'_>) -> bool
         Form::Minus { .. } => true,
         Form::Not { .. } => binds(token) <= 2,
         Form::Right { op, .. } => binds(token) <= level(*op),
-        Form::Paren
+        Form::Paren { .. }
         | Form::When { .. }
         | Form::Then { .. }
         | Form::Else { .. }
         | Form::Item { .. }
         | Form::OrderKey { .. }
         | Form::Where { .. }
-        | Form::NotExists { .. } => false,
+        | Form::NotExists { .. }
+        | Form::Sum { .. } => false,
     }
 }
 
@@ -42,14 +43,15 @@ fn joined(alloc: Global, form: Form, last: Part) -> Result<Part, Memory>
         Form::Minus { place } => minus(alloc, place, last),
         Form::Not { place } => negation(alloc, place, last),
         Form::Right { left, place, op } => binary(alloc, left, place, op, last),
-        Form::Paren
+        Form::Paren { .. }
         | Form::When { .. }
         | Form::Then { .. }
         | Form::Else { .. }
         | Form::Item { .. }
         | Form::OrderKey { .. }
         | Form::Where { .. }
-        | Form::NotExists { .. } => Ok(last),
+        | Form::NotExists { .. }
+        | Form::Sum { .. } => Ok(last),
     }
 }
 

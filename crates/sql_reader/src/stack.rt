@@ -1,12 +1,12 @@
 // The unfinished forms, and how deep the text is in which they stand.
 ghost use Rattle.std.specs.Prelude.{◌≡◌, IfOk, ◌∷◌, []};
-ghost use Rattle.sql_reader.specs.Needs.{begun_depth, height, held, needs, size};
+ghost use Rattle.sql_reader.specs.Needs.{begun_depth, height, held, needs, ranged_depth, size};
 ghost use Rattle.sql_reader.specs.Stacks.{form_view, forms, marks, needed, Popped, TopIs};
-ghost use Rattle.sql_reader.specs.Views.{begun_view};
+ghost use Rattle.sql_reader.specs.Views.{begun_view, ranged_view};
 
 use crate::extent::one_more;
 use crate::form::Form;
-use crate::lists::Begun;
+use crate::lists::{Begun, Ranged};
 use nq_model::{List, Memory};
 use std::alloc::Global;
 
@@ -33,6 +33,16 @@ pub fn begun_depth(begun: &Begun) -> Result<u64, Memory>
     Ok(begun.before.extent.depth.max(depth))
 }
 
+/// The same of a SELECT or a scalar query.
+pub fn ranged_depth(ranged: &Ranged) -> Result<u64, Memory>
+    ensures { IfOk result (λ deep. deep ≡ ranged_depth (ranged_view ranged.now)) }
+{
+    match ranged {
+        Ranged::Select(begun) => begun_depth(begun),
+        Ranged::Scalar(scalar) => one_more(scalar.extent.depth),
+    }
+}
+
 // How deep the form is at least for what it holds.
 fn held(form: &Form) -> Result<u64, Memory>
     ensures { IfOk result (λ deep. deep ≡ held (form_view form.now)) }
@@ -46,12 +56,13 @@ fn held(form: &Form) -> Result<u64, Memory>
             let depth = one_more(keys.extent.depth)?;
             Ok(begun_depth(begun)?.max(depth))
         }
-        Form::Where { begun, .. } => begun_depth(begun),
-        Form::Paren
+        Form::Where { ranged, .. } => ranged_depth(ranged),
+        Form::Paren { .. }
         | Form::Minus { .. }
         | Form::Not { .. }
         | Form::When { .. }
-        | Form::NotExists { .. } => Ok(0),
+        | Form::NotExists { .. }
+        | Form::Sum { .. } => Ok(0),
     }
 }
 

@@ -1,9 +1,30 @@
 // Where the reader stands in a text.
-use crate::lists::{Base, Begun, Name, Selects, Value};
+use crate::lists::{Base, Name, Ranged, Scalar, Selects, Value};
 use crate::part::Part;
 use crate::stack::Stack;
 use nq_model::List;
 use sql_profile::Source;
+
+/// What was read of the head of a scalar query, the last token: SELECT, COUNT, its `(`, `*`, COALESCE, its `(`,
+/// or SUM.
+#[derive(Clone, Copy)]
+pub enum Head {
+    Select,
+    Count,
+    CountOpen,
+    CountStar,
+    Coalesce,
+    CoalesceOpen,
+    Sum,
+}
+
+/// What was read behind a summed expression, the last token: `)`, `,` or `0`.
+#[derive(Clone, Copy)]
+pub enum Tail {
+    Close,
+    Comma,
+    Zero,
+}
 
 /// What was read last, inside the unfinished forms.
 #[derive(Drop)]
@@ -60,25 +81,35 @@ pub enum Position {
     AtAs {
         value: Value,
     },
-    /// Whole items, and then whole sources, of which there may be none.
+    /// Whole items or the head of a scalar query, and then whole sources, of which there may be none.
     HaveItems {
-        begun: Begun,
+        ranged: Ranged,
         from: List<Source>,
     },
     /// FROM or a comma: a source has to come.
     AtSource {
-        begun: Begun,
+        ranged: Ranged,
         from: List<Source>,
     },
     AtSourceName {
-        begun: Begun,
+        ranged: Ranged,
         from: List<Source>,
         table: Name,
     },
     AtSourceAs {
-        begun: Begun,
+        ranged: Ranged,
         from: List<Source>,
         table: Name,
+    },
+    /// The head of a scalar query, which has the place of its `(`.
+    AtHead {
+        place: u64,
+        head: Head,
+    },
+    /// A scalar query behind the expression that it sums.
+    AtTail {
+        scalar: Scalar,
+        tail: Tail,
     },
     AtSemi {
         query: Selects,

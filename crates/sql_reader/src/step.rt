@@ -12,9 +12,9 @@ use crate::between::{
 };
 use crate::lists::Base;
 use crate::numbering::{at_order, at_over, at_row, at_row_close, at_row_open, at_value, in_over};
-use crate::selects::{
-    at_alias, at_as, at_source, at_start, at_table, at_union, behind_with, have_items, start_select,
-};
+use crate::scalars::{at_head, at_tail};
+use crate::selects::{at_as, at_start, at_union, behind_with, start_select};
+use crate::sources::{at_alias, at_source, at_table, have_items};
 use crate::stack::Stack;
 use crate::state::Position;
 use crate::token::Token;
@@ -53,10 +53,20 @@ pub fn step(
         Position::AtOrder => at_order(alloc, stack, token),
         Position::AtValue { value } => Ok(at_value(value, token)),
         Position::AtAs { value } => at_as(alloc, stack, value, token),
-        Position::HaveItems { begun, from } => have_items(alloc, base, stack, begun, from, token),
-        Position::AtSource { begun, from } => at_source(alloc, begun, from, token),
-        Position::AtSourceName { begun, from, table } => Ok(at_table(begun, from, table, token)),
-        Position::AtSourceAs { begun, from, table } => at_alias(alloc, begun, from, table, token),
+        Position::HaveItems { ranged, from } => have_items(alloc, base, stack, ranged, from, token),
+        Position::AtSource { ranged, from } => at_source(alloc, ranged, from, token),
+        Position::AtSourceName {
+            ranged,
+            from,
+            table,
+        } => Ok(at_table(ranged, from, table, token)),
+        Position::AtSourceAs {
+            ranged,
+            from,
+            table,
+        } => at_alias(alloc, ranged, from, table, token),
+        Position::AtHead { place, head } => at_head(alloc, stack, head, place, token),
+        Position::AtTail { scalar, tail } => Ok(at_tail(alloc, tail, scalar, token)),
         Position::AtSemi { query } => Ok(at_semi(query, token)),
         Position::Ready { .. } => Ok(None),
     }

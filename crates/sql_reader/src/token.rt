@@ -39,6 +39,9 @@ pub enum Mark {
     Then,
     Else,
     Stop,
+    Count,
+    Sum,
+    Coalesce,
 }
 
 /// What a token says. A literal is as it is spelled between its quotes.
