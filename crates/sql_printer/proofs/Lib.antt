@@ -1,3 +1,4 @@
 pub mod Quotes
 pub mod Items
 pub mod Texts
+pub mod Totals

@@ -1,9 +1,8 @@
 -- Whole texts, written one piece after another.
-use Rattle.std.proofs.Common.{◌≡◌, ℕ, List, [], ◌++◌, length, map, refl, sym, ap, ◌∙◌, subst, append_assoc}
+use Rattle.std.proofs.Common.{◌≡◌, ℕ, List, [], ◌++◌, length, map, sym, ap, ◌∙◌, subst, append_assoc}
 use Rattle.std.specs.Str.{IsUtf8}
 use Rattle.std.proofs.lemmas.Simd.{map-map}
 use Rattle.sql_profile.specs.declared.tree.SqlText.{SqlText}
-use Rattle.sql_profile.specs.declared.tree.With.{With}
 use Rattle.sql_profile.specs.Printed.{printed, printed_query, printed_withs}
 use Rattle.sql_profile.specs.Spellable.{IsSpellable}
 use Rattle.sql_profile.specs.Texts.{Spells}

@@ -1,13 +1,14 @@
 // Expressions.
-ghost use Rattle.std.specs.Prelude.{◌≡◌, ◌++◌, OnOk, string_bytes};
-ghost use Rattle.sql_profile.specs.Printed.{before_operand, between_operands, printed_expr, printed_keys};
-ghost use Rattle.sql_profile.specs.Parts.{exprs_tree};
+ghost use Rattle.std.specs.Prelude.{◌≡◌, ◌++◌, OnOk, codes, string_bytes};
+ghost use Rattle.sql_profile.specs.Printed.{before_operand, between_operands, printed_expr, printed_from, printed_keep, printed_keys};
+ghost use Rattle.sql_profile.specs.Parts.{exprs_tree, picked_from, picked_keep};
 ghost use Rattle.sql_profile.specs.Trees.{column, expr_tree, not_exists, query_tree, unary};
 
+use crate::from::put_from;
 use crate::literal::{put_lead, put_literal, put_name, put_truth};
-use crate::query::put_query;
+use crate::query::{put_keep, put_query};
 use nq_model::{Binary, Label, Memory, Unary};
-use sql_profile::{Expr, ExprNode, Query};
+use sql_profile::{Expr, ExprNode, Picked, Query};
 
 // The expression, with each operation in parentheses.
 #[cycle(put)]
@@ -32,6 +33,15 @@ pub(crate) fn put_expr(text: &mut String, expr: &Expr) -> Result<(), Memory>
             put_part(text, no, " END")
         }
         ExprNode::NotExists(query) => put_not_exists(text, query),
+        ExprNode::Count(over) => {
+            text.push_str("(SELECT COUNT(*)")?;
+            put_picked(text, over)
+        }
+        ExprNode::Sum { over, value } => {
+            text.push_str("(SELECT COALESCE(SUM(")?;
+            put_part(text, value, "), 0)")?;
+            put_picked(text, over)
+        }
     }
 }
 
@@ -69,6 +79,17 @@ fn put_not_exists(text: &mut String, query: &Query) -> Result<(), Memory>
     text.push_str("(NOT EXISTS (")?;
     put_query(text, query)?;
     text.push_str("))")?;
+    Ok(())
+}
+
+// The sources and the condition of a scalar query, and its end.
+#[cycle(put)]
+fn put_picked(text: &mut String, over: &Picked) -> Result<(), Memory>
+    ensures { OnOk result (string_bytes text.new ≡ string_bytes text.old ++ (printed_from (picked_from over.now) ++ (printed_keep (picked_keep over.now) ++ codes ")"))) }
+{
+    put_from(text, over.from.as_slice())?;
+    put_keep(text, &over.keep)?;
+    text.push_str(")")?;
     Ok(())
 }
 

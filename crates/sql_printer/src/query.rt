@@ -34,7 +34,7 @@ fn put_select(text: &mut String, select: &Select) -> Result<(), Memory>
 
 // WHERE and the condition, if there is one.
 #[cycle(put)]
-fn put_keep(text: &mut String, keep: &Option<Expr>) -> Result<(), Memory>
+pub(crate) fn put_keep(text: &mut String, keep: &Option<Expr>) -> Result<(), Memory>
     ensures { OnOk result (string_bytes text.new ≡ string_bytes text.old ++ printed_keep (keep_tree keep.now)) }
 {
     if let Some(condition) = keep {

@@ -24,7 +24,7 @@ drop_step (y ∷ ys) zero x h e = ap (λ z. z ∷ ys) (sym e)
 drop_step (y ∷ ys) (suc i) x h e =
     let n : suc (i + 1) ≡ suc i + 1 = omega arith in drop_step ys i x (omega (arith, h)) e ∙ ap (λ m. x ∷ drop m (y ∷ ys)) n
 
-faults_on : {A B : Type 0} (v : Verdict A) (w : Verdict B) (e : ScopeFault) → ((rule place : ℕ) → v ≡ Broken rule place → w ≡ Broken rule place) → Faults v e → Faults w e
+pub faults_on : {A B : Type 0} (v : Verdict A) (w : Verdict B) (e : ScopeFault) → ((rule place : ℕ) → v ≡ Broken rule place → w ≡ Broken rule place) → Faults v e → Faults w e
 faults_on v w fault.Memory f h = tt
 faults_on v w (fault.Broken rule place) f h = f rule place h
 

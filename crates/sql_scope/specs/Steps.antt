@@ -3,11 +3,13 @@ use Rattle.std.specs.Prelude.{◌≡◌, ℕ, ⊤, cond, List, [], ◌++◌, map
 use Rattle.std.specs.Borrow.{Bor}
 use Rattle.std.specs.Option.{option_map}
 use Rattle.nq_model.specs.Tables.{Columns, types_of}
+use Rattle.nq_model.specs.declared.table.ColumnType.{ColumnType}
+use Rattle.nq_model.specs.declared.table.ColumnType.TheVariants.{Int}
 use Rattle.sql_profile.specs.declared.tree.Expr.{Expr}
 use Rattle.sql_profile.specs.declared.tree.Item.{Item}
 use Rattle.sql_profile.specs.declared.tree.Source.{Source}
-use Rattle.sql_profile.specs.Scope.{Aliases, Broken, Fine, Shapes, Verdict, and_then, found, judge_items, judge_keep, or_broken, same_types, unless}
-use Rattle.sql_profile.specs.Trees.{PlacedExprs, PlacedItems, PlacedKeep, PlacedSelect, select_at, exprs_of, items_of, keep_of, placed_expr, placed_item}
+use Rattle.sql_profile.specs.Scope.{Aliases, Broken, Fine, Shapes, Verdict, and_then, expr_place, found, judge_expr, judge_items, judge_keep, judge_sources, or_broken, same_types, unless, wants}
+use Rattle.sql_profile.specs.Trees.{PlacedExpr, PlacedExprs, PlacedItems, PlacedKeep, PlacedPicked, PlacedSelect, select_at, exprs_of, items_of, keep_of, placed_expr, placed_item}
 use Rattle.sql_scope.specs.declared.fault.ScopeFault.{ScopeFault}
 use Rattle.sql_scope.specs.declared.fault.ScopeFault.TheVariants as fault
 use Rattle.sql_scope.specs.declared.aliases.Scope.{Scope}
@@ -62,3 +64,11 @@ judge_parts ts env (select_at p is from keep) = and_then (judge_keep ts env keep
 -- the items of a SELECT where the aliases of its FROM are seen
 abbrev pub judge_columns : Shapes → Aliases → PlacedSelect → Verdict Columns
 judge_columns ts env (select_at p is from keep) = judge_items ts env [] is
+
+-- the aliases of a scalar query: its sources, then WHERE where these are seen
+abbrev pub judge_picked : Shapes → Aliases → PlacedPicked → Verdict Aliases
+judge_picked ts env over = and_then (judge_sources ts [] over.from) (λ own. and_then (judge_keep ts (own ++ env) over.keep) (λ k. Fine own))
+
+-- the value of a scalar query where its aliases are seen
+abbrev pub judge_summed : Shapes → Aliases → PlacedExpr → Verdict ColumnType
+judge_summed ts env e = and_then (judge_expr ts env e) (λ i. wants Int i 10 (expr_place e))

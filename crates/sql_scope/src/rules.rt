@@ -1,7 +1,7 @@
 // The rules of expressions, each at the types of its parts.
 ghost use Rattle.std.specs.Prelude.{◌≡◌};
 ghost use Rattle.nq_model.specs.Operators.{binary_type, unary_type};
-ghost use Rattle.nq_model.specs.declared.table.ColumnType.TheVariants.{Bool as truth};
+ghost use Rattle.nq_model.specs.declared.table.ColumnType.TheVariants.{Bool as truth, Int as number};
 ghost use Rattle.sql_profile.specs.Scope.{choose_type, column_type, found, or_broken, wants};
 ghost use Rattle.sql_scope.specs.Steps.{Gives, aliases_in};
 
@@ -62,6 +62,15 @@ pub(crate) fn choice(
         Ok(yes)
     } else {
         Err(ScopeFault::Broken { rule: 6, place })
+    }
+}
+
+pub(crate) fn summed(place: u64, given: ColumnType) -> Result<ColumnType, ScopeFault>
+    ensures { Gives result (wants number given 10 place) }
+{
+    match given {
+        ColumnType::Int => Ok(ColumnType::Int),
+        ColumnType::Bool | ColumnType::Text => Err(ScopeFault::Broken { rule: 10, place }),
     }
 }
 

@@ -1,8 +1,8 @@
 // The walk over expressions and queries in judging order.
 ghost use Rattle.std.specs.Prelude.{◌≡◌, [], IfErr, IfOk};
 ghost use Rattle.sql_profile.specs.Scope.{Fine, judge_expr, judge_items, judge_keep, judge_keys, judge_query, judge_select, judge_sources, judge_value};
-ghost use Rattle.sql_profile.specs.Trees.{placed_expr, placed_query, placed_select, placed_value};
-ghost use Rattle.sql_scope.specs.Steps.{Faults, Gives, aliases_in, alike, bounds, judge_columns, judge_parts, judge_source, placed_items, placed_keep, placed_keys};
+ghost use Rattle.sql_profile.specs.Trees.{placed_expr, placed_picked, placed_query, placed_select, placed_value};
+ghost use Rattle.sql_scope.specs.Steps.{Faults, Gives, aliases_in, alike, bounds, judge_columns, judge_parts, judge_picked, judge_source, judge_summed, placed_items, placed_keep, placed_keys};
 
 use crate::aliases::{Scope, Sources};
 use crate::fault::ScopeFault;
@@ -10,7 +10,7 @@ use crate::names::{Columns, Names};
 use crate::rules;
 use crate::tables::Tables;
 use nq_model::ColumnType;
-use sql_profile::{Expr, ExprNode, Item, ItemValue, Query, Select, Source};
+use sql_profile::{Expr, ExprNode, Item, ItemValue, Picked, Query, Select, Source};
 use std::alloc::Global;
 
 // The columns of a whole query, where no alias is seen.
@@ -59,7 +59,49 @@ fn judge_expr<'t, 'a>(
             judge_query(alloc, tables, scope, query)?;
             Ok(ColumnType::Bool)
         }
+        ExprNode::Count(over) => {
+            judge_picked(alloc, tables, scope, over)?;
+            Ok(ColumnType::Int)
+        }
+        ExprNode::Sum { over, value } => {
+            let own = judge_picked(alloc, tables, scope, over)?;
+            let inner = Scope::Inner(&own, &*scope);
+            judge_summed(alloc, tables, &inner, value)
+        }
     }
+}
+
+// The aliases of a scalar query, whose condition, if there is one, is a truth value.
+#[cycle(judge)]
+fn judge_picked<'t, 'a>(
+    alloc: Global,
+    tables: &'t Tables<'a>,
+    scope: &Scope<'_, 't, 'a>,
+    over: &'a Picked,
+) -> Result<Sources<'t, 'a>, ScopeFault>
+    ensures ok { IfOk result (λ own.
+        judge_picked tables.now (aliases_in scope.now) (placed_picked over.now) ≡ Fine (bounds own)) }
+    ensures err { IfErr result
+        (Faults (judge_picked tables.now (aliases_in scope.now) (placed_picked over.now))) }
+{
+    let own = judge_sources(alloc, tables, over.from.as_slice())?;
+    let inner = Scope::Inner(&own, &*scope);
+    judge_keep(alloc, tables, &inner, &over.keep)?;
+    Ok(own)
+}
+
+// The summed expression of a scalar query, where the aliases of its FROM are seen, is an int.
+#[cycle(judge)]
+fn judge_summed<'t, 'a>(
+    alloc: Global,
+    tables: &'t Tables<'a>,
+    scope: &Scope<'_, 't, 'a>,
+    value: &'a Expr,
+) -> Result<ColumnType, ScopeFault>
+    ensures { Gives result (judge_summed tables.now (aliases_in scope.now) (placed_expr value.now)) }
+{
+    let given = judge_expr(alloc, tables, scope, value)?;
+    rules::summed(value.place, given)
 }
 
 // The columns of a query: those of its first SELECT, as which each further one has to be typed.

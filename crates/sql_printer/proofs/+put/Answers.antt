@@ -4,7 +4,17 @@ use Rattle.sql_profile.specs.Printed.{printed_query}
 use Rattle.sql_profile.proofs.Parts.{query_is}
 use Rattle.sql_printer.proofs.Items.{item_text, items_joined, key_text, keys_joined, parts_end, select_text, selects_joined}
 use Rattle.sql_printer.proofs.Texts.{three_pieces}
+use Rattle.sql_printer.proofs.Totals.{count_printed, on_ok, sum_printed}
 use Rattle.sql_printer.proofs.+put.Goals as goal
+
+pub expr::put_expr-returns-in_ok-push_str-in-Count : goal.expr::put_expr-returns-in_ok-push_str-in-Count
+expr::put_expr-returns-in_ok-push_str-in-Count t c =
+    on_ok c.put_picked.result (count_printed c.args.expr.now c.in-Count.over c.deref-in-Count.result.now c.deref-in-Count.ensures (string_bytes c.args.text.now) _ _ c.in-Count.is c.in_ok-push_str-in-Count.ensures.bytes) c.put_picked.ensures
+
+pub expr::put_expr-returns-in_ok-put_part-in-Sum : goal.expr::put_expr-returns-in_ok-put_part-in-Sum
+expr::put_expr-returns-in_ok-put_part-in-Sum t c =
+    on_ok c.put_picked-in-Sum.result (sum_printed c.args.expr.now c.in-Sum.over c.deref-in-Sum-2.result.now c.deref-in-Sum-2.ensures c.in-Sum.value c.deref-in-Sum.result.now (string_bytes c.args.text.now) _ _ _ c.deref-in-Sum.ensures c.in-Sum.is
+    c.in_ok-push_str-in-Sum.ensures.bytes c.in_ok-put_part-in-Sum.ensures) c.put_picked-in-Sum.ensures
 
 pub expr::put_keys-returns : goal.expr::put_keys-returns
 expr::put_keys-returns t c =

@@ -1,7 +1,8 @@
 use Rattle.std.proofs.Common.{◌∙◌, sym}
-use Rattle.sql_scope.specs.Steps.{aliases_in}
-use Rattle.sql_scope.proofs.Selects.{select_gives}
-use Rattle.sql_scope.proofs.Turns.{among_looked, given_on, items_faulty, items_end, items_go_on, items_twice}
+use Rattle.sql_profile.specs.Trees.{placed_picked}
+use Rattle.sql_scope.specs.Steps.{Faults, aliases_in, judge_picked}
+use Rattle.sql_scope.proofs.Selects.{count_fine, count_faulty, picked_fine, picked_faulty, select_gives, sum_faulty, sum_gives}
+use Rattle.sql_scope.proofs.Turns.{among_looked, given_on, handed_on, items_faulty, items_end, items_go_on, items_twice}
 use Rattle.sql_scope.proofs.walk.+judge.Goals as goal
 
 pub judge_items-returns-then-is_some : goal.judge_items-returns-then-is_some
@@ -25,3 +26,31 @@ judge_items-returns-in_err-ty t c =
 
 pub judge_select-returns : goal.judge_select-returns
 judge_select-returns t c = select_gives c.args.tables.now c.args.select.now _ _ c.judge_parts.result c.judge_parts.ensures (rw c.as_slice.ensures at c.in_ok-own.ensures.ok)
+
+pub judge_picked-returns-clause-ok : goal.judge_picked-returns-clause-ok
+judge_picked-returns-clause-ok t c =
+    picked_fine c.args.tables.now c.args.over.now _ _ _ (rw c.as_slice.ensures at c.in_ok-own.ensures.ok) c.in_ok-judge_keep.ensures
+
+pub judge_picked-returns-in_err-judge_keep-clause-err : goal.judge_picked-returns-in_err-judge_keep-clause-err
+judge_picked-returns-in_err-judge_keep-clause-err t c =
+    handed_on c.from_residual-in_err-judge_keep.result c.in_err-judge_keep.field-0.0 (Faults (judge_picked c.args.tables.now (aliases_in c.args.scope.now) (placed_picked c.args.over.now))) c.from_residual-in_err-judge_keep.ensures.1
+    (picked_faulty c.args.tables.now c.args.over.now _ _ c.in_err-judge_keep.field-0.0 (rw c.as_slice.ensures at c.in_ok-own.ensures.ok) c.in_err-judge_keep.ensures)
+
+pub judge_expr-returns-in_ok-judge_picked-in-Count : goal.judge_expr-returns-in_ok-judge_picked-in-Count
+judge_expr-returns-in_ok-judge_picked-in-Count t c =
+    count_fine c.args.tables.now (aliases_in c.args.scope.now) c.args.expr.now c.in-Count.over c.deref-in-Count.result.now c.deref-in-Count.ensures _ c.in-Count.is c.in_ok-judge_picked-in-Count.ensures.ok
+
+pub judge_expr-returns-in_err-judge_picked-in-Count : goal.judge_expr-returns-in_err-judge_picked-in-Count
+judge_expr-returns-in_err-judge_picked-in-Count t c =
+    given_on c.from_residual-in_err-judge_picked-in-Count.result c.in_err-judge_picked-in-Count.field-0.0 _ c.from_residual-in_err-judge_picked-in-Count.ensures.1
+    (count_faulty c.args.tables.now (aliases_in c.args.scope.now) c.args.expr.now c.in-Count.over c.deref-in-Count.result.now c.deref-in-Count.ensures c.in_err-judge_picked-in-Count.field-0.0 c.in-Count.is c.in_err-judge_picked-in-Count.ensures.err)
+
+pub judge_expr-returns-in_ok-own-in-Sum : goal.judge_expr-returns-in_ok-own-in-Sum
+judge_expr-returns-in_ok-own-in-Sum t c =
+    sum_gives c.args.tables.now c.args.expr.now c.in-Sum.over c.in-Sum.value c.deref-in-Sum.result.now c.deref-in-Sum-2.result.now _ _ c.judge_summed.result c.deref-in-Sum.ensures c.deref-in-Sum-2.ensures c.in-Sum.is
+    c.in_ok-own-in-Sum.ensures.ok c.judge_summed.ensures
+
+pub judge_expr-returns-in_err-own-in-Sum : goal.judge_expr-returns-in_err-own-in-Sum
+judge_expr-returns-in_err-own-in-Sum t c =
+    given_on c.from_residual-in_err-own-in-Sum.result c.in_err-own-in-Sum.field-0.0 _ c.from_residual-in_err-own-in-Sum.ensures.1
+    (sum_faulty c.args.tables.now (aliases_in c.args.scope.now) c.args.expr.now c.in-Sum.over c.in-Sum.value c.deref-in-Sum.result.now c.in_err-own-in-Sum.field-0.0 c.deref-in-Sum.ensures c.in-Sum.is c.in_err-own-in-Sum.ensures.err)
