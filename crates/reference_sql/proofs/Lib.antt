@@ -4,3 +4,4 @@ pub mod Choices
 pub mod Parts
 pub mod Besides
 pub mod Evaluating
+pub mod Sums

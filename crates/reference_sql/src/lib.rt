@@ -7,6 +7,7 @@ mod evaluate;
 mod key_order;
 mod number;
 mod scope;
+mod totals;
 mod values;
 
 pub use evaluate::evaluate_text;

@@ -27,3 +27,4 @@ pub mod Marking
 pub mod Sources
 pub mod Meeting
 pub mod Naming
+pub mod Remembering

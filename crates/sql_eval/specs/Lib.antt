@@ -1,10 +1,14 @@
 pub mod Scopes
 pub mod Lists
+pub mod RowNames
+pub mod Naming
+pub mod Remembering
 pub mod Combinations
 pub mod Scalars
 pub mod Sifting
 pub mod Conditions
 pub mod Chains
+pub mod Recalling
 pub mod Keys
 pub mod Joins
 pub mod Asking
@@ -15,4 +19,3 @@ pub mod Walking
 pub mod Dealing
 pub mod Columns
 pub mod Making
-pub mod Naming
