@@ -1,7 +1,9 @@
 // The typing rules, each at the types of a node's parts.
 ghost use Rattle.std.specs.Prelude.{◌≡◌, OnOk, IfErr, true, option_map};
 ghost use Rattle.nq_model.specs.Types.{type_tree, is_well_formed, are_well_formed, field_types_of, fields_view};
-ghost use Rattle.nq_model.specs.TypeOf.{unary_given, binary_given, choice_given, application_given, field_given, test_given, bag_given, union_given, body_given, guard_given, parameter_given, element_of};
+ghost use Rattle.nq_model.specs.Typing.{aggregate_type};
+ghost use Rattle.nq_model.specs.TypeOf.{unary_given, binary_given, choice_given, application_given, field_given, aggregate_given, bag_given, union_given, body_given, guard_given, parameter_given, element_of};
+ghost use Rattle.nq_model.specs.Terms.{Emptiness, Count, Sum};
 ghost use Rattle.nq_model.specs.Judging.{by_rule, unary_rule, binary_rule};
 ghost use Rattle.nq_types.specs.Steps.{Gives, Faults};
 
@@ -121,11 +123,39 @@ pub(crate) fn field(alloc: Global, place: u64, of: &Ty, label: &Label) -> Result
 }
 
 pub(crate) fn emptiness(place: u64, of: &Ty) -> Result<Ty, CheckFault>
-    ensures { Gives result (by_rule 16 place (test_given (type_tree of.now))) }
+    ensures { Gives result (by_rule 16 place (aggregate_given Emptiness (type_tree of.now))) }
 {
     match of {
         Ty::Bag(_) => Ok(Ty::Bool),
         _ => Err(CheckFault::Ill { rule: 16, place }),
+    }
+}
+
+pub(crate) fn count(place: u64, of: &Ty) -> Result<Ty, CheckFault>
+    ensures { Gives result (by_rule 24 place (aggregate_given Count (type_tree of.now))) }
+{
+    match of {
+        Ty::Bag(_) => Ok(Ty::Int),
+        _ => Err(CheckFault::Ill { rule: 24, place }),
+    }
+}
+
+pub(crate) fn sum(place: u64, of: &Ty) -> Result<Ty, CheckFault>
+    ensures { Gives result (by_rule 25 place (aggregate_given Sum (type_tree of.now))) }
+{
+    match of {
+        Ty::Bag(element) => sum_over(place, element),
+        _ => Err(CheckFault::Ill { rule: 25, place }),
+    }
+}
+
+// The type of a sum over a bag of elements of this type.
+fn sum_over(place: u64, element: &Ty) -> Result<Ty, CheckFault>
+    ensures { Gives result (by_rule 25 place (aggregate_type Sum (type_tree element.now))) }
+{
+    match element {
+        Ty::Int => Ok(Ty::Int),
+        _ => Err(CheckFault::Ill { rule: 25, place }),
     }
 }
 

@@ -78,6 +78,14 @@ fn check_node(
             let of = check_term(alloc, tables, scope, of)?;
             rules::emptiness(place, &of)
         }
+        Node::Count(of) => {
+            let of = check_term(alloc, tables, scope, of)?;
+            rules::count(place, &of)
+        }
+        Node::Sum(of) => {
+            let of = check_term(alloc, tables, scope, of)?;
+            rules::sum(place, &of)
+        }
         Node::Single(of) => {
             let element = check_term(alloc, tables, scope, of)?;
             rules::single(alloc, place, element)

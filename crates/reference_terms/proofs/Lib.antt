@@ -1,3 +1,4 @@
+mod Adding
 mod Bags
 mod Fields
 mod Loops

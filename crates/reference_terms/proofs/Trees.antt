@@ -1,5 +1,5 @@
--- Terms by their nodes, and what is seen of truth values and of bags that are empty.
-use Rattle.std.proofs.Common.{◌≡◌, ◌↔◌, IsTrue, Bool, true, false, List, [], ◌∷◌, map, refl, sym, ap, ◌∙◌}
+-- Terms by their nodes, and what is seen of numbers, of truth values and of bags that are empty.
+use Rattle.std.proofs.Common.{◌≡◌, ◌↔◌, IsTrue, ℤ, Bool, true, false, List, [], ◌∷◌, map, refl, sym, ap, ◌∙◌}
 use Rattle.nq_model.specs.Meaning.{is_none}
 use Rattle.nq_model.specs.Terms.{bare, term_tree, node_tree}
 use Rattle.nq_model.specs.Values.{Nested, base, value_layer, nested}
@@ -11,6 +11,9 @@ use Rattle.nq_model.specs.declared.value.Value.TheVariants as value
 
 pub term_node : (t : Term) → term_tree t ≡ node_tree t.node
 term_node t = ap bare (placed_term t)
+
+pub nested_number : (n : ℤ) → nested (value.Int n) ≡ base (cell.Int n)
+nested_number n = ap nested (sym (value.rolls-Int n)) ∙ fold-roll-Value Nested value_layer (Value-F.Int n)
 
 pub nested_truth : (b : Bool) → nested (value.Bool b) ≡ base (cell.Bool b)
 nested_truth b = ap nested (sym (value.rolls-Bool b)) ∙ fold-roll-Value Nested value_layer (Value-F.Bool b)

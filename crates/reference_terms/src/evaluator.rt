@@ -12,6 +12,7 @@ use crate::elements::{append, elements_in};
 use crate::records::{field_in, put_field};
 use crate::scope::Scope;
 use crate::tables::table_meaning;
+use crate::totals::{count, sum};
 use nq_model::{
     Label, List, Memory, Node, Schema, Term, Value, binary_value, is_true, unary_value,
 };
@@ -66,6 +67,14 @@ pub fn evaluate(
         Node::Empty(of) => {
             let elements = elements_in(alloc, evaluate(alloc, schema, tables, scope, of)?);
             Ok(Value::Bool(elements.is_empty()))
+        }
+        Node::Count(of) => {
+            let elements = elements_in(alloc, evaluate(alloc, schema, tables, scope, of)?);
+            Ok(Value::Int(count(elements)))
+        }
+        Node::Sum(of) => {
+            let elements = elements_in(alloc, evaluate(alloc, schema, tables, scope, of)?);
+            Ok(Value::Int(sum(elements)))
         }
         Node::Single(of) => {
             let mut elements = List::new(alloc);

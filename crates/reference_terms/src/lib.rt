@@ -12,6 +12,7 @@ mod shift;
 mod stepper;
 mod subst;
 mod tables;
+mod totals;
 
 pub use contraction::Stepped;
 pub use evaluator::evaluate;

@@ -100,6 +100,14 @@ pub(crate) fn shift(alloc: Global, term: &Term, by: u64, from: u64) -> Result<Te
             place,
             node: Node::Empty(shift_box(alloc, of, by, from)?),
         }),
+        Node::Count(of) => Ok(Term {
+            place,
+            node: Node::Count(shift_box(alloc, of, by, from)?),
+        }),
+        Node::Sum(of) => Ok(Term {
+            place,
+            node: Node::Sum(shift_box(alloc, of, by, from)?),
+        }),
         Node::Single(of) => Ok(Term {
             place,
             node: Node::Single(shift_box(alloc, of, by, from)?),

@@ -74,6 +74,14 @@ pub fn step(alloc: Global, term: Term) -> Result<Stepped, Memory>
             let (moved, of) = step_box(alloc, false, of)?;
             Ok(stepped(moved, place, Node::Empty(of)))
         }
+        Node::Count(of) => {
+            let (moved, of) = step_box(alloc, false, of)?;
+            Ok(stepped(moved, place, Node::Count(of)))
+        }
+        Node::Sum(of) => {
+            let (moved, of) = step_box(alloc, false, of)?;
+            Ok(stepped(moved, place, Node::Sum(of)))
+        }
         Node::Single(of) => {
             let (moved, of) = step_box(alloc, false, of)?;
             Ok(stepped(moved, place, Node::Single(of)))

@@ -85,6 +85,14 @@ pub(crate) fn subst(alloc: Global, term: &Term, by: &Term, from: u64) -> Result<
             place,
             node: Node::Empty(subst_box(alloc, of, by, from)?),
         }),
+        Node::Count(of) => Ok(Term {
+            place,
+            node: Node::Count(subst_box(alloc, of, by, from)?),
+        }),
+        Node::Sum(of) => Ok(Term {
+            place,
+            node: Node::Sum(subst_box(alloc, of, by, from)?),
+        }),
         Node::Single(of) => Ok(Term {
             place,
             node: Node::Single(subst_box(alloc, of, by, from)?),

@@ -6,7 +6,7 @@ use Rattle.std.proofs.Common.{◌≡◌, ℕ, List, Option, Some, None, refl, sy
 use Rattle.nq_model.specs.Types.{TypeTree}
 use Rattle.nq_model.specs.declared.term.Unary.{Unary}
 use Rattle.nq_model.specs.declared.term.Binary.{Binary}
-use Rattle.nq_model.specs.Terms.{PlacedTerm, PlacedNode, PlacedFields, at, bare, bare_fields}
+use Rattle.nq_model.specs.Terms.{PlacedTerm, PlacedNode, PlacedFields, at, bare, bare_fields, Aggregate}
 use Rattle.nq_model.specs.Substitution.{subst}
 use Rattle.nq_model.specs.Unfolding.{contract_apply, contract_field, step, Chain, Steps, Unfolds}
 use Rattle.unfold.specs.Contractions.{Closure, Contracts, Contractions}
@@ -35,7 +35,7 @@ abbrev mutual
   developed (at p (PlacedNode.apply t u)) = or_else (contract_apply p (developed t) (developed u)) (at p (PlacedNode.apply (developed t) (developed u)))
   developed (at p (PlacedNode.rec fs)) = at p (PlacedNode.rec (fields_developed fs))
   developed (at p (PlacedNode.field t l)) = or_else (contract_field p (developed t) l) (at p (PlacedNode.field (developed t) l))
-  developed (at p (PlacedNode.empty t)) = at p (PlacedNode.empty (developed t))
+  developed (at p (PlacedNode.aggregate g t)) = at p (PlacedNode.aggregate g (developed t))
   developed (at p (PlacedNode.single t)) = at p (PlacedNode.single (developed t))
   developed (at p (PlacedNode.nil a)) = at p (PlacedNode.nil a)
   developed (at p (PlacedNode.union t u)) = at p (PlacedNode.union (developed t) (developed u))
@@ -68,7 +68,7 @@ mutual
   develops_on (Develops.choose h k g) = Develops.choose (develops_on h) (develops_on k) (develops_on g)
   develops_on (Develops.fun h) = Develops.fun (develops_on h)
   develops_on (Develops.rec h) = Develops.rec (fields_develop_on h)
-  develops_on (Develops.empty h) = Develops.empty (develops_on h)
+  develops_on (Develops.aggregate h) = Develops.aggregate (develops_on h)
   develops_on (Develops.single h) = Develops.single (develops_on h)
   develops_on Develops.nil = Develops.nil
   develops_on (Develops.union h k) = Develops.union (develops_on h) (develops_on k)
@@ -133,7 +133,7 @@ mutual
   still_same (Develops.apply {p = p} h k) s = both (λ x y. at p (PlacedNode.apply x y)) (still_same h s.0) (still_same k s.1)
   still_same (Develops.rec {p = p} h) s = ap (λ x. at p (PlacedNode.rec x)) (stills_same h s)
   still_same (Develops.field {p = p} {l = l} h) s = ap (λ x. at p (PlacedNode.field x l)) (still_same h s.0)
-  still_same (Develops.empty {p = p} h) s = ap (λ x. at p (PlacedNode.empty x)) (still_same h s)
+  still_same (Develops.aggregate {p = p} {g = g} h) s = ap (λ x. at p (PlacedNode.aggregate g x)) (still_same h s)
   still_same (Develops.single {p = p} h) s = ap (λ x. at p (PlacedNode.single x)) (still_same h s)
   still_same Develops.nil s = refl
   still_same (Develops.union {p = p} h k) s = both (λ x y. at p (PlacedNode.union x y)) (still_same h s.0) (still_same k s.1)
@@ -205,8 +205,8 @@ reduces_rec {p = p} r = around FieldsDevelop Develops (λ s. at p (PlacedNode.re
 pub reduces_field : {p : ℕ} {l : List ℕ} {t x : PlacedTerm} → Reduces t x → Reduces (at p (PlacedNode.field t l)) (at p (PlacedNode.field x l))
 reduces_field {p = p} {l = l} r = around Develops Develops (λ i. at p (PlacedNode.field i l)) (λ s o h. Develops.field h) r
 
-pub reduces_empty : {p : ℕ} {t x : PlacedTerm} → Reduces t x → Reduces (at p (PlacedNode.empty t)) (at p (PlacedNode.empty x))
-reduces_empty {p = p} r = around Develops Develops (λ i. at p (PlacedNode.empty i)) (λ s o h. Develops.empty h) r
+pub reduces_aggregate : {p : ℕ} {g : Aggregate} {t x : PlacedTerm} → Reduces t x → Reduces (at p (PlacedNode.aggregate g t)) (at p (PlacedNode.aggregate g x))
+reduces_aggregate {p = p} {g = g} r = around Develops Develops (λ i. at p (PlacedNode.aggregate g i)) (λ s o h. Develops.aggregate h) r
 
 pub reduces_single : {p : ℕ} {t x : PlacedTerm} → Reduces t x → Reduces (at p (PlacedNode.single t)) (at p (PlacedNode.single x))
 reduces_single {p = p} r = around Develops Develops (λ i. at p (PlacedNode.single i)) (λ s o h. Develops.single h) r

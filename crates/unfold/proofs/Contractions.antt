@@ -34,7 +34,7 @@ mutual
   step_contracts (at p (PlacedNode.apply t u)) r e = part_case (step t) _ _ r (Contracts (at p (PlacedNode.apply t u))) (λ x e. Contracts.apply_func (step_contracts t x e)) (λ i. part_case (step u) _ _ r (Contracts (at p (PlacedNode.apply t u))) (λ x e. Contracts.apply_arg (step_contracts u x e)) (λ i. Contracts.whole i) i) e
   step_contracts (at p (PlacedNode.rec fs)) r e = part_case (step_fields fs) _ _ r (Contracts (at p (PlacedNode.rec fs))) (λ x e. Contracts.rec_field (step_fields_contract fs x e)) (λ i. cc) e
   step_contracts (at p (PlacedNode.field t l)) r e = part_case (step t) _ _ r (Contracts (at p (PlacedNode.field t l))) (λ x e. Contracts.field_of (step_contracts t x e)) (λ i. Contracts.whole i) e
-  step_contracts (at p (PlacedNode.empty t)) r e = part_case (step t) _ _ r (Contracts (at p (PlacedNode.empty t))) (λ x e. Contracts.empty_of (step_contracts t x e)) (λ i. cc) e
+  step_contracts (at p (PlacedNode.aggregate g t)) r e = part_case (step t) _ _ r (Contracts (at p (PlacedNode.aggregate g t))) (λ x e. Contracts.aggregate_of (step_contracts t x e)) (λ i. cc) e
   step_contracts (at p (PlacedNode.single t)) r e = part_case (step t) _ _ r (Contracts (at p (PlacedNode.single t))) (λ x e. Contracts.single_of (step_contracts t x e)) (λ i. cc) e
   step_contracts (at p (PlacedNode.nil a)) r e = cc
   step_contracts (at p (PlacedNode.union t u)) r e = part_case (step t) _ _ r (Contracts (at p (PlacedNode.union t u))) (λ x e. Contracts.union_left (step_contracts t x e)) (λ i. part_case (step u) _ _ r (Contracts (at p (PlacedNode.union t u))) (λ x e. Contracts.union_right (step_contracts u x e)) (λ i. cc) i) e
@@ -77,7 +77,7 @@ mutual
   contracts_still (Contracts.apply_arg h) s = contracts_still h s.1
   contracts_still (Contracts.rec_field h) s = field_contracts_still h s
   contracts_still (Contracts.field_of h) s = contracts_still h s.0
-  contracts_still (Contracts.empty_of h) s = contracts_still h s
+  contracts_still (Contracts.aggregate_of h) s = contracts_still h s
   contracts_still (Contracts.single_of h) s = contracts_still h s
   contracts_still (Contracts.union_left h) s = contracts_still h s.0
   contracts_still (Contracts.union_right h) s = contracts_still h s.1
@@ -124,7 +124,7 @@ mutual
   contracts_develops (Contracts.apply_arg {v = v} h) = Develops.apply (develops_same v) (contracts_develops h)
   contracts_develops (Contracts.rec_field h) = Develops.rec (field_contracts_develops h)
   contracts_develops (Contracts.field_of h) = Develops.field (contracts_develops h)
-  contracts_develops (Contracts.empty_of h) = Develops.empty (contracts_develops h)
+  contracts_develops (Contracts.aggregate_of h) = Develops.aggregate (contracts_develops h)
   contracts_develops (Contracts.single_of h) = Develops.single (contracts_develops h)
   contracts_develops (Contracts.union_left {v = v} h) = Develops.union (contracts_develops h) (develops_same v)
   contracts_develops (Contracts.union_right {v = v} h) = Develops.union (develops_same v) (contracts_develops h)
@@ -178,7 +178,7 @@ mutual
   develops_contractions (Develops.apply {p = p} h k) = contractions_apply p (develops_contractions h) (develops_contractions k)
   develops_contractions (Develops.rec {p = p} h) = around ContractsField Contracts (λ s. at p (PlacedNode.rec s)) (λ s o k. Contracts.rec_field k) (fields_contractions h)
   develops_contractions (Develops.field {p = p} {l = l} h) = around Contracts Contracts (λ s. at p (PlacedNode.field s l)) (λ s o k. Contracts.field_of k) (develops_contractions h)
-  develops_contractions (Develops.empty {p = p} h) = around Contracts Contracts (λ s. at p (PlacedNode.empty s)) (λ s o k. Contracts.empty_of k) (develops_contractions h)
+  develops_contractions (Develops.aggregate {p = p} {g = g} h) = around Contracts Contracts (λ s. at p (PlacedNode.aggregate g s)) (λ s o k. Contracts.aggregate_of k) (develops_contractions h)
   develops_contractions (Develops.single {p = p} h) = around Contracts Contracts (λ s. at p (PlacedNode.single s)) (λ s o k. Contracts.single_of k) (develops_contractions h)
   develops_contractions Develops.nil = Closure.here
   develops_contractions (Develops.union {p = p} h k) = contractions_union p (develops_contractions h) (develops_contractions k)

@@ -7,7 +7,7 @@ use Rattle.std.specs.Prelude.{option_map}
 use Rattle.nq_model.specs.Types.{TypeTree}
 use Rattle.nq_model.specs.declared.term.Unary.{Unary}
 use Rattle.nq_model.specs.declared.term.Binary.{Binary}
-use Rattle.nq_model.specs.Terms.{PlacedTerm, PlacedNode, PlacedFields, at}
+use Rattle.nq_model.specs.Terms.{PlacedTerm, PlacedNode, PlacedFields, at, Aggregate}
 use Rattle.nq_model.specs.Substitution.{shift, shift_fields, subst, subst_fields}
 use Rattle.nq_model.specs.Unfolding.{picked, contract_apply, contract_field}
 use Rattle.unfold.proofs.Shifts.{shift_subst, subst_subst}
@@ -26,7 +26,7 @@ mutual
     apply : {p : ℕ} {t u x y : PlacedTerm} → Develops t x → Develops u y → Develops (at p (PlacedNode.apply t u)) (at p (PlacedNode.apply x y))
     rec : {p : ℕ} {fs gs : PlacedFields} → FieldsDevelop fs gs → Develops (at p (PlacedNode.rec fs)) (at p (PlacedNode.rec gs))
     field : {p : ℕ} {l : List ℕ} {t x : PlacedTerm} → Develops t x → Develops (at p (PlacedNode.field t l)) (at p (PlacedNode.field x l))
-    empty : {p : ℕ} {t x : PlacedTerm} → Develops t x → Develops (at p (PlacedNode.empty t)) (at p (PlacedNode.empty x))
+    aggregate : {p : ℕ} {g : Aggregate} {t x : PlacedTerm} → Develops t x → Develops (at p (PlacedNode.aggregate g t)) (at p (PlacedNode.aggregate g x))
     single : {p : ℕ} {t x : PlacedTerm} → Develops t x → Develops (at p (PlacedNode.single t)) (at p (PlacedNode.single x))
     nil : {p : ℕ} {a : TypeTree} → Develops (at p (PlacedNode.nil a)) (at p (PlacedNode.nil a))
     union : {p : ℕ} {t u x y : PlacedTerm} → Develops t x → Develops u y → Develops (at p (PlacedNode.union t u)) (at p (PlacedNode.union x y))
@@ -56,7 +56,7 @@ mutual
   develops_same (at p (PlacedNode.apply t u)) = Develops.apply (develops_same t) (develops_same u)
   develops_same (at p (PlacedNode.rec fs)) = Develops.rec (fields_same fs)
   develops_same (at p (PlacedNode.field t l)) = Develops.field (develops_same t)
-  develops_same (at p (PlacedNode.empty t)) = Develops.empty (develops_same t)
+  develops_same (at p (PlacedNode.aggregate g t)) = Develops.aggregate (develops_same t)
   develops_same (at p (PlacedNode.single t)) = Develops.single (develops_same t)
   develops_same (at p (PlacedNode.nil a)) = Develops.nil
   develops_same (at p (PlacedNode.union t u)) = Develops.union (develops_same t) (develops_same u)
@@ -103,7 +103,7 @@ mutual
   develops_shift d c (Develops.apply h k) = Develops.apply (develops_shift d c h) (develops_shift d c k)
   develops_shift d c (Develops.rec h) = Develops.rec (fields_shift d c h)
   develops_shift d c (Develops.field h) = Develops.field (develops_shift d c h)
-  develops_shift d c (Develops.empty h) = Develops.empty (develops_shift d c h)
+  develops_shift d c (Develops.aggregate h) = Develops.aggregate (develops_shift d c h)
   develops_shift d c (Develops.single h) = Develops.single (develops_shift d c h)
   develops_shift d c Develops.nil = Develops.nil
   develops_shift d c (Develops.union h k) = Develops.union (develops_shift d c h) (develops_shift d c k)
@@ -156,7 +156,7 @@ module _ {s r : PlacedTerm} (m : Develops s r) where
     develops_subst c (Develops.apply h k) = Develops.apply (develops_subst c h) (develops_subst c k)
     develops_subst c (Develops.rec h) = Develops.rec (fields_subst c h)
     develops_subst c (Develops.field h) = Develops.field (develops_subst c h)
-    develops_subst c (Develops.empty h) = Develops.empty (develops_subst c h)
+    develops_subst c (Develops.aggregate h) = Develops.aggregate (develops_subst c h)
     develops_subst c (Develops.single h) = Develops.single (develops_subst c h)
     develops_subst c Develops.nil = Develops.nil
     develops_subst c (Develops.union h k) = Develops.union (develops_subst c h) (develops_subst c k)

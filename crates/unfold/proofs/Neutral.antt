@@ -5,6 +5,7 @@ use Rattle.nq_model.specs.Terms.{TermTree, TermFields}
 use Rattle.nq_model.specs.Unfolding.{picked_tree, contract_tree_apply, contract_tree_field}
 use Rattle.nq_model.specs.Typing.{type_at, HasType, HaveTypes}
 use Rattle.nq_model.specs.declared.table.Schema.{Schema}
+use Rattle.nq_model.proofs.Typing.{aggregate_base}
 use Rattle.unfold.proofs.Still.{Still, AreStill}
 use Rattle.unfold.proofs.Typings.{put_type_at, base_no_fun, base_no_rec}
 
@@ -53,7 +54,7 @@ module _ (schema : Schema) where
   neutral_fn g (TermTree.apply t u) a b x h s e = tt
   neutral_fn g (TermTree.rec fs) a b x h s e = let q = h.2 in absurd (cc)
   neutral_fn g (TermTree.field t l) a b x h s e = tt
-  neutral_fn g (TermTree.empty t) a b x h s e = let q = h.2 in absurd (cc)
+  neutral_fn g (TermTree.aggregate o t) a b x h s e = let q = aggregate_base o h.0 (TypeTree.fun a b) h.2 in base_no_fun q.0 a b q.1
   neutral_fn g (TermTree.single t) a b x h s e = let q = h.3 in absurd (cc)
   neutral_fn g (TermTree.nil k) a b x h s e = let q = h.1 in absurd (cc)
   neutral_fn g (TermTree.union t u) a b x h s e = let q = h.1 in absurd (cc)
@@ -78,7 +79,7 @@ module _ (schema : Schema) where
       let i = r.1 in
       absurd (cc)
   neutral_rec g (TermTree.field t m) ks l k h d s e = tt
-  neutral_rec g (TermTree.empty t) ks l k h d s e = let q = h.2 in absurd (cc)
+  neutral_rec g (TermTree.aggregate o t) ks l k h d s e = let q = aggregate_base o h.0 (TypeTree.rec ks) h.2 in base_no_rec q.0 ks q.1
   neutral_rec g (TermTree.single t) ks l k h d s e = let q = h.3 in absurd (cc)
   neutral_rec g (TermTree.nil j) ks l k h d s e = let q = h.1 in absurd (cc)
   neutral_rec g (TermTree.union t u) ks l k h d s e = let q = h.1 in absurd (cc)

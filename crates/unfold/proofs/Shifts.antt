@@ -89,7 +89,7 @@ mutual
   shift_zero c (at p (PlacedNode.apply t u)) = both (λ x y. at p (PlacedNode.apply x y)) (shift_zero c t) (shift_zero c u)
   shift_zero c (at p (PlacedNode.rec fs)) = ap (λ x. at p (PlacedNode.rec x)) (shift_zero_fields c fs)
   shift_zero c (at p (PlacedNode.field t l)) = ap (λ x. at p (PlacedNode.field x l)) (shift_zero c t)
-  shift_zero c (at p (PlacedNode.empty t)) = ap (λ x. at p (PlacedNode.empty x)) (shift_zero c t)
+  shift_zero c (at p (PlacedNode.aggregate o t)) = ap (λ x. at p (PlacedNode.aggregate o x)) (shift_zero c t)
   shift_zero c (at p (PlacedNode.single t)) = ap (λ x. at p (PlacedNode.single x)) (shift_zero c t)
   shift_zero c (at p (PlacedNode.nil a)) = refl
   shift_zero c (at p (PlacedNode.union t u)) = both (λ x y. at p (PlacedNode.union x y)) (shift_zero c t) (shift_zero c u)
@@ -126,7 +126,7 @@ mutual
   shift_shift d e c k m h q (at p (PlacedNode.apply t u)) = both (λ x y. at p (PlacedNode.apply x y)) (shift_shift d e c k m h q t) (shift_shift d e c k m h q u)
   shift_shift d e c k m h q (at p (PlacedNode.rec fs)) = ap (λ x. at p (PlacedNode.rec x)) (shift_shift_fields d e c k m h q fs)
   shift_shift d e c k m h q (at p (PlacedNode.field t l)) = ap (λ x. at p (PlacedNode.field x l)) (shift_shift d e c k m h q t)
-  shift_shift d e c k m h q (at p (PlacedNode.empty t)) = ap (λ x. at p (PlacedNode.empty x)) (shift_shift d e c k m h q t)
+  shift_shift d e c k m h q (at p (PlacedNode.aggregate o t)) = ap (λ x. at p (PlacedNode.aggregate o x)) (shift_shift d e c k m h q t)
   shift_shift d e c k m h q (at p (PlacedNode.single t)) = ap (λ x. at p (PlacedNode.single x)) (shift_shift d e c k m h q t)
   shift_shift d e c k m h q (at p (PlacedNode.nil a)) = refl
   shift_shift d e c k m h q (at p (PlacedNode.union t u)) = both (λ x y. at p (PlacedNode.union x y)) (shift_shift d e c k m h q t) (shift_shift d e c k m h q u)
@@ -158,7 +158,7 @@ mutual
   shift_sum d e c m n h g q (at p (PlacedNode.apply t u)) = both (λ x y. at p (PlacedNode.apply x y)) (shift_sum d e c m n h g q t) (shift_sum d e c m n h g q u)
   shift_sum d e c m n h g q (at p (PlacedNode.rec fs)) = ap (λ x. at p (PlacedNode.rec x)) (shift_sum_fields d e c m n h g q fs)
   shift_sum d e c m n h g q (at p (PlacedNode.field t l)) = ap (λ x. at p (PlacedNode.field x l)) (shift_sum d e c m n h g q t)
-  shift_sum d e c m n h g q (at p (PlacedNode.empty t)) = ap (λ x. at p (PlacedNode.empty x)) (shift_sum d e c m n h g q t)
+  shift_sum d e c m n h g q (at p (PlacedNode.aggregate o t)) = ap (λ x. at p (PlacedNode.aggregate o x)) (shift_sum d e c m n h g q t)
   shift_sum d e c m n h g q (at p (PlacedNode.single t)) = ap (λ x. at p (PlacedNode.single x)) (shift_sum d e c m n h g q t)
   shift_sum d e c m n h g q (at p (PlacedNode.nil a)) = refl
   shift_sum d e c m n h g q (at p (PlacedNode.union t u)) = both (λ x y. at p (PlacedNode.union x y)) (shift_sum d e c m n h g q t) (shift_sum d e c m n h g q u)
@@ -200,7 +200,7 @@ mutual
   shift_subst d c n m q s (at p (PlacedNode.apply t u)) = both (λ x y. at p (PlacedNode.apply x y)) (shift_subst d c n m q s t) (shift_subst d c n m q s u)
   shift_subst d c n m q s (at p (PlacedNode.rec fs)) = ap (λ x. at p (PlacedNode.rec x)) (shift_subst_fields d c n m q s fs)
   shift_subst d c n m q s (at p (PlacedNode.field t l)) = ap (λ x. at p (PlacedNode.field x l)) (shift_subst d c n m q s t)
-  shift_subst d c n m q s (at p (PlacedNode.empty t)) = ap (λ x. at p (PlacedNode.empty x)) (shift_subst d c n m q s t)
+  shift_subst d c n m q s (at p (PlacedNode.aggregate o t)) = ap (λ x. at p (PlacedNode.aggregate o x)) (shift_subst d c n m q s t)
   shift_subst d c n m q s (at p (PlacedNode.single t)) = ap (λ x. at p (PlacedNode.single x)) (shift_subst d c n m q s t)
   shift_subst d c n m q s (at p (PlacedNode.nil a)) = refl
   shift_subst d c n m q s (at p (PlacedNode.union t u)) = both (λ x y. at p (PlacedNode.union x y)) (shift_subst d c n m q s t) (shift_subst d c n m q s u)
@@ -237,7 +237,7 @@ mutual
   subst_shift d c k m h q s (at p (PlacedNode.apply t u)) = both (λ x y. at p (PlacedNode.apply x y)) (subst_shift d c k m h q s t) (subst_shift d c k m h q s u)
   subst_shift d c k m h q s (at p (PlacedNode.rec fs)) = ap (λ x. at p (PlacedNode.rec x)) (subst_shift_fields d c k m h q s fs)
   subst_shift d c k m h q s (at p (PlacedNode.field t l)) = ap (λ x. at p (PlacedNode.field x l)) (subst_shift d c k m h q s t)
-  subst_shift d c k m h q s (at p (PlacedNode.empty t)) = ap (λ x. at p (PlacedNode.empty x)) (subst_shift d c k m h q s t)
+  subst_shift d c k m h q s (at p (PlacedNode.aggregate o t)) = ap (λ x. at p (PlacedNode.aggregate o x)) (subst_shift d c k m h q s t)
   subst_shift d c k m h q s (at p (PlacedNode.single t)) = ap (λ x. at p (PlacedNode.single x)) (subst_shift d c k m h q s t)
   subst_shift d c k m h q s (at p (PlacedNode.nil a)) = refl
   subst_shift d c k m h q s (at p (PlacedNode.union t u)) = both (λ x y. at p (PlacedNode.union x y)) (subst_shift d c k m h q s t) (subst_shift d c k m h q s u)
@@ -269,7 +269,7 @@ mutual
   subst_unused d e c k h g q s (at p (PlacedNode.apply t u)) = both (λ x y. at p (PlacedNode.apply x y)) (subst_unused d e c k h g q s t) (subst_unused d e c k h g q s u)
   subst_unused d e c k h g q s (at p (PlacedNode.rec fs)) = ap (λ x. at p (PlacedNode.rec x)) (subst_unused_fields d e c k h g q s fs)
   subst_unused d e c k h g q s (at p (PlacedNode.field t l)) = ap (λ x. at p (PlacedNode.field x l)) (subst_unused d e c k h g q s t)
-  subst_unused d e c k h g q s (at p (PlacedNode.empty t)) = ap (λ x. at p (PlacedNode.empty x)) (subst_unused d e c k h g q s t)
+  subst_unused d e c k h g q s (at p (PlacedNode.aggregate o t)) = ap (λ x. at p (PlacedNode.aggregate o x)) (subst_unused d e c k h g q s t)
   subst_unused d e c k h g q s (at p (PlacedNode.single t)) = ap (λ x. at p (PlacedNode.single x)) (subst_unused d e c k h g q s t)
   subst_unused d e c k h g q s (at p (PlacedNode.nil a)) = refl
   subst_unused d e c k h g q s (at p (PlacedNode.union t u)) = both (λ x y. at p (PlacedNode.union x y)) (subst_unused d e c k h g q s t) (subst_unused d e c k h g q s u)
@@ -306,7 +306,7 @@ mutual
   subst_subst c n m q s r (at p (PlacedNode.apply t u)) = both (λ x y. at p (PlacedNode.apply x y)) (subst_subst c n m q s r t) (subst_subst c n m q s r u)
   subst_subst c n m q s r (at p (PlacedNode.rec fs)) = ap (λ x. at p (PlacedNode.rec x)) (subst_subst_fields c n m q s r fs)
   subst_subst c n m q s r (at p (PlacedNode.field t l)) = ap (λ x. at p (PlacedNode.field x l)) (subst_subst c n m q s r t)
-  subst_subst c n m q s r (at p (PlacedNode.empty t)) = ap (λ x. at p (PlacedNode.empty x)) (subst_subst c n m q s r t)
+  subst_subst c n m q s r (at p (PlacedNode.aggregate o t)) = ap (λ x. at p (PlacedNode.aggregate o x)) (subst_subst c n m q s r t)
   subst_subst c n m q s r (at p (PlacedNode.single t)) = ap (λ x. at p (PlacedNode.single x)) (subst_subst c n m q s r t)
   subst_subst c n m q s r (at p (PlacedNode.nil a)) = refl
   subst_subst c n m q s r (at p (PlacedNode.union t u)) = both (λ x y. at p (PlacedNode.union x y)) (subst_subst c n m q s r t) (subst_subst c n m q s r u)

@@ -27,7 +27,7 @@ abbrev mutual
   Still (TermTree.apply t u) = Still t × Still u × (contract_tree_apply t u ≡ None)
   Still (TermTree.rec fs) = AreStill fs
   Still (TermTree.field t l) = Still t × (contract_tree_field t l ≡ None)
-  Still (TermTree.empty t) = Still t
+  Still (TermTree.aggregate g t) = Still t
   Still (TermTree.single t) = Still t
   Still (TermTree.nil k) = Unit {0}
   Still (TermTree.union t u) = Still t × Still u
@@ -59,7 +59,7 @@ mutual
   still_none (TermTree.apply t u) s = part_none (step_tree t) _ _ (still_none t s.0) ∙ part_none (step_tree u) _ _ (still_none u s.1) ∙ s.2
   still_none (TermTree.rec fs) s = none_one (step_tree_fields fs) _ (still_nones fs s)
   still_none (TermTree.field t l) s = part_none (step_tree t) _ _ (still_none t s.0) ∙ s.1
-  still_none (TermTree.empty t) s = none_one (step_tree t) _ (still_none t s)
+  still_none (TermTree.aggregate g t) s = none_one (step_tree t) _ (still_none t s)
   still_none (TermTree.single t) s = none_one (step_tree t) _ (still_none t s)
   still_none (TermTree.nil k) s = refl
   still_none (TermTree.union t u) s = none_two (step_tree t) (step_tree u) _ _ (still_none t s.0) (still_none u s.1)
@@ -99,7 +99,7 @@ mutual
   still_of (TermTree.field t l) e =
       let p = part_still (step_tree t) _ _ e in
       (still_of t p.0, p.1)
-  still_of (TermTree.empty t) e = still_of t (part_still (step_tree t) _ _ e).0
+  still_of (TermTree.aggregate g t) e = still_of t (part_still (step_tree t) _ _ e).0
   still_of (TermTree.single t) e = still_of t (part_still (step_tree t) _ _ e).0
   still_of (TermTree.nil k) e = tt
   still_of (TermTree.union t u) e = let p = two_still (step_tree t) (step_tree u) _ _ _ e in (still_of t p.0, still_of u p.1)
@@ -152,7 +152,7 @@ mutual
   shift_still d c (TermTree.apply t u) s = (shift_still d c t s.0, shift_still d c u s.1, shift_contract d c t u (shift_tree d c u) s.2)
   shift_still d c (TermTree.rec fs) s = shift_stills d c fs s
   shift_still d c (TermTree.field t l) s = (shift_still d c t s.0, shift_contract_field d c t l s.1)
-  shift_still d c (TermTree.empty t) s = shift_still d c t s
+  shift_still d c (TermTree.aggregate g t) s = shift_still d c t s
   shift_still d c (TermTree.single t) s = shift_still d c t s
   shift_still d c (TermTree.nil k) s = tt
   shift_still d c (TermTree.union t u) s = (shift_still d c t s.0, shift_still d c u s.1)

@@ -10,6 +10,7 @@ use Rattle.nq_model.specs.Typing.{type_at, HasType, HaveTypes}
 use Rattle.nq_model.specs.declared.table.Schema.{Schema}
 use Rattle.nq_model.proofs.Substitution.{bare_shift}
 use Rattle.nq_model.proofs.Unfolding.{join, one, two, bare_picked}
+use Rattle.nq_model.proofs.Typing.{aggregate_base}
 use Rattle.unfold.specs.Hereditary.{rank, or_else, field_by, substitute, substitute_fields, apply_at}
 use Rattle.unfold.proofs.Still.{Still, AreStill, still_ended, stills_ended, shift_still, steps_choose}
 use Rattle.unfold.proofs.Typings.{lt_true, lt_false, eq_true, eq_false, left, right, one_more, shift_has, base_no_fun, base_no_rec, field_rank}
@@ -29,7 +30,7 @@ apply_neutral (suc n) p (at z (PlacedNode.fun k t)) a h = absurd h
 apply_neutral (suc n) p (at z (PlacedNode.apply t u)) a h = refl
 apply_neutral (suc n) p (at z (PlacedNode.rec fs)) a h = absurd h
 apply_neutral (suc n) p (at z (PlacedNode.field t l)) a h = refl
-apply_neutral (suc n) p (at z (PlacedNode.empty t)) a h = absurd h
+apply_neutral (suc n) p (at z (PlacedNode.aggregate o t)) a h = absurd h
 apply_neutral (suc n) p (at z (PlacedNode.single t)) a h = absurd h
 apply_neutral (suc n) p (at z (PlacedNode.nil k)) a h = absurd h
 apply_neutral (suc n) p (at z (PlacedNode.union t u)) a h = absurd h
@@ -75,7 +76,7 @@ module _ (schema : Schema) where
       let is : or_else (picked l fs) (at p (PlacedNode.field (at z (PlacedNode.rec fs)) l)) ≡ w.0 = ap (λ o. or_else o (at p (PlacedNode.field (at z (PlacedNode.rec fs)) l))) w.1 in
       along (λ y. FieldGood g p (at z (PlacedNode.rec fs)) l k y) (sym is) (after last here, along Still (sym w.2) (r.3 s), along (λ y. HasType schema g y k) (sym w.2) r.2, λ i. absurd i)
   field_good g p (at z (PlacedNode.field t m)) ks l k h d s = (here, (s, refl), (ks, h, d), λ i. tt)
-  field_good g p (at z (PlacedNode.empty t)) ks l k h d s = let q = h.2 in absurd (cc)
+  field_good g p (at z (PlacedNode.aggregate o t)) ks l k h d s = let q = aggregate_base o h.0 (TypeTree.rec ks) h.2 in base_no_rec q.0 ks q.1
   field_good g p (at z (PlacedNode.single t)) ks l k h d s = let q = h.3 in absurd (cc)
   field_good g p (at z (PlacedNode.nil j)) ks l k h d s = let q = h.1 in absurd (cc)
   field_good g p (at z (PlacedNode.union t u)) ks l k h d s = let q = h.1 in absurd (cc)
@@ -172,9 +173,9 @@ module _ (schema : Schema) where
             let r = field_good (d ++ g) z (substitute (apply_at n) c s t) h.0 l A a.2 h.2 a.1 in
             let w = field_rank l A h.0 h.2 in
             (join (one step step (λ x. at z (PlacedNode.field x l)) (λ x. contract_field z x l) (λ x. refl) a.0) r.0, r.1, r.2, λ j. ⊎_elim (λ x. inl (r.3 x)) (λ x. inr (omega (arith, x, w))) i)
-        sub_good d c q (at z (PlacedNode.empty t)) A h e =
+        sub_good d c q (at z (PlacedNode.aggregate o t)) A h e =
             let a = sub_good d c q t (TypeTree.bag h.0) h.1 e in
-            (one step step (λ x. at z (PlacedNode.empty x)) (λ x. None) (λ x. refl) a.0, a.1, (h.0, a.2, h.2), λ i. absurd i)
+            (one step step (λ x. at z (PlacedNode.aggregate o x)) (λ x. None) (λ x. refl) a.0, a.1, (h.0, a.2, h.2), λ i. absurd i)
         sub_good d c q (at z (PlacedNode.single t)) A h e =
             let a = sub_good d c q t h.0 h.1 e in
             (one step step (λ x. at z (PlacedNode.single x)) (λ x. None) (λ x. refl) a.0, a.1, (h.0, a.2, h.2, h.3), λ i. absurd i)
@@ -232,7 +233,7 @@ module _ (schema : Schema) where
   branches n good g p a A B q r m (at z (PlacedNode.apply t u)) h s = stays (suc n) g p (at z (PlacedNode.apply t u)) a A B h q s r tt
   branches n good g p a A B q r m (at z (PlacedNode.rec fs)) h s = let y = h.2 in absurd (cc)
   branches n good g p a A B q r m (at z (PlacedNode.field t l)) h s = stays (suc n) g p (at z (PlacedNode.field t l)) a A B h q s r tt
-  branches n good g p a A B q r m (at z (PlacedNode.empty t)) h s = let y = h.2 in absurd (cc)
+  branches n good g p a A B q r m (at z (PlacedNode.aggregate o t)) h s = let y = aggregate_base o h.0 (TypeTree.fun A B) h.2 in base_no_fun y.0 A B y.1
   branches n good g p a A B q r m (at z (PlacedNode.single t)) h s = let y = h.3 in absurd (cc)
   branches n good g p a A B q r m (at z (PlacedNode.nil k)) h s = let y = h.1 in absurd (cc)
   branches n good g p a A B q r m (at z (PlacedNode.union t u)) h s = let y = h.1 in absurd (cc)

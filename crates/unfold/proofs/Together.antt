@@ -25,7 +25,7 @@ abbrev mutual
   subst_all n es c (at p (PlacedNode.apply t u)) = at p (PlacedNode.apply (subst_all n es c t) (subst_all n es c u))
   subst_all n es c (at p (PlacedNode.rec fs)) = at p (PlacedNode.rec (subst_all_fields n es c fs))
   subst_all n es c (at p (PlacedNode.field t l)) = at p (PlacedNode.field (subst_all n es c t) l)
-  subst_all n es c (at p (PlacedNode.empty t)) = at p (PlacedNode.empty (subst_all n es c t))
+  subst_all n es c (at p (PlacedNode.aggregate g t)) = at p (PlacedNode.aggregate g (subst_all n es c t))
   subst_all n es c (at p (PlacedNode.single t)) = at p (PlacedNode.single (subst_all n es c t))
   subst_all n es c (at p (PlacedNode.nil k)) = at p (PlacedNode.nil k)
   subst_all n es c (at p (PlacedNode.union t u)) = at p (PlacedNode.union (subst_all n es c t) (subst_all n es c u))
@@ -103,7 +103,7 @@ module _ (n : ℕ) (es : List Entry) (h : AreWithin n es) where
     kept c (at p (PlacedNode.apply t u)) = rw (kept c t, kept c u) refl
     kept c (at p (PlacedNode.rec fs)) = rw (kepts c fs) refl
     kept c (at p (PlacedNode.field t l)) = rw (kept c t) refl
-    kept c (at p (PlacedNode.empty t)) = rw (kept c t) refl
+    kept c (at p (PlacedNode.aggregate g t)) = rw (kept c t) refl
     kept c (at p (PlacedNode.single t)) = rw (kept c t) refl
     kept c (at p (PlacedNode.nil k)) = refl
     kept c (at p (PlacedNode.union t u)) = rw (kept c t, kept c u) refl
@@ -149,7 +149,7 @@ module _ (n : ℕ) (es : List Entry) (v : PlacedTerm) where
     put_in c (at p (PlacedNode.apply t u)) = rw (put_in c t, put_in c u) refl
     put_in c (at p (PlacedNode.rec fs)) = rw (puts_in c fs) refl
     put_in c (at p (PlacedNode.field t l)) = rw (put_in c t) refl
-    put_in c (at p (PlacedNode.empty t)) = rw (put_in c t) refl
+    put_in c (at p (PlacedNode.aggregate g t)) = rw (put_in c t) refl
     put_in c (at p (PlacedNode.single t)) = rw (put_in c t) refl
     put_in c (at p (PlacedNode.nil k)) = refl
     put_in c (at p (PlacedNode.union t u)) = rw (put_in c t, put_in c u) refl
@@ -183,7 +183,7 @@ mutual
   put_none c (at p (PlacedNode.apply t u)) = rw (put_none c t, put_none c u) refl
   put_none c (at p (PlacedNode.rec fs)) = rw (puts_none c fs) refl
   put_none c (at p (PlacedNode.field t l)) = rw (put_none c t) refl
-  put_none c (at p (PlacedNode.empty t)) = rw (put_none c t) refl
+  put_none c (at p (PlacedNode.aggregate g t)) = rw (put_none c t) refl
   put_none c (at p (PlacedNode.single t)) = rw (put_none c t) refl
   put_none c (at p (PlacedNode.nil k)) = refl
   put_none c (at p (PlacedNode.union t u)) = rw (put_none c t, put_none c u) refl

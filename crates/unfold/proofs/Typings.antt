@@ -65,7 +65,7 @@ module _ (schema : Schema) (e g : List TypeTree) (m : ℕ) (em : m ≡ length e)
     shift_has d c q (TermTree.apply t u) k h = (h.0, shift_has d c q t (TypeTree.fun h.0 k) h.1, shift_has d c q u h.0 h.2)
     shift_has d c q (TermTree.rec fs) k h = (h.0, shift_have d c q fs h.0 h.1, h.2)
     shift_has d c q (TermTree.field t l) k h = (h.0, shift_has d c q t (TypeTree.rec h.0) h.1, h.2)
-    shift_has d c q (TermTree.empty t) k h = (h.0, shift_has d c q t (TypeTree.bag h.0) h.1, h.2)
+    shift_has d c q (TermTree.aggregate o t) k h = (h.0, shift_has d c q t (TypeTree.bag h.0) h.1, h.2)
     shift_has d c q (TermTree.single t) k h = (h.0, shift_has d c q t h.0 h.1, h.2, h.3)
     shift_has d c q (TermTree.nil a) k h = h
     shift_has d c q (TermTree.union t u) k h = (h.0, h.1, shift_has d c q t k h.2, shift_has d c q u k h.3)

@@ -16,7 +16,7 @@ use Rattle.unfold.proofs.Typings.{shift_has, plain_well, plain_rank}
 use Rattle.unfold.proofs.Substitutes.{field_good, apply_good}
 use Rattle.unfold.proofs.Whole.{AllWell, most, has_well, has_rank, unfolded_unfolds, is_unfolding}
 use Rattle.unfold.proofs.Shifts.{shift_zero}
-use Rattle.unfold.proofs.Confluence.{Reduces, ReduceFields, reduces_here, reduces_join, of_steps, reduces_unary, reduces_binary, reduces_choose, reduces_fun, reduces_apply, reduces_union, reduces_for, reduces_guard, reduces_bind, reduces_field, reduces_empty, reduces_single, reduces_rec, reduce_none, reduce_with_field, contracts_bind, contracts_fun, ends_once}
+use Rattle.unfold.proofs.Confluence.{Reduces, ReduceFields, reduces_here, reduces_join, of_steps, reduces_unary, reduces_binary, reduces_choose, reduces_fun, reduces_apply, reduces_union, reduces_for, reduces_guard, reduces_bind, reduces_field, reduces_aggregate, reduces_single, reduces_rec, reduce_none, reduce_with_field, contracts_bind, contracts_fun, ends_once}
 use Rattle.unfold.proofs.Together.{AreWithin, subst_all, subst_all_fields, put_all, stands_under, kept, put_in, put_none}
 
 no_below : (k : ℕ) → nat_lt k 0 ≡ false
@@ -148,9 +148,9 @@ module _ (schema : Schema) where
           let a = walk_gives g w n d es f t (TypeTree.rec h.0) h.1 (omega (arith, m)) in
           let x = field_good schema d z (walk_in r n es t) h.0 l A a.2 h.2 a.1 in
           (reduces_join (reduces_field a.0) (of_steps x.0), x.1, x.2)
-      walk_gives g w n d es f (at z (PlacedNode.empty t)) A h m =
+      walk_gives g w n d es f (at z (PlacedNode.aggregate o t)) A h m =
           let a = walk_gives g w n d es f t (TypeTree.bag h.0) h.1 (omega (arith, m)) in
-          (reduces_empty a.0, a.1, (h.0, a.2, h.2))
+          (reduces_aggregate a.0, a.1, (h.0, a.2, h.2))
       walk_gives g w n d es f (at z (PlacedNode.single t)) A h m =
           let a = walk_gives g w n d es f t h.0 h.1 (omega (arith, m)) in
           (reduces_single a.0, a.1, (h.0, a.2, h.2, h.3))

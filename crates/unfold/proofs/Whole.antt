@@ -13,6 +13,7 @@ use Rattle.nq_model.specs.Typing.{put_type, HasType, HaveTypes, IsPlainBag, IsAc
 use Rattle.nq_model.specs.declared.table.Schema.{Schema}
 use Rattle.nq_model.specs.declared.table.ColumnType.{ColumnType}
 use Rattle.nq_model.proofs.Unfolding.{join, one, two}
+use Rattle.nq_model.proofs.Typing.{aggregate_base}
 use Rattle.unfold.specs.Hereditary.{rank, ranks, fuel, fuel_fields, walk, walk_fields, unfolded}
 use Rattle.unfold.specs.Unfolded.{IsUnfolding}
 use Rattle.unfold.proofs.Still.{Still, AreStill, still_ended, steps_choose}
@@ -114,7 +115,7 @@ module _ (schema : Schema) where
     has_well g w (TermTree.apply t u) A h = (and_split (is_well_formed h.0) (is_well_formed A) (has_well g w t (TypeTree.fun h.0 A) h.1)).1
     has_well g w (TermTree.rec fs) A h = well_is A (TypeTree.rec h.0) h.2 (have_well g w fs h.0 h.1)
     has_well g w (TermTree.field t l) A h = field_well l A h.0 (has_well g w t (TypeTree.rec h.0) h.1) h.2
-    has_well g w (TermTree.empty t) A h = well_is A TypeTree.bool h.2 refl
+    has_well g w (TermTree.aggregate o t) A h = let b = aggregate_base o h.0 A h.2 in plain_well A (based A b.0 b.1)
     has_well g w (TermTree.single t) A h = well_is A (TypeTree.bag h.0) h.3 h.2
     has_well g w (TermTree.nil k) A h = well_is A (TypeTree.bag k) h.1 h.0
     has_well g w (TermTree.union t u) A h = has_well g w t A h.2
@@ -151,7 +152,7 @@ module _ (schema : Schema) where
         let s = has_rank g w t (TypeTree.rec h.0) h.1 in
         let e = field_rank l A h.0 h.2 in
         omega (arith, s, e)
-    has_rank g w (TermTree.empty t) A h = low A TypeTree.bool _ h.2 refl
+    has_rank g w (TermTree.aggregate o t) A h = let b = aggregate_base o h.0 A h.2 in plain_low A _ (based A b.0 b.1)
     has_rank g w (TermTree.single t) A h = low A (TypeTree.bag h.0) _ h.3 refl
     has_rank g w (TermTree.nil k) A h = low A (TypeTree.bag k) _ h.1 refl
     has_rank g w (TermTree.union t u) A h = low A (TypeTree.bag h.0) _ h.1 refl
@@ -210,9 +211,9 @@ module _ (schema : Schema) where
           let a = walk_good g w t (TypeTree.rec h.0) h.1 (omega (arith, m)) in
           let r = field_good schema g z (walk n t) h.0 l A a.2 h.2 a.1 in
           (join (one step step (λ x. at z (PlacedNode.field x l)) (λ x. contract_field z x l) (λ x. refl) a.0) r.0, r.1, r.2)
-      walk_good g w (at z (PlacedNode.empty t)) A h m =
+      walk_good g w (at z (PlacedNode.aggregate o t)) A h m =
           let a = walk_good g w t (TypeTree.bag h.0) h.1 (omega (arith, m)) in
-          (one step step (λ x. at z (PlacedNode.empty x)) (λ x. None) (λ x. refl) a.0, a.1, (h.0, a.2, h.2))
+          (one step step (λ x. at z (PlacedNode.aggregate o x)) (λ x. None) (λ x. refl) a.0, a.1, (h.0, a.2, h.2))
       walk_good g w (at z (PlacedNode.single t)) A h m =
           let a = walk_good g w t h.0 h.1 (omega (arith, m)) in
           (one step step (λ x. at z (PlacedNode.single x)) (λ x. None) (λ x. refl) a.0, a.1, (h.0, a.2, h.2, h.3))
@@ -284,7 +285,7 @@ module _ (schema : Schema) where
     plain_of g p (TermTree.rec fs) A h q s = plains_of g p fs h.0 h.1 (plain_is A (TypeTree.rec h.0) h.2 q) s
     plain_of g p (TermTree.field t l) A h q s =
         plain_of g p t (TypeTree.rec h.0) h.1 (neutral_plain g p t (TypeTree.rec h.0) h.1 s.0 (neutral_rec schema g t h.0 l A h.1 h.2 s.0 s.1)) s.0
-    plain_of g p (TermTree.empty t) A h q s = plain_of g p t (TypeTree.bag h.0) h.1 (bag_plain g p t h.0 h.1) s
+    plain_of g p (TermTree.aggregate o t) A h q s = plain_of g p t (TypeTree.bag h.0) h.1 (bag_plain g p t h.0 h.1) s
     plain_of g p (TermTree.single t) A h q s = plain_of g p t h.0 h.1 h.2 s
     plain_of g p (TermTree.nil k) A h q s = tt
     plain_of g p (TermTree.union t u) A h q s = (plain_of g p t A h.2 q s.0, plain_of g p u A h.3 q s.1)

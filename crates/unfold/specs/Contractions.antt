@@ -3,7 +3,7 @@ use Rattle.std.specs.Prelude.{◌≡◌, ℕ, List, Option, Some, None}
 use Rattle.nq_model.specs.Types.{TypeTree}
 use Rattle.nq_model.specs.declared.term.Unary.{Unary}
 use Rattle.nq_model.specs.declared.term.Binary.{Binary}
-use Rattle.nq_model.specs.Terms.{PlacedTerm, PlacedNode, PlacedFields, at}
+use Rattle.nq_model.specs.Terms.{PlacedTerm, PlacedNode, PlacedFields, at, Aggregate}
 use Rattle.nq_model.specs.Substitution.{subst}
 use Rattle.nq_model.specs.Unfolding.{contract_apply, contract_field}
 
@@ -29,7 +29,7 @@ mutual
     apply_arg : {p : ℕ} {t u v : PlacedTerm} → Contracts t u → Contracts (at p (PlacedNode.apply v t)) (at p (PlacedNode.apply v u))
     rec_field : {p : ℕ} {fs gs : PlacedFields} → ContractsField fs gs → Contracts (at p (PlacedNode.rec fs)) (at p (PlacedNode.rec gs))
     field_of : {p : ℕ} {l : List ℕ} {t u : PlacedTerm} → Contracts t u → Contracts (at p (PlacedNode.field t l)) (at p (PlacedNode.field u l))
-    empty_of : {p : ℕ} {t u : PlacedTerm} → Contracts t u → Contracts (at p (PlacedNode.empty t)) (at p (PlacedNode.empty u))
+    aggregate_of : {p : ℕ} {g : Aggregate} {t u : PlacedTerm} → Contracts t u → Contracts (at p (PlacedNode.aggregate g t)) (at p (PlacedNode.aggregate g u))
     single_of : {p : ℕ} {t u : PlacedTerm} → Contracts t u → Contracts (at p (PlacedNode.single t)) (at p (PlacedNode.single u))
     union_left : {p : ℕ} {t u v : PlacedTerm} → Contracts t u → Contracts (at p (PlacedNode.union t v)) (at p (PlacedNode.union u v))
     union_right : {p : ℕ} {t u v : PlacedTerm} → Contracts t u → Contracts (at p (PlacedNode.union v t)) (at p (PlacedNode.union v u))

@@ -17,7 +17,7 @@ abbrev mutual
   term_depth (TermTree.apply t u) = max (term_depth t) (term_depth u) + 1
   term_depth (TermTree.rec fs) = fields_depth fs + 1
   term_depth (TermTree.field t l) = term_depth t + 1
-  term_depth (TermTree.empty t) = term_depth t + 1
+  term_depth (TermTree.aggregate g t) = term_depth t + 1
   term_depth (TermTree.single t) = term_depth t + 1
   term_depth (TermTree.nil k) = 1
   term_depth (TermTree.union t u) = max (term_depth t) (term_depth u) + 1

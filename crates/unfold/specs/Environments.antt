@@ -38,7 +38,7 @@ abbrev mutual
   walk_in r n es (at p (PlacedNode.apply t u)) = apply_at r p (walk_in r n es t) (walk_in r n es u)
   walk_in r n es (at p (PlacedNode.rec fs)) = at p (PlacedNode.rec (walk_each r n es fs))
   walk_in r n es (at p (PlacedNode.field t l)) = field_by p l (walk_in r n es t)
-  walk_in r n es (at p (PlacedNode.empty t)) = at p (PlacedNode.empty (walk_in r n es t))
+  walk_in r n es (at p (PlacedNode.aggregate g t)) = at p (PlacedNode.aggregate g (walk_in r n es t))
   walk_in r n es (at p (PlacedNode.single t)) = at p (PlacedNode.single (walk_in r n es t))
   walk_in r n es (at p (PlacedNode.nil k)) = at p (PlacedNode.nil k)
   walk_in r n es (at p (PlacedNode.union t u)) = at p (PlacedNode.union (walk_in r n es t) (walk_in r n es u))

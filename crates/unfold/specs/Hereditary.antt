@@ -48,7 +48,7 @@ abbrev mutual
   substitute app c s (at p (PlacedNode.apply t u)) = app p (substitute app c s t) (substitute app c s u)
   substitute app c s (at p (PlacedNode.rec fs)) = at p (PlacedNode.rec (substitute_fields app c s fs))
   substitute app c s (at p (PlacedNode.field t l)) = field_by p l (substitute app c s t)
-  substitute app c s (at p (PlacedNode.empty t)) = at p (PlacedNode.empty (substitute app c s t))
+  substitute app c s (at p (PlacedNode.aggregate g t)) = at p (PlacedNode.aggregate g (substitute app c s t))
   substitute app c s (at p (PlacedNode.single t)) = at p (PlacedNode.single (substitute app c s t))
   substitute app c s (at p (PlacedNode.nil k)) = at p (PlacedNode.nil k)
   substitute app c s (at p (PlacedNode.union t u)) = at p (PlacedNode.union (substitute app c s t) (substitute app c s u))
@@ -87,7 +87,7 @@ abbrev mutual
   fuel (TermTree.apply t u) = fuel t + fuel u
   fuel (TermTree.rec fs) = fuel_fields fs
   fuel (TermTree.field t l) = fuel t
-  fuel (TermTree.empty t) = fuel t
+  fuel (TermTree.aggregate g t) = fuel t
   fuel (TermTree.single t) = fuel t
   fuel (TermTree.nil k) = 0
   fuel (TermTree.union t u) = fuel t + fuel u
@@ -114,7 +114,7 @@ abbrev mutual
   walk n (at p (PlacedNode.apply t u)) = apply_at n p (walk n t) (walk n u)
   walk n (at p (PlacedNode.rec fs)) = at p (PlacedNode.rec (walk_fields n fs))
   walk n (at p (PlacedNode.field t l)) = field_by p l (walk n t)
-  walk n (at p (PlacedNode.empty t)) = at p (PlacedNode.empty (walk n t))
+  walk n (at p (PlacedNode.aggregate g t)) = at p (PlacedNode.aggregate g (walk n t))
   walk n (at p (PlacedNode.single t)) = at p (PlacedNode.single (walk n t))
   walk n (at p (PlacedNode.nil k)) = at p (PlacedNode.nil k)
   walk n (at p (PlacedNode.union t u)) = at p (PlacedNode.union (walk n t) (walk n u))

@@ -1,6 +1,6 @@
 -- The nodes that every walk treats alike.
 use Rattle.std.specs.Prelude.{ℕ, ◌+◌}
-use Rattle.nq_model.specs.Terms.{PlacedTerm, PlacedNode}
+use Rattle.nq_model.specs.Terms.{PlacedTerm, PlacedNode, Emptiness, Count, Sum}
 use Rattle.unfold.specs.declared.shapes.One.{One}
 use Rattle.unfold.specs.declared.shapes.One.TheVariants as one
 use Rattle.unfold.specs.declared.shapes.Two.{Two}
@@ -9,7 +9,9 @@ use Rattle.unfold.specs.declared.shapes.Two.TheVariants as two
 -- the node over a part
 abbrev pub one_node : One → PlacedTerm → PlacedNode
 one_node (one.Unary op) t = PlacedNode.unary op t
-one_node one.Empty t = PlacedNode.empty t
+one_node one.Empty t = PlacedNode.aggregate Emptiness t
+one_node one.Count t = PlacedNode.aggregate Count t
+one_node one.Sum t = PlacedNode.aggregate Sum t
 one_node one.Single t = PlacedNode.single t
 
 -- the node over two parts

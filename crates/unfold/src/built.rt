@@ -88,6 +88,8 @@ pub(crate) fn depth(term: &Term) -> Result<u64, Memory>
         }
         | Node::Field { of: only, label: _ }
         | Node::Empty(only)
+        | Node::Count(only)
+        | Node::Sum(only)
         | Node::Single(only) => one_more(depth(only)?),
         Node::Binary { op: _, left, right }
         | Node::Apply {

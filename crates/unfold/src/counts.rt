@@ -49,7 +49,11 @@ fn count(tally: &mut Tally, term: &Term) -> Result<(), Memory> {
             Ok(())
         }
         Node::Int(_) | Node::Bool(_) | Node::Text(_) | Node::Table(_) | Node::Nil(_) => Ok(()),
-        Node::Unary { op: _, of } | Node::Empty(of) | Node::Single(of) => count(tally, of),
+        Node::Unary { op: _, of }
+        | Node::Empty(of)
+        | Node::Count(of)
+        | Node::Sum(of)
+        | Node::Single(of) => count(tally, of),
         Node::Binary { op: _, left, right }
         | Node::Union { left, right }
         | Node::Guard {

@@ -28,6 +28,8 @@ fn more_fuel(n: u64, term: &Term) -> Result<u64, Memory>
         Node::Unary { op: _, of: only }
         | Node::Field { of: only, label: _ }
         | Node::Empty(only)
+        | Node::Count(only)
+        | Node::Sum(only)
         | Node::Single(only) => more_fuel(n, only),
         Node::Fun { taken, body } => more_fuel(both(n, both(rank(taken)?, 1)?)?, body),
         Node::Binary { op: _, left, right }

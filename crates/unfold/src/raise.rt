@@ -75,6 +75,14 @@ pub(crate) fn raise(alloc: Global, by: u64, from: u64, term: Term) -> Result<Ter
             place,
             node: Node::Empty(raise_box(alloc, by, from, of)?),
         }),
+        Node::Count(of) => Ok(Term {
+            place,
+            node: Node::Count(raise_box(alloc, by, from, of)?),
+        }),
+        Node::Sum(of) => Ok(Term {
+            place,
+            node: Node::Sum(raise_box(alloc, by, from, of)?),
+        }),
         Node::Single(of) => Ok(Term {
             place,
             node: Node::Single(raise_box(alloc, by, from, of)?),

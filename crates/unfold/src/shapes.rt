@@ -11,6 +11,8 @@ use nq_model::{Binary, Memory, Node, Term, Unary};
 pub(crate) enum One {
     Unary(Unary),
     Empty,
+    Count,
+    Sum,
     Single,
 }
 
@@ -31,6 +33,8 @@ impl One {
         match self {
             One::Unary(op) => Node::Unary { op, of },
             One::Empty => Node::Empty(of),
+            One::Count => Node::Count(of),
+            One::Sum => Node::Sum(of),
             One::Single => Node::Single(of),
         }
     }

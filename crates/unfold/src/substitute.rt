@@ -86,6 +86,8 @@ fn substitute_node(
             substitute_field(alloc, rank, room, from, by, place, of, label)
         }
         Node::Empty(of) => substitute_one(alloc, rank, room, from, by, place, One::Empty, of),
+        Node::Count(of) => substitute_one(alloc, rank, room, from, by, place, One::Count, of),
+        Node::Sum(of) => substitute_one(alloc, rank, room, from, by, place, One::Sum, of),
         Node::Single(of) => substitute_one(alloc, rank, room, from, by, place, One::Single, of),
         Node::Union { left, right } => {
             substitute_two(alloc, rank, room, from, by, place, Two::Union, left, right)

@@ -12,6 +12,8 @@ pub(crate) fn uses(term: &Term, k: u64) -> u64 {
         Node::Unary { op: _, of: only }
         | Node::Field { of: only, label: _ }
         | Node::Empty(only)
+        | Node::Count(only)
+        | Node::Sum(only)
         | Node::Single(only) => uses(only, k),
         Node::Fun { taken: _, body } => uses(body, under),
         Node::Binary { op: _, left, right }

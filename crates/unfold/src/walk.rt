@@ -104,6 +104,8 @@ fn walk_node(
             walk_field(alloc, rank, room, level, scope, place, of, label)
         }
         Node::Empty(of) => walk_one(alloc, rank, room, level, scope, place, One::Empty, of),
+        Node::Count(of) => walk_one(alloc, rank, room, level, scope, place, One::Count, of),
+        Node::Sum(of) => walk_one(alloc, rank, room, level, scope, place, One::Sum, of),
         Node::Single(of) => walk_one(alloc, rank, room, level, scope, place, One::Single, of),
         Node::Union { left, right } => {
             walk_two(

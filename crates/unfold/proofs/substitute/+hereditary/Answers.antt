@@ -1,7 +1,7 @@
 use Rattle.std.proofs.Common.{◌≡◌, ◌-◌, refl, reverse, sym, ap, ◌∙◌, subst as along, IfOk}
 use Rattle.std.proofs.lemmas.Result.{IfOk-weaker}
 use Rattle.nq_model.specs.Terms.{PlacedNode, at, placed, placed_node}
-use Rattle.nq_model.proofs.Terms.{node_fun, node_choose, node_apply, node_binary, node_bind, node_empty, node_field, node_for, node_guard, node_single, node_unary, node_union, node_var}
+use Rattle.nq_model.proofs.Terms.{node_fun, node_choose, node_apply, node_binary, node_bind, node_empty, node_count, node_sum, node_field, node_for, node_guard, node_single, node_unary, node_union, node_var}
 use Rattle.unfold.specs.Hereditary.{substitute, substitute_fields, apply_by, apply_at}
 use Rattle.unfold.specs.Slots.{Puts}
 use Rattle.unfold.proofs.Facts.{apply_more, record_made, same_branches, substitute_fields-of, turned, placed_as}
@@ -83,6 +83,14 @@ substitute_node-returns-in-Field t c =
 pub substitute_node-returns-in-Empty : goal.substitute_node-returns-in-Empty
 substitute_node-returns-in-Empty t c =
     along (λ z. IfOk c.substitute_one-in-Empty.result (λ b. Puts c.args.by.now c.substitute_one-in-Empty.new.by (λ s. placed b.term ≡ substitute (apply_at c.args.rank) c.args.from s z))) (sym (placed_as c.args.term (ap placed_node c.in-Empty.is ∙ node_empty c.in-Empty.of))) c.substitute_one-in-Empty.ensures
+
+pub substitute_node-returns-in-Count : goal.substitute_node-returns-in-Count
+substitute_node-returns-in-Count t c =
+    along (λ z. IfOk c.substitute_one-in-Count.result (λ b. Puts c.args.by.now c.substitute_one-in-Count.new.by (λ s. placed b.term ≡ substitute (apply_at c.args.rank) c.args.from s z))) (sym (placed_as c.args.term (ap placed_node c.in-Count.is ∙ node_count c.in-Count.of))) c.substitute_one-in-Count.ensures
+
+pub substitute_node-returns-in-Sum : goal.substitute_node-returns-in-Sum
+substitute_node-returns-in-Sum t c =
+    along (λ z. IfOk c.substitute_one-in-Sum.result (λ b. Puts c.args.by.now c.substitute_one-in-Sum.new.by (λ s. placed b.term ≡ substitute (apply_at c.args.rank) c.args.from s z))) (sym (placed_as c.args.term (ap placed_node c.in-Sum.is ∙ node_sum c.in-Sum.of))) c.substitute_one-in-Sum.ensures
 
 pub substitute_node-returns-in-Single : goal.substitute_node-returns-in-Single
 substitute_node-returns-in-Single t c =

@@ -4,7 +4,7 @@ use Rattle.nq_model.specs.Terms.{PlacedNode, at, placed, placed_node, placed_fie
 use Rattle.nq_model.specs.Unfolding.{picked}
 use Rattle.nq_model.specs.declared.term.Term.{roll-Term}
 use Rattle.nq_model.specs.declared.term.Node.TheVariants.{Rec}
-use Rattle.nq_model.proofs.Terms.{placed_term, node_fun, node_apply, node_record, node_binary, node_bind, node_choose, node_empty, node_field, node_for, node_guard, node_single, node_unary, node_union, node_var}
+use Rattle.nq_model.proofs.Terms.{placed_term, node_fun, node_apply, node_record, node_binary, node_bind, node_choose, node_empty, node_count, node_sum, node_field, node_for, node_guard, node_single, node_unary, node_union, node_var}
 use Rattle.unfold.specs.Hereditary.{apply_at, field_by}
 use Rattle.unfold.specs.Environments.{stays, given, walk_in, walk_each, taken_by}
 use Rattle.unfold.specs.Scopes.{Keeps}
@@ -99,6 +99,14 @@ walk_node-returns-in-Field t c =
 pub walk_node-returns-in-Empty : goal.walk_node-returns-in-Empty
 walk_node-returns-in-Empty t c =
     along (λ z. IfOk c.walk_one-in-Empty.result (λ b. Keeps c.args.scope.now c.walk_one-in-Empty.new.scope (λ es. placed b.term ≡ walk_in c.args.rank c.args.level es z))) (sym (placed_as c.args.term (ap placed_node c.in-Empty.is ∙ node_empty c.in-Empty.of))) c.walk_one-in-Empty.ensures
+
+pub walk_node-returns-in-Count : goal.walk_node-returns-in-Count
+walk_node-returns-in-Count t c =
+    along (λ z. IfOk c.walk_one-in-Count.result (λ b. Keeps c.args.scope.now c.walk_one-in-Count.new.scope (λ es. placed b.term ≡ walk_in c.args.rank c.args.level es z))) (sym (placed_as c.args.term (ap placed_node c.in-Count.is ∙ node_count c.in-Count.of))) c.walk_one-in-Count.ensures
+
+pub walk_node-returns-in-Sum : goal.walk_node-returns-in-Sum
+walk_node-returns-in-Sum t c =
+    along (λ z. IfOk c.walk_one-in-Sum.result (λ b. Keeps c.args.scope.now c.walk_one-in-Sum.new.scope (λ es. placed b.term ≡ walk_in c.args.rank c.args.level es z))) (sym (placed_as c.args.term (ap placed_node c.in-Sum.is ∙ node_sum c.in-Sum.of))) c.walk_one-in-Sum.ensures
 
 pub walk_node-returns-in-Single : goal.walk_node-returns-in-Single
 walk_node-returns-in-Single t c =
