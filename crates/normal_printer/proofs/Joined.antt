@@ -1,19 +1,21 @@
 -- Parts in a row, and the texts of terms that are joined from the left.
-use Rattle.std.proofs.Common.{◌≡◌, ℕ, suc, ◌+◌, ◌≤◌, true, false, nat_le, ◌==◌, List, [], ◌∷◌, ◌++◌, codes, length, drop, map, refl, sym, ap, ◌∙◌, append_assoc, append-nil, arith}
+use Rattle.std.proofs.Common.{◌≡◌, ℕ, suc, ◌+◌, ◌≤◌, true, false, nat_le, ◌==◌, List, [], ◌∷◌, ◌++◌, codes, length, drop, map, refl, sym, ap, ◌∙◌, append_assoc, append-nil, arith, Box, Global}
 use Rattle.std.proofs.lemmas.Bool.Decides.{nat_tests}
 use Rattle.std.proofs.lemmas.List.{drop_all}
+use Rattle.nq_model.specs.Terms.{Count}
 use Rattle.nq_model.specs.Types.{TypeTree, field_types_of, fields_view, type_tree}
 use Rattle.nq_model.specs.declared.term.Binary.TheVariants.{And}
 use Rattle.nq_model.specs.declared.ty.Ty.{Ty}
 use Rattle.nq_ir.specs.declared.base.Gen.{Gen}
 use Rattle.nq_ir.specs.declared.base.Base.{Base}
+use Rattle.nq_ir.specs.declared.base.Base.TheVariants as base
 use Rattle.nq_ir.specs.declared.base.Test.{Test}
 use Rattle.nq_ir.specs.declared.normal.Comp.{Comp}
 use Rattle.nq_ir.specs.declared.normal.Body.{Body}
 use Rattle.nq_ir.specs.declared.normal.Normal.{Normal, out-Normal}
 use Rattle.nq_ir.specs.Trees.{Conds, no_cond, and_cond, conds_tree, base_tree, TestPart, test, test_part, tests_of, CompPart, comp, comp_part, comps_of, bodies_of, body_tree, form_tree}
-use Rattle.nq_ir.specs.Printed.{NamedTerm, NamedFields, binary, union, single, rec, under_gens, named_base, named_body, named_fields, named_where, named_tests, tests_then, named_comps, comps_then, and_then, level, fenced, name_text, type_text, more_types, text_of, more_text, printed_text}
-use Rattle.nq_ir.proofs.Forms.{test_is, comp_is, form_is}
+use Rattle.nq_ir.specs.Printed.{NamedTerm, NamedFields, binary, union, single, rec, no_field, aggregate, under_gens, named_base, named_body, named_fields, named_where, named_tests, tests_then, named_comps, comps_then, named_form, and_then, level, fenced, name_text, type_text, more_types, text_of, more_text}
+use Rattle.nq_ir.proofs.Forms.{base_count, base_sum, test_is, comp_is, form_is}
 use Rattle.normal_printer.specs.Parts.{text_at, level_in, lead, comp_term, gens_text, where_text, test_term, whole_term}
 
 -- parts in a row, each behind what stands before it
@@ -94,7 +96,7 @@ conds_written (b ∷ bs) start old new some e f =
     ∙ append_assoc start (joined (part_at cond_term 4 (length (b ∷ bs))) (codes "where (") (codes " && ") 0 (b ∷ bs)) (codes ") ")
     ∙ ap (λ (l : List ℕ). start ++ l) (conds_joined b bs)
 
-tests_chain : (s : NamedTerm) (ts : List Test) → tests_then s (tests_of (map test_part ts)) ≡ chain union s (map test_term ts)
+pub tests_chain : (s : NamedTerm) (ts : List Test) → tests_then s (tests_of (map test_part ts)) ≡ chain union s (map test_term ts)
 tests_chain s [] = refl
 tests_chain s (t ∷ ts) =
     ap (λ (p : TestPart). tests_then s (test p.gens p.conds (tests_of (map test_part ts)))) (test_is t) ∙ tests_chain (union s (test_term t)) ts
@@ -109,7 +111,7 @@ pub tests_written : (ts : List Test) → (length ts == 0) ≡ false → joined (
 tests_written [] e = absurd (cc)
 tests_written (t ∷ ts) e = tests_joined t ts
 
-comps_chain : (s : NamedTerm) (cs : List Comp) → comps_then s (comps_of (map comp_part cs)) ≡ chain union s (map whole_term cs)
+pub comps_chain : (s : NamedTerm) (cs : List Comp) → comps_then s (comps_of (map comp_part cs)) ≡ chain union s (map whole_term cs)
 comps_chain s [] = refl
 comps_chain s (c ∷ cs) =
     ap (λ (p : CompPart). comps_then s (comp p.tag p.gens p.conds p.body (comps_of (map comp_part cs)))) (comp_is c) ∙ comps_chain (union s (whole_term c)) cs
@@ -120,12 +122,16 @@ comps_joined a c cs =
     ∙ ap text_of (sym (comps_chain (whole_term c) cs))
     ∙ ap (λ (p : CompPart). text_of (named_comps a (comp p.tag p.gens p.conds p.body (comps_of (map comp_part cs))))) (sym (comp_is c))
 
-pub comps_written : (n : Normal) (cs : List Comp) → cs ≡ (out-Normal n).parts → ((out-Normal n).parts ≡ [] → ⊥) → joined (part_at whole_term 2 (length cs)) [] (codes " ++ ") 0 cs ≡ printed_text (form_tree n)
+pub comps_written : (n : Normal) (cs : List Comp) → cs ≡ (out-Normal n).parts → ((out-Normal n).parts ≡ [] → ⊥) → joined (part_at whole_term 2 (length cs)) [] (codes " ++ ") 0 cs ≡ text_of (named_form (form_tree n))
 comps_written n [] is e = absurd (e (sym is))
 comps_written n (c ∷ cs) is e =
     comps_joined (type_tree (out-Normal n).element) c cs
     ∙ ap (λ (ds : List Comp). text_of (named_comps (type_tree (out-Normal n).element) (comps_of (map comp_part ds)))) is
-    ∙ ap printed_text (sym (form_is n))
+    ∙ ap (λ form. text_of (named_form form)) (sym (form_is n))
+
+-- a count is asked of one comprehension
+pub named_count : (t : Test) → named_base (base_tree (base.Count t)) ≡ aggregate Count (test_term t)
+named_count t = ap named_base (base_count t) ∙ ap (λ (p : TestPart). aggregate Count (comp_term p.gens p.conds (rec no_field))) (test_is t)
 
 -- generators and conditions before a body
 under_text : (gens : List Gen) (s : NamedTerm) → text_of (under_gens gens s) ≡ gens_text gens ++ text_of s
@@ -146,6 +152,40 @@ head_text gens conds body old a b c d p q r s =
     ∙ ap (λ (l : List ℕ). old ++ (gens_text gens ++ (where_text conds ++ l))) s
     ∙ ap (λ (l : List ℕ). old ++ (gens_text gens ++ l)) (sym (where_text_is conds (single body)))
     ∙ ap (λ (l : List ℕ). old ++ l) (sym (under_text gens (named_where conds (single body))))
+
+-- what a sum goes over, and then its value
+pub over_written : (t : Test) (old a b new : List ℕ) → a ≡ old ++ codes "sum(" → b ≡ a ++ gens_text t.gens → new ≡ b ++ where_text (conds_tree t.conds)
+    → new ≡ old ++ (codes "sum(" ++ (gens_text (test_part t).gens ++ where_text (test_part t).conds))
+over_written t old a b new p q r =
+    r ∙ ap (λ (l : List ℕ). l ++ where_text (conds_tree t.conds)) (q ∙ ap (λ (l : List ℕ). l ++ gens_text t.gens) p)
+    ∙ (simp append_assoc)
+    ∙ ap (λ (x : TestPart). old ++ (codes "sum(" ++ (gens_text x.gens ++ where_text x.conds))) (sym (test_is t))
+
+sum_text : (t : Test) (b : Box Base Global) → text_of (named_base (base_tree (base.Sum t b)))
+    ≡ codes "sum(" ++ (gens_text (test_part t).gens ++ (where_text (test_part t).conds ++ (codes "[" ++ (text_of (named_base (base_tree b.value)) ++ codes "])"))))
+sum_text t b =
+    let gens = (test_part t).gens in
+    let conds = (test_part t).conds in
+    let value = named_base (base_tree b.value) in
+    ap (λ x. text_of (named_base x)) (base_sum t b)
+    ∙ ap (λ (l : List ℕ). codes "sum(" ++ (l ++ codes ")")) (under_text gens (named_where conds (single value)) ∙ ap (λ (l : List ℕ). gens_text gens ++ l) (where_text_is conds (single value)))
+    ∙ sum_pieces (codes "sum(") (gens_text gens) (where_text conds) (codes "[") (text_of value) (codes "]") (codes ")")
+  where
+    sum_pieces : (p g w b v c d : List ℕ) → p ++ ((g ++ (w ++ (b ++ (v ++ c)))) ++ d) ≡ p ++ (g ++ (w ++ (b ++ (v ++ (c ++ d)))))
+    sum_pieces p g w b v c d = simp append_assoc
+
+pub sum_written : (x : Base) (t : Test) (b : Box Base Global) (v : Base) (old a new : List ℕ) → x ≡ base.Sum t b → v ≡ b.value
+    → a ≡ old ++ (codes "sum(" ++ (gens_text (test_part t).gens ++ where_text (test_part t).conds))
+    → new ≡ a ++ (codes "[" ++ (text_of (named_base (base_tree v)) ++ codes "])")) → new ≡ old ++ text_of (named_base (base_tree x))
+sum_written x t b v old a new is at p q =
+    q ∙ ap (λ (l : List ℕ). l ++ (codes "[" ++ (text_of (named_base (base_tree v)) ++ codes "])"))) p
+    ∙ pieces old (codes "sum(") (gens_text (test_part t).gens) (where_text (test_part t).conds) (codes "[" ++ (text_of (named_base (base_tree v)) ++ codes "])"))
+    ∙ ap (λ z. old ++ (codes "sum(" ++ (gens_text (test_part t).gens ++ (where_text (test_part t).conds ++ (codes "[" ++ (text_of (named_base (base_tree z)) ++ codes "])")))))) at
+    ∙ ap (λ (l : List ℕ). old ++ l) (sym (sum_text t b))
+    ∙ ap (λ z. old ++ text_of (named_base (base_tree z))) (sym is)
+  where
+    pieces : (old p g w r : List ℕ) → (old ++ (p ++ (g ++ w))) ++ r ≡ old ++ (p ++ (g ++ (w ++ r)))
+    pieces old p g w r = simp append_assoc
 
 -- three pieces, one after another
 pub three_pieces : (old mid last new p q r : List ℕ) → mid ≡ old ++ p → last ≡ mid ++ q → new ≡ last ++ r → new ≡ old ++ (p ++ (q ++ r))

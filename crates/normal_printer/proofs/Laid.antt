@@ -2,8 +2,9 @@
 use Rattle.std.proofs.Common.{◌≡◌, ℕ, suc, Bool, true, false, nat_le, List, ◌∷◌, ◌++◌, codes, refl, ap, ◌∙◌, append_assoc}
 use Rattle.std.specs.Fmt.{decimal}
 use Rattle.nq_model.specs.Canonical.{cell_text}
+use Rattle.nq_model.specs.QueryGrammar.{aggregate_word}
 use Rattle.nq_model.specs.Types.{TypeTree, FieldTypes}
-use Rattle.nq_ir.specs.Printed.{NamedTerm, var, constant, unary, binary, choose, table, rec, field, single, nil, union, for, guard, empty, NamedFields, no_field, with_field, level, level_of, left_level, sign_of, word_of, fenced, type_text, more_types, text_of, more_text}
+use Rattle.nq_ir.specs.Printed.{NamedTerm, var, constant, unary, binary, choose, table, rec, field, single, nil, union, for, guard, aggregate, NamedFields, no_field, with_field, level, level_of, left_level, sign_of, word_of, fenced, type_text, more_types, text_of, more_text}
 
 -- in parentheses, or as it stands
 abbrev pub fence : Bool → (List ℕ → List ℕ) → List ℕ → List ℕ
@@ -41,7 +42,7 @@ abbrev mutual
   text_then (union a b) x = fence (nat_le 2 (level a)) (λ y. text_then a y) (codes " ++ " ++ fence (nat_le 3 (level b)) (λ y. text_then b y) x)
   text_then (for k a b) x = codes "for (x" ++ (decimal k ++ (codes " <- " ++ text_then a (41 ∷ 32 ∷ text_then b x)))
   text_then (guard t a) x = codes "where (" ++ text_then t (41 ∷ 32 ∷ text_then a x)
-  text_then (empty a) x = codes "empty(" ++ text_then a (41 ∷ x)
+  text_then (aggregate g a) x = aggregate_word g ++ 40 ∷ text_then a (41 ∷ x)
 
   pub fields_then : NamedFields → List ℕ → List ℕ
   fields_then no_field x = 41 ∷ x
@@ -121,7 +122,8 @@ mutual
       three_laid (codes "where (") (text_of t) (codes ") ") (text_of a) x
       ∙ ap (λ (l : List ℕ). codes "where (" ++ (text_of t ++ (codes ") " ++ l))) (text_laid a x)
       ∙ ap (λ (l : List ℕ). codes "where (" ++ l) (text_laid t (41 ∷ 32 ∷ text_then a x))
-  text_laid (empty a) x = ap (λ (z : List ℕ). codes "empty(" ++ z) (append_assoc (text_of a) (codes ")") x ∙ text_laid a (41 ∷ x))
+  text_laid (aggregate g a) x =
+      three_laid (aggregate_word g) (codes "(") (text_of a) (codes ")") x ∙ ap (λ (z : List ℕ). aggregate_word g ++ 40 ∷ z) (text_laid a (41 ∷ x))
 
   fields_laid : (fs : NamedFields) (x : List ℕ) → more_text fs ++ x ≡ fields_then fs x
   fields_laid no_field x = refl

@@ -16,7 +16,7 @@ use Rattle.nq_model.specs.Proper.{IsQueryWord, labels_of}
 use Rattle.nq_model.specs.QueryScope.{Name, among, number_of}
 use Rattle.nq_model.specs.Types.{TypeTree, FieldTypes, field_types_of}
 use Rattle.nq_ir.specs.WellFormed.{IsLiteral}
-use Rattle.nq_ir.specs.Printed.{NamedTerm, var, constant, unary, binary, choose, table, rec, field, single, nil, union, for, guard, empty, NamedFields, no_field, with_field, place_of, name_text}
+use Rattle.nq_ir.specs.Printed.{NamedTerm, var, constant, unary, binary, choose, table, rec, field, single, nil, union, for, guard, aggregate, NamedFields, no_field, with_field, place_of, name_text}
 
 -- k is one of these names
 abbrev pub IsBound : List ℕ → ℕ → Type 0
@@ -63,7 +63,7 @@ abbrev mutual
   Legible sc (union a b) = Legible sc a × Legible sc b
   Legible sc (for k a b) = (k < 2 ^ 63) × Legible sc a × Legible (k ∷ sc) b
   Legible sc (guard t a) = Legible sc t × Legible sc a
-  Legible sc (empty a) = Legible sc a
+  Legible sc (aggregate g a) = Legible sc a
 
   pub LegibleFields : List ℕ → NamedFields → Type 0
   LegibleFields sc no_field = ⊤

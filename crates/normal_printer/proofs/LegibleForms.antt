@@ -4,13 +4,14 @@ use Rattle.std.specs.List.{AllByRecursion as Each}
 use Rattle.std.proofs.lemmas.Bool.Decides.{Decides-eqb}
 use Rattle.nq_model.specs.NamedRows.{Label}
 use Rattle.nq_model.specs.Proper.{IsQueryWord, IsOrdered, AreOrdered, labels_of}
+use Rattle.nq_model.specs.Totals.{HowMany, SumOf}
 use Rattle.nq_model.specs.Types.{TypeTree, int, bool, text, rec, bag, fun, FieldTypes, none, field, is_plain, are_plain}
 use Rattle.nq_model.specs.declared.table.ColumnType.{ColumnType}
 use Rattle.nq_model.specs.declared.table.ColumnType.TheVariants as column_type
 use Rattle.nq_model.specs.declared.table.TableShape.{TableShape}
 use Rattle.nq_model.specs.declared.term.Binary.TheVariants.{And}
 use Rattle.nq_ir.specs.declared.base.Gen.{Gen}
-use Rattle.nq_ir.specs.Trees.{BaseTree, literal, column, unary, binary, choose, empty, Conds, no_cond, and_cond, Tests, no_test, test, BodyTree, plain_body, rec_body, bag_body, Bodies, no_body, with_body, Comps, no_comp, comp, FormTree}
+use Rattle.nq_ir.specs.Trees.{BaseTree, literal, column, unary, binary, choose, empty, total, Conds, no_cond, and_cond, Tests, no_test, test, BodyTree, plain_body, rec_body, bag_body, Bodies, no_body, with_body, Comps, no_comp, comp, FormTree}
 use Rattle.nq_ir.specs.Printed.{NamedTerm, under_gens, unit_bag, named_base, named_where, and_then, named_tests, tests_then, named_body, named_fields, named_comps, comps_then, named_form}
 use Rattle.nq_ir.specs.WellFormed.{BaseHas, CondsHave, TestsHave, BodyHas, BodiesHave, CompsHave, IsNumber, column_type_in, gen_columns, table_columns, numbers, base_numbers, conds_numbers, tests_numbers, body_numbers, bodies_numbers, comps_numbers}
 use Rattle.nq_ir.specs.Words.{TypeWords, FieldsWords, GensWords, BaseWords, CondsWords, TestsWords, BodyWords, BodiesWords, CompsWords}
@@ -61,6 +62,9 @@ covers_own : (gens : List Gen) (sc : List ℕ) → Covers (names_behind gens sc)
 covers_own [] sc = tt
 covers_own (g ∷ gens) sc = (still_bound gens (g.number ∷ sc) g.number (inl refl), covers_own gens (g.number ∷ sc))
 
+covers_both : (gens : List Gen) (sc : List ℕ) (scope : List Gen) → Covers sc scope → Covers (names_behind gens sc) (gens ++ scope)
+covers_both gens sc scope c = each_join (λ (g : Gen). IsBound (names_behind gens sc) g.number) gens scope (covers_own gens sc) (still_covers gens sc scope c)
+
 column_bound : (S : List TableShape) (scope : List Gen) (sc : List ℕ) (g : ℕ) (l : Label) (T : ColumnType) → Covers sc scope → column_type_in l (gen_columns S scope g) ≡ Some T → IsBound sc g
 column_bound S [] sc g l T c h = absurd (cc)
 column_bound S (k ∷ scope) sc g l T c h = go (nat_eq g k.number) refl h (λ i. column_bound S scope sc g l T c.1 i)
@@ -90,6 +94,16 @@ module _ (S : List TableShape) where
           base_legible b sc scope T h.2 w.2 (each_right IsNumber (base_numbers a) (base_numbers b) m) c,
         )
     base_legible (empty xs) sc scope T h w n c = tests_legible xs sc scope h.1 w n c
+    base_legible (total HowMany gens bs b) sc scope T h w n c =
+        let m = each_right IsNumber (numbers gens) (conds_numbers bs ++ base_numbers b) n in
+        under_legible gens sc (named_where bs unit_bag) w.0 (each_left IsNumber (numbers gens) (conds_numbers bs ++ base_numbers b) n)
+        (where_legible bs unit_bag (names_behind gens sc) (gens ++ scope) h.2 w.1 (each_left IsNumber (conds_numbers bs) (base_numbers b) m) (covers_both gens sc scope c) (tt, tt))
+    base_legible (total SumOf gens bs b) sc scope T h w n c =
+        let m = each_right IsNumber (numbers gens) (conds_numbers bs ++ base_numbers b) n in
+        let all = covers_both gens sc scope c in
+        under_legible gens sc (named_where bs (NamedTerm.single (named_base b))) w.0 (each_left IsNumber (numbers gens) (conds_numbers bs ++ base_numbers b) n)
+        (where_legible bs (NamedTerm.single (named_base b)) (names_behind gens sc) (gens ++ scope) h.2 w.1 (each_left IsNumber (conds_numbers bs) (base_numbers b) m) all
+        (base_legible b (names_behind gens sc) (gens ++ scope) column_type.Int h.3 w.2 (each_right IsNumber (conds_numbers bs) (base_numbers b) m) all))
 
     where_legible : (bs : Conds) (s : NamedTerm) (sc : List ℕ) (scope : List Gen) → CondsHave S scope bs → CondsWords IsQueryWord bs → Each IsNumber (conds_numbers bs) → Covers sc scope → Legible sc s → Legible sc (named_where bs s)
     where_legible no_cond s sc scope h w n c l = l
@@ -110,7 +124,7 @@ module _ (S : List TableShape) where
         tests_then_legible xs (under_gens gens (named_where bs unit_bag)) sc scope h.2 w.2 (each_right IsNumber (conds_numbers bs) (tests_numbers xs) m) c
         (under_legible gens sc (named_where bs unit_bag) w.0 (each_left IsNumber (numbers gens) (conds_numbers bs ++ tests_numbers xs) n)
         (where_legible bs unit_bag (names_behind gens sc) (gens ++ scope) h.1 w.1 (each_left IsNumber (conds_numbers bs) (tests_numbers xs) m)
-        (each_join (λ (g : Gen). IsBound (names_behind gens sc) g.number) gens scope (covers_own gens sc) (still_covers gens sc scope c)) (tt, tt)))
+        (covers_both gens sc scope c) (tt, tt)))
 
     tests_then_legible : (xs : Tests) (s : NamedTerm) (sc : List ℕ) (scope : List Gen) → TestsHave S scope xs → TestsWords IsQueryWord xs → Each IsNumber (tests_numbers xs) → Covers sc scope → Legible sc s → Legible sc (tests_then s xs)
     tests_then_legible no_test s sc scope h w n c l = l
@@ -120,7 +134,7 @@ module _ (S : List TableShape) where
           l,
           under_legible gens sc (named_where bs unit_bag) w.0 (each_left IsNumber (numbers gens) (conds_numbers bs ++ tests_numbers xs) n)
               (where_legible bs unit_bag (names_behind gens sc) (gens ++ scope) h.1 w.1 (each_left IsNumber (conds_numbers bs) (tests_numbers xs) m)
-              (each_join (λ (g : Gen). IsBound (names_behind gens sc) g.number) gens scope (covers_own gens sc) (still_covers gens sc scope c)) (tt, tt)),
+              (covers_both gens sc scope c) (tt, tt)),
         )
 
   -- the labels of a record are those of its type

@@ -1,12 +1,14 @@
 -- The term as which a form prints means what the form means.
-use Rattle.std.proofs.Common.{◌≡◌, ℕ, suc, List, [], ◌∷◌, ◌++◌, map, zip, refl, sym, ap, ap₂, ◌∙◌, subst, Bool, true, false, cond, filter, flat_map, find, get_or, append_assoc, append-nil, nat_eq, ◌&&◌, Some, bytes_eq}
+use Rattle.std.proofs.Common.{◌≡◌, ℕ, suc, List, [], ◌∷◌, ◌++◌, map, zip, refl, sym, ap, ap₂, ◌∙◌, subst, Bool, true, false, cond, filter, flat_map, find, get_or, append_assoc, pos, append-nil, nat_eq, ◌&&◌, Some, bytes_eq}
 use Rattle.std.specs.Prelude.{⊤}
 use Rattle.std.specs.List.{AllByRecursion as Each}
 use Rattle.std.specs.Ordering.{is_gt}
 use Rattle.std.specs.declared.cmp.Ordering.TheVariants.{Less, Equal, Greater}
 use Rattle.std.specs.Ordering.{ordering_reverse}
 use Rattle.std.proofs.lemmas.Bool.Decides.{Decides-eqb}
+use Rattle.std.proofs.lemmas.List.{length-map}
 use Rattle.std.proofs.lemmas.Slice.Eq.{bytes_eq-Decides}
+use Rattle.std.specs.Int.{int_wrap, w64}
 use Rattle.std.specs.declared.cmp.Ordering.{Ordering}
 use Rattle.std.specs.Cmp.Lexicographic.{nat_list_cmp_total}
 use Rattle.nq_model.specs.Databases.{FilledTable, rows_value, table_meaning}
@@ -15,6 +17,7 @@ use Rattle.nq_model.specs.NamedRows.{Label, Row, no_cell, cell_under, named_tabl
 use Rattle.nq_model.specs.Operators.{is_true, unary_value, binary_value}
 use Rattle.nq_model.specs.Orders.{AreDistinct, AreRising, by_label, label_cmp}
 use Rattle.nq_model.specs.Tables.{names_of, row_record}
+use Rattle.nq_model.specs.Totals.{HowMany, SumOf, count_of, sum_of}
 use Rattle.nq_model.specs.Proper.{IsOrdered, AreOrdered, labels_of}
 use Rattle.nq_model.specs.Types.{TypeTree, FieldTypes}
 use Rattle.nq_model.specs.declared.table.TableShape.{TableShape}
@@ -25,7 +28,7 @@ use Rattle.nq_model.specs.declared.term.Binary.TheVariants.{And}
 use Rattle.nq_model.proofs.Sameness.{elements_back}
 use Rattle.nq_ir.specs.declared.base.Gen.{Gen}
 use Rattle.nq_ir.specs.Meanings.{Tables, Env, rows_in, row_of, choices, value, all_true, no_kept, kept, body_meaning, bodies_meaning, comps_meaning, form_meaning}
-use Rattle.nq_ir.specs.Printed.{NamedTerm, place_of, bound, bound_fields, under_gens, unit_bag, named_base, named_where, and_then, named_tests, tests_then, named_body, named_fields, named_comps, comps_then, printed_term}
+use Rattle.nq_ir.specs.Printed.{NamedTerm, no_field, place_of, bound, bound_fields, under_gens, unit_bag, named_base, named_where, and_then, named_tests, tests_then, named_body, named_fields, named_comps, comps_then, printed_term}
 use Rattle.nq_ir.specs.Trees.{BaseTree, Conds, no_cond, and_cond, Tests, no_test, test, BodyTree, plain_body, rec_body, bag_body, Bodies, no_body, with_body, Comps, no_comp, comp, FormTree}
 use Rattle.nq_ir.specs.WellFormed.{IsWellFormed, BodyHas, BodiesHave, CompsHave, base_numbers, conds_numbers, tests_numbers, body_numbers, bodies_numbers, comps_numbers}
 use Rattle.normal_printer.specs.Parts.{comp_term}
@@ -236,13 +239,13 @@ module _ (tables : List FilledTable) where
   abbrev WhereShown : Conds → Type 0
   WhereShown bs = (s : NamedTerm) (sc : List ℕ) (vs : List Nested) (e : Env) → Holds sc vs e → Fresh e (conds_numbers bs) → elements_in (meaning tables vs (bound sc (named_where bs s))) ≡ cond (all_true ts bs e) (elements_in (meaning tables vs (bound sc s))) []
 
-  none_shown : {A : Type 0} (k : Env → List A) (p : Env → Bool) (y : Env → A) (l : List Env) → Each (λ f. k f ≡ cond (p f) (y f ∷ []) []) l → is_none (flat_map k l) ≡ is_none (filter p l)
-  none_shown k p y [] h = refl
-  none_shown k p y (f ∷ l) h = ap (λ (z : List _). is_none (z ++ flat_map k l)) h.0 ∙ go (p f) (none_shown k p y l h.1)
+  each_shown : {A : Type 0} (k : Env → List A) (p : Env → Bool) (y : Env → A) (l : List Env) → Each (λ f. k f ≡ cond (p f) (y f ∷ []) []) l → flat_map k l ≡ map y (filter p l)
+  each_shown k p y [] h = refl
+  each_shown k p y (f ∷ l) h = ap₂ (λ (u w : List _). u ++ w) h.0 (each_shown k p y l h.1) ∙ go (p f)
     where
-      go : (t : Bool) → is_none (flat_map k l) ≡ is_none (filter p l) → is_none (cond t (y f ∷ []) [] ++ flat_map k l) ≡ is_none (cond t (f ∷ filter p l) (filter p l))
-      go true i = refl
-      go false i = i
+      go : (t : Bool) → cond t (y f ∷ []) [] ++ map y (filter p l) ≡ map y (cond t (f ∷ filter p l) (filter p l))
+      go true = refl
+      go false = refl
 
   kept_shown : {A : Type 0} (k : Env → List A) (e : Env) (p : Env → Bool) (y : Env → A) (l : List Env) → Each (λ f. k f ≡ cond (p (e ++ f)) (y (e ++ f) ∷ []) []) l → flat_map k l ≡ map y (filter p (map (λ f. e ++ f) l))
   kept_shown k e p y [] h = refl
@@ -252,10 +255,34 @@ module _ (tables : List FilledTable) where
       go true = refl
       go false = refl
 
+  -- what stands behind generators and conditions, at each choice that they keep
+  inner_shown : (gens : List Gen) (bs : Conds) (s : NamedTerm) (y : Env → Nested) (ns : List ℕ) → WhereShown bs
+      → ((sc : List ℕ) (vs : List Nested) (e : Env) → Holds sc vs e → Fresh e ns → meaning tables vs (bound sc s) ≡ y e)
+      → (sc : List ℕ) (vs : List Nested) (e : Env) → Holds sc vs e → Fresh e (map (λ g. g.number) gens ++ (conds_numbers bs ++ ns))
+      → elements_in (meaning tables vs (bound sc (under_gens gens (named_where bs (NamedTerm.single s))))) ≡ map (λ f. y (f ++ e)) (filter (λ f. all_true ts bs (f ++ e)) (choices ts gens))
+  inner_shown gens bs s y ns w d sc vs e h k =
+      let one : Env → List Nested = λ f. elements_in (meaning tables (values_with f vs) (bound (names_with gens sc) (named_where bs (NamedTerm.single s)))) in
+      chain gens (named_where bs (NamedTerm.single s)) sc vs
+      ∙ each_shown one (λ f. all_true ts bs (f ++ e)) (λ f. y (f ++ e)) (choices ts gens)
+      (each_weaker (ChoiceFits sc vs e gens (conds_numbers bs ++ ns)) (λ f. one f ≡ cond (all_true ts bs (f ++ e)) (y (f ++ e) ∷ []) []) (λ f q. one_choice f q) (choices ts gens) (choices_fit ts gens sc vs e (conds_numbers bs ++ ns) h k))
+    where
+      one_choice : (f : Env) → ChoiceFits sc vs e gens (conds_numbers bs ++ ns) f
+          → elements_in (meaning tables (values_with f vs) (bound (names_with gens sc) (named_where bs (NamedTerm.single s)))) ≡ cond (all_true ts bs (f ++ e)) (y (f ++ e) ∷ []) []
+      one_choice f q =
+          let i = fit_in_front sc vs e gens (conds_numbers bs ++ ns) f q in
+          let p = fresh_part (f ++ e) (conds_numbers bs) ns i.1 in
+          w (NamedTerm.single s) (names_with gens sc) (values_with f vs) (f ++ e) i.0 p.0
+          ∙ ap (λ v. cond (all_true ts bs (f ++ e)) (v ∷ []) []) (d (names_with gens sc) (values_with f vs) (f ++ e) i.0 p.1)
+
+  none_mapped : {A B : Type 0} (y : A → B) (l : List A) → is_none (map y l) ≡ is_none l
+  none_mapped y [] = refl
+  none_mapped y (x ∷ l) = refl
+
   test_shown : (gens : List Gen) (bs : Conds) → WhereShown bs → (sc : List ℕ) (vs : List Nested) (e : Env) → Holds sc vs e → Fresh e (map (λ g. g.number) gens ++ conds_numbers bs) → is_none (elements_in (meaning tables vs (bound sc (under_gens gens (named_where bs unit_bag))))) ≡ is_none (filter (λ f. all_true ts bs (f ++ e)) (choices ts gens))
   test_shown gens bs w sc vs e h k =
-      let one : Env → List Nested = λ f. elements_in (meaning tables (values_with f vs) (bound (names_with gens sc) (named_where bs unit_bag))) in
-      ap is_none (chain gens (named_where bs unit_bag) sc vs) ∙ none_shown one (λ f. all_true ts bs (f ++ e)) (λ f. rec Fields.none) (choices ts gens) (each_weaker (ChoiceFits sc vs e gens (conds_numbers bs)) (λ f. one f ≡ cond (all_true ts bs (f ++ e)) (rec Fields.none ∷ []) []) (λ f q. let i = fit_in_front sc vs e gens (conds_numbers bs) f q in w unit_bag (names_with gens sc) (values_with f vs) (f ++ e) i.0 i.1) (choices ts gens) (choices_fit ts gens sc vs e (conds_numbers bs) h k))
+      let fresh = subst (λ (z : List ℕ). Fresh e (map (λ g. g.number) gens ++ z)) (sym (append-nil (conds_numbers bs))) k in
+      ap is_none (inner_shown gens bs (NamedTerm.rec no_field) (λ f. rec Fields.none) [] w (λ sc vs e h k. refl) sc vs e h fresh)
+      ∙ none_mapped (λ f. rec Fields.none) (filter (λ f. all_true ts bs (f ++ e)) (choices ts gens))
 
   none_append : {A : Type 0} (xs ys : List A) → is_none (xs ++ ys) ≡ (is_none xs && is_none ys)
   none_append [] ys = refl
@@ -268,6 +295,14 @@ module _ (tables : List FilledTable) where
   and_assoc : (a b c : Bool) → ((a && b) && c) ≡ (a && (b && c))
   and_assoc true b c = refl
   and_assoc false b c = refl
+
+  -- as many as there are choices, and the values at them
+  counted : {A B C : Type 0} (y : A → B) (v : A → C) (l : List A) → count_of (map y l) ≡ count_of (map v l)
+  counted y v l = ap (λ n. int_wrap w64 (pos n)) (length-map l y ∙ sym (length-map l v))
+
+  cells_back : {A : Type 0} (v : A → Cell) (l : List A) → map cell_of (map (λ f. base (v f)) l) ≡ map v l
+  cells_back v [] = refl
+  cells_back v (x ∷ l) = ap (λ (z : List Cell). v x ∷ z) (cells_back v l)
 
   mutual
     base_shown : (b : BaseTree) (sc : List ℕ) (vs : List Nested) (e : Env) → Holds sc vs e → Fresh e (base_numbers b) → meaning tables vs (bound sc (named_base b)) ≡ base (value ts b e)
@@ -290,6 +325,12 @@ module _ (tables : List FilledTable) where
         go true = refl
         go false = refl
     base_shown (BaseTree.empty xs) sc vs e h k = ap (λ z. base (cell.Bool z)) (tests_shown xs sc vs e h k)
+    base_shown (BaseTree.total HowMany gens bs b) sc vs e h k =
+        ap (λ (l : List Nested). base (cell.Int (count_of l))) (inner_shown gens bs (NamedTerm.rec no_field) (λ f. rec Fields.none) (base_numbers b) (where_shown bs) (λ sc vs e h k. refl) sc vs e h k)
+        ∙ ap (λ n. base (cell.Int n)) (counted (λ f. rec Fields.none) (λ f. value ts b (f ++ e)) (filter (λ f. all_true ts bs (f ++ e)) (choices ts gens)))
+    base_shown (BaseTree.total SumOf gens bs b) sc vs e h k =
+        ap (λ (l : List Nested). base (cell.Int (sum_of (map cell_of l)))) (inner_shown gens bs (named_base b) (λ f. base (value ts b f)) (base_numbers b) (where_shown bs) (λ sc vs e h k. base_shown b sc vs e h k) sc vs e h k)
+        ∙ ap (λ (l : List Cell). base (cell.Int (sum_of l))) (cells_back (λ f. value ts b (f ++ e)) (filter (λ f. all_true ts bs (f ++ e)) (choices ts gens)))
 
     where_shown : (bs : Conds) → WhereShown bs
     where_shown no_cond s sc vs e h k = refl

@@ -1,17 +1,18 @@
 -- The text of a legible term spells it.
-use Rattle.std.proofs.Common.{◌≡◌, ℕ, suc, ◌+◌, ◌≤◌, ℤ, Bool, true, false, nat_le, List, [], ◌∷◌, ◌++◌, length, codes, refl, sym, ap, ap₂, ◌∙◌, subst, append_assoc, append-nil, arith}
-use Rattle.std.specs.Fmt.{decimal, signed_decimal}
+use Rattle.std.proofs.Common.{◌≡◌, ℕ, suc, ◌+◌, ◌≤◌, ℤ, Bool, true, false, ◌||◌, cond, max, nat_le, List, [], ◌∷◌, ◌++◌, length, codes, refl, sym, ap, ap₂, ◌∙◌, subst, append_assoc, append-nil, arith}
+use Rattle.std.specs.Prelude.{⊤}
+use Rattle.std.specs.Fmt.{decimal, digits, signed_decimal}
 use Rattle.std.specs.Str.{IsUtf8}
 use Rattle.std.proofs.lemmas.Bool.Decides.{nat_tests}
 use Rattle.nq_model.specs.Canonical.{doubled_quotes}
 use Rattle.nq_model.specs.NamedRows.{Label}
 use Rattle.nq_model.specs.Orders.{by_label}
 use Rattle.nq_model.specs.Proper.{IsQueryWord, labels_of}
-use Rattle.nq_model.specs.QueryGrammar.{First, TypeSyntax, TBase, TBag, TNoFields, TRec, TypeFields, TOne, TMore, Syntax, Const, Truth, Var, Table, Empty, Paren, NoFields, Rec, Bag, Nil, For, Where, If, Prefix, Infix, Field, Fields, One, More, type_tokens, type_fields_tokens, tokens, fields_tokens, TypeFits, TypeFieldsFit, Fits, FieldsFit, level as operator_level, left_level as operator_left}
+use Rattle.nq_model.specs.QueryGrammar.{Edition, First, Second, TypeSyntax, TBase, TBag, TNoFields, TRec, TypeFields, TOne, TMore, Syntax, Const, Truth, Var, Table, Aggregated, Paren, NoFields, Rec, Bag, Nil, For, Where, If, Prefix, Infix, Field, Fields, One, More, type_tokens, type_fields_tokens, tokens, fields_tokens, TypeFits, TypeFieldsFit, IsName, IsAggregate, kind, aggregate_word, Fits, FieldsFit, IsProgram, depth, deepest, level as operator_level, left_level as operator_left}
 use Rattle.nq_model.specs.QueryScope.{Name, among, term_of, fields_of, type_of, typed_fields, type_labels, labels, Wrong, wrongs, fields_wrongs, type_wrongs, type_fields_wrongs, if_twice, if_unbound}
-use Rattle.nq_model.specs.QueryTexts.{Spells}
-use Rattle.nq_model.specs.QueryTokens.{Token, Word, Oper, Sign, End, Union, Of, Number, Literal, Closing, Comma, Colon, Assign}
-use Rattle.nq_model.specs.Terms.{TermTree, TermFields, PlacedTerm, PlacedFields, bare, bare_fields}
+use Rattle.nq_model.specs.QueryTexts.{edition_of, Spells}
+use Rattle.nq_model.specs.QueryTokens.{Token, Word, Value, Oper, Sign, End, Union, Of, Number, Literal, Closing, Comma, Colon, Semicolon, Assign}
+use Rattle.nq_model.specs.Terms.{Aggregate, Emptiness, Count, Sum, TermTree, TermFields, PlacedTerm, PlacedFields, bare, bare_fields}
 use Rattle.nq_model.specs.Types.{TypeTree, FieldTypes, field_types_of}
 use Rattle.nq_model.specs.declared.table.Cell.TheVariants as cell
 use Rattle.nq_model.specs.declared.table.ColumnType.TheVariants as column
@@ -19,9 +20,10 @@ use Rattle.nq_model.specs.declared.term.Binary.{Binary}
 use Rattle.nq_model.specs.declared.term.Binary.TheVariants.{Add, Sub, Mul, Eq, Ne, Lt, Le, Gt, Ge, And, Or}
 use Rattle.nq_model.specs.declared.term.Unary.TheVariants.{Minus, Not}
 use Rattle.nq_ir.specs.WellFormed.{IsLiteral}
-use Rattle.nq_ir.specs.Printed.{NamedTerm, var, constant, unary, binary, choose, table, rec, field, single, nil, union, for, guard, empty, NamedFields, no_field, with_field, bound, bound_fields, level, level_of, left_level, word_of, name_text, text_of}
+use Rattle.nq_ir.specs.Printed.{NamedTerm, var, constant, unary, binary, choose, table, rec, field, single, nil, union, for, guard, aggregate, NamedFields, no_field, with_field, bound, bound_fields, level, level_of, left_level, word_of, name_text, text_of, has_total, have_total}
+use Rattle.nq_model.proofs.QueryHeaders.{keeps_first, program_of}
 use Rattle.query_syntax.proofs.Lengths.{depth_tokens}
-use Rattle.query_syntax.proofs.Reading.{Reads, Parts, Operand, operator_bytes, read_end, read_all, read_space, read_open, read_close, read_open_bag, read_close_bag, read_comma, read_colon, read_dot, read_assign, read_from, read_union, read_operator, read_minus, read_not, read_word, read_number, read_literal, number_operand, numbered_word, undoubled_doubled}
+use Rattle.query_syntax.proofs.Reading.{Reads, Parts, Operand, operator_bytes, read_end, read_all, read_token, read_space, read_open, read_close, read_open_bag, read_close_bag, read_comma, read_colon, read_dot, read_assign, read_from, read_union, read_operator, read_minus, read_not, read_word, read_number, read_literal, number_operand, numbered_word, undoubled_doubled}
 use Rattle.normal_printer.proofs.Laid.{fence, type_then, types_then, text_then, fields_then, text_laid}
 use Rattle.normal_printer.proofs.Legible.{Apart, AreSmall, Legible, LegibleFields, LegibleType, LegibleTypes, bound_name, bound_place, field_list, listed_fields, named_labels, names, rising_apart, rising_sorted}
 
@@ -138,15 +140,34 @@ record Spelling (Fit : Syntax → Type 0) (m : NamedTerm) (sc : List ℕ) (place
   right : wrongs tree (names sc) ≡ []
   reads : (ts : List Token) → Reads behind rest ts → Reads place bytes (tokens tree ts)
 
+-- counts and sums stand in the second edition alone
+abbrev Allows : Edition → Bool → Type 0
+Allows First b = b ≡ false
+Allows Second b = ⊤
+
+allows_left : (ed : Edition) (a b : Bool) → Allows ed (a || b) → Allows ed a
+allows_left First true b h = h
+allows_left First false b h = refl
+allows_left Second a b h = tt
+
+allows_right : (ed : Edition) (a b : Bool) → Allows ed (a || b) → Allows ed b
+allows_right First true b h = absurd (cc)
+allows_right First false b h = h
+allows_right Second a b h = tt
+
+-- it fits in each edition that allows the term, where this level is asked for
+abbrev FitsAt : ℕ → NamedTerm → Syntax → Type 0
+FitsAt n m s = (ed : Edition) → Allows ed (has_total m) → Fits ed n s
+
 -- it may stand where no stronger level than its own is asked for
 abbrev Stands : NamedTerm → Syntax → Type 0
-Stands m s = (n : ℕ) → n ≤ level m → Fits First n s
+Stands m s = (n : ℕ) → n ≤ level m → FitsAt n m s
 
 -- fields behind those that were read, and the `)`
 record FieldsSpelling (start : Fields) (fs : NamedFields) (sc : List ℕ) (place : ℕ) (bytes rest : List ℕ) : Type 0 where
   tree : Fields
   close : ℕ
-  fits : FieldsFit First tree
+  fits : (ed : Edition) → Allows ed (have_total fs) → FieldsFit ed start → FieldsFit ed tree
   more : PlacedFields
   same : fields_of tree (names sc) PlacedFields.none ≡ fields_of start (names sc) more
   is : bare_fields more ≡ bound_fields sc fs
@@ -179,15 +200,15 @@ level_some (nil a) = omega arith
 level_some (union a b) = omega arith
 level_some (for k a b) = omega arith
 level_some (guard t a) = omega arith
-level_some (empty a) = omega arith
+level_some (aggregate g a) = omega arith
 
 -- a part where a level is asked for
 part_spelled : (asked : ℕ) (m : NamedTerm) (sc : List ℕ) (place : ℕ) (rest : List ℕ) → Parts rest
     → ((p : ℕ) (r : List ℕ) → Parts r → Spelling (Stands m) m sc p (text_then m r) r)
-    → Spelling (λ s. Fits First asked s) m sc place (fence (nat_le asked (level m)) (λ y. text_then m y) rest) rest
+    → Spelling (FitsAt asked m) m sc place (fence (nat_le asked (level m)) (λ y. text_then m y) rest) rest
 part_spelled asked m sc place rest parts spelled = go (nat_le asked (level m)) refl
   where
-    go : (b : Bool) → nat_le asked (level m) ≡ b → Spelling (λ s. Fits First asked s) m sc place (fence b (λ y. text_then m y) rest) rest
+    go : (b : Bool) → nat_le asked (level m) ≡ b → Spelling (FitsAt asked m) m sc place (fence b (λ y. text_then m y) rest) rest
     go true e =
         let s = spelled place rest parts in
         record { tree = s.tree; behind = s.behind; fits = s.fits asked (let h : asked ≤ level m = grind (arith, nat_tests, e) in h); same = s.same; right = s.right; reads = s.reads }
@@ -229,7 +250,9 @@ operand (nil a) sc x h = (refl, refl)
 operand (union a b) sc x h = fence_operand (nat_le 2 (level a)) (λ y. text_then a y) _ (λ y. operand a sc y h.0)
 operand (for k a b) sc x h = (refl, refl)
 operand (guard t a) sc x h = (refl, refl)
-operand (empty a) sc x h = (refl, refl)
+operand (aggregate Emptiness a) sc x h = (refl, refl)
+operand (aggregate Count a) sc x h = (refl, refl)
+operand (aggregate Sum a) sc x h = (refl, refl)
 
 word_parts : (o : Binary) (x : List ℕ) → Parts (word_of o ++ x)
 word_parts Add x = (refl, refl, refl)
@@ -276,10 +299,30 @@ same_levels Ge = (refl, refl)
 same_levels And = (refl, refl)
 same_levels Or = (refl, refl)
 
-infix_fits : (o : Binary) (s t : Syntax) (p n : ℕ) → n ≤ level_of o → Fits First (left_level o) s → Fits First (suc (level_of o)) t → Fits First n (Infix s p (Of o) t)
-infix_fits o s t p n h f g =
+infix_fits : (ed : Edition) (o : Binary) (s t : Syntax) (p n : ℕ) → n ≤ level_of o → Fits ed (left_level o) s → Fits ed (suc (level_of o)) t → Fits ed n (Infix s p (Of o) t)
+infix_fits ed o s t p n h f g =
     let e = same_levels o in
-    (subst (λ k. n ≤ k) e.0 h, subst (λ k. Fits First k s) e.1 f, subst (λ k. Fits First (suc k) t) e.0 g)
+    (subst (λ k. n ≤ k) e.0 h, subst (λ k. Fits ed k s) e.1 f, subst (λ k. Fits ed (suc k) t) e.0 g)
+
+-- names of generators are variables in both editions
+name_kind : (ed : Edition) (k : ℕ) → kind ed (name_text k) ≡ IsName
+name_kind First k = refl
+name_kind Second k = refl
+
+-- what is asked of a bag is spelled by a word of the edition, and its part is allowed
+asked_kind : (ed : Edition) (g : Aggregate) (a : NamedTerm) → Allows ed (has_total (aggregate g a)) → kind ed (aggregate_word g) ≡ IsAggregate g
+asked_kind First Emptiness a h = refl
+asked_kind First Count a h = absurd (cc)
+asked_kind First Sum a h = absurd (cc)
+asked_kind Second Emptiness a h = refl
+asked_kind Second Count a h = refl
+asked_kind Second Sum a h = refl
+
+asked_part : (ed : Edition) (g : Aggregate) (a : NamedTerm) → Allows ed (has_total (aggregate g a)) → Allows ed (has_total a)
+asked_part First Emptiness a h = h
+asked_part First Count a h = absurd (cc)
+asked_part First Sum a h = absurd (cc)
+asked_part Second g a h = tt
 
 keyword : (w : List ℕ) → IsQueryWord w → (place : ℕ) (rest : List ℕ) (ts : List Token) → Reads (place + length w + 1) rest ts → Reads place (w ++ 32 ∷ rest) (Word place w ∷ ts)
 keyword w is place rest ts r = read_word place w (32 ∷ rest) ts is (refl, refl, refl) (read_space (place + length w) rest ts r)
@@ -302,8 +345,13 @@ else_word = record { word = (refl, (refl, (refl, (refl, tt)))); short = omega ar
 table_word : IsQueryWord (codes "table")
 table_word = record { word = (refl, (refl, (refl, (refl, (refl, tt))))); short = omega arith }
 
-empty_word : IsQueryWord (codes "empty")
-empty_word = record { word = (refl, (refl, (refl, (refl, (refl, tt))))); short = omega arith }
+asked_word : (g : Aggregate) → IsQueryWord (aggregate_word g)
+asked_word Emptiness = record { word = (refl, (refl, (refl, (refl, (refl, tt))))); short = omega arith }
+asked_word Count = record { word = (refl, (refl, (refl, (refl, (refl, tt))))); short = omega arith }
+asked_word Sum = record { word = (refl, (refl, (refl, tt))); short = omega arith }
+
+header_word : IsQueryWord (codes "nq")
+header_word = record { word = (refl, (refl, tt)); short = omega arith }
 
 true_word : IsQueryWord (codes "true")
 true_word = record { word = (refl, (refl, (refl, (refl, tt)))); short = omega arith }
@@ -326,7 +374,7 @@ number_spelled n sc place rest h parts =
     (record {
       tree = Const place (Number h.digits (length (decimal h.digits)));
       behind = place + length (decimal h.digits);
-      fits = λ n k. tt;
+      fits = λ n k ed t. tt;
       same = refl;
       right = refl;
       reads = λ ts r. read_number place h.digits rest ts h.small parts r;
@@ -339,21 +387,21 @@ mutual
       record {
         tree = Var place (name_text k);
         behind = place + suc (length (decimal k));
-        fits = λ n e. refl;
+        fits = λ n e ed t. name_kind ed k;
         same = ap TermTree.var (bound_place sc k small h);
         right = unbound_none (among (name_text k) (names sc)) place b.0;
         reads = λ ts r. read_word place (name_text k) rest ts (numbered_word k b.1) parts r;
       }
   spelled (constant (cell.Int n)) sc place rest small h parts = number_spelled n sc place rest h parts
   spelled (constant (cell.Bool true)) sc place rest small h parts =
-      record { tree = Truth place true; behind = place + 4; fits = λ n e. tt; same = refl; right = refl; reads = λ ts r. read_word place (codes "true") rest ts true_word parts r }
+      record { tree = Truth place true; behind = place + 4; fits = λ n e ed t. tt; same = refl; right = refl; reads = λ ts r. read_word place (codes "true") rest ts true_word parts r }
   spelled (constant (cell.Bool false)) sc place rest small h parts =
-      record { tree = Truth place false; behind = place + 5; fits = λ n e. tt; same = refl; right = refl; reads = λ ts r. read_word place (codes "false") rest ts false_word parts r }
+      record { tree = Truth place false; behind = place + 5; fits = λ n e ed t. tt; same = refl; right = refl; reads = λ ts r. read_word place (codes "false") rest ts false_word parts r }
   spelled (constant (cell.Text t)) sc place rest small h parts =
       record {
         tree = Const place (Literal (doubled_quotes t));
         behind = place + suc (suc (length (doubled_quotes t)));
-        fits = λ n e. tt;
+        fits = λ n e ed t. tt;
         same = ap TermTree.text (undoubled_doubled t);
         right = refl;
         reads = λ ts r. literal_there ts (read_literal place t rest ts parts r);
@@ -366,7 +414,7 @@ mutual
       record {
         tree = Prefix place Minus s.tree;
         behind = s.behind;
-        fits = λ n e. (e, s.fits);
+        fits = λ n e ed t. (e, s.fits ed t);
         same = ap (TermTree.unary Minus) s.same;
         right = s.right;
         reads = λ ts r. read_minus place _ _ (fence_operand (nat_le 8 (level a)) (λ y. text_then a y) rest (λ y. operand a sc y h)) (s.reads _ r);
@@ -376,7 +424,7 @@ mutual
       record {
         tree = Prefix place Not s.tree;
         behind = s.behind;
-        fits = λ n e. (e, s.fits);
+        fits = λ n e ed t. (e, s.fits ed t);
         same = ap (TermTree.unary Not) s.same;
         right = s.right;
         reads = λ ts r. read_not place _ _ (fence_operand (nat_le 8 (level a)) (λ y. text_then a y) rest (λ y. operand a sc y h)) (s.reads _ r);
@@ -388,7 +436,7 @@ mutual
       record {
         tree = Infix s.tree (s.behind + 1) (Of o) t.tree;
         behind = t.behind;
-        fits = λ n e. infix_fits o s.tree t.tree (s.behind + 1) n e s.fits t.fits;
+        fits = λ n e ed u. infix_fits ed o s.tree t.tree (s.behind + 1) n e (s.fits ed (allows_left ed (has_total a) (has_total b) u)) (t.fits ed (allows_right ed (has_total a) (has_total b) u));
         same = ap₂ (TermTree.binary o) s.same t.same;
         right = both_none (wrongs s.tree (names sc)) (wrongs t.tree (names sc)) s.right t.right;
         reads = λ ts r. s.reads _ (read_spaced o s.behind x _ (t.reads _ r));
@@ -402,7 +450,12 @@ mutual
       record {
         tree = If place s.tree q t.tree z u.tree;
         behind = u.behind;
-        fits = λ n e. (e, s.fits 1 (level_some c), t.fits 1 (level_some a), u.fits 1 (level_some b));
+        fits = λ n e ed v. let w = allows_right ed (has_total c) (has_total a || has_total b) v in (
+          e,
+          s.fits 1 (level_some c) ed (allows_left ed (has_total c) (has_total a || has_total b) v),
+          t.fits 1 (level_some a) ed (allows_left ed (has_total a) (has_total b) w),
+          u.fits 1 (level_some b) ed (allows_right ed (has_total a) (has_total b) w),
+        );
         same = three_same _ _ _ _ _ _ s.same t.same u.same;
         right = both_none (wrongs s.tree (names sc)) (wrongs t.tree (names sc) ++ wrongs u.tree (names sc)) s.right (both_none (wrongs t.tree (names sc)) (wrongs u.tree (names sc)) t.right u.right);
         reads = λ ts r.
@@ -412,23 +465,23 @@ mutual
       record {
         tree = Table place (place + 5 + 1) t;
         behind = place + 5 + 1 + length t;
-        fits = λ n e. tt;
+        fits = λ n e ed u. tt;
         same = refl;
         right = refl;
         reads = λ ts r. keyword (codes "table") table_word place _ _ (read_word (place + 5 + 1) t rest ts h parts r);
       }
   spelled (rec no_field) sc place rest small h parts =
-      record { tree = NoFields place (place + 1); behind = place + 1 + 1; fits = λ n e. tt; same = refl; right = refl; reads = λ ts r. read_open place _ _ (read_close (place + 1) _ _ r) }
+      record { tree = NoFields place (place + 1); behind = place + 1 + 1; fits = λ n e ed t. tt; same = refl; right = refl; reads = λ ts r. read_open place _ _ (read_close (place + 1) _ _ r) }
   spelled (rec (with_field l a fs)) sc place rest small h parts =
       let v = place + 1 in
       let c = v + length l + 1 in
       let s = spelled a sc (c + 1 + 1) (fields_then fs rest) small h.1.1 (fields_parts fs rest) in
       let start = One place v l c s.tree in
-      let n = fields_spelled fs start sc s.behind rest small h.1.2 h.0.1 (s.fits 1 (level_some a)) s.right in
+      let n = fields_spelled fs start sc s.behind rest small h.1.2 h.0.1 s.right in
       record {
         tree = Rec n.tree n.close;
         behind = n.close + 1;
-        fits = λ k e. n.fits;
+        fits = λ k e ed t. n.fits ed (allows_right ed (has_total a) (have_total fs) t) (s.fits 1 (level_some a) ed (allows_left ed (has_total a) (have_total fs) t));
         same = ap (λ (fs : PlacedFields). TermTree.rec (bare_fields fs)) n.same ∙ ap TermTree.rec (fields_same l _ _ _ _ s.same n.is);
         right = n.right;
         reads = λ ts r.
@@ -440,7 +493,7 @@ mutual
       record {
         tree = Field s.tree s.behind (s.behind + 1) l;
         behind = s.behind + 1 + length l;
-        fits = λ n e. (e, s.fits);
+        fits = λ n e ed t. (e, s.fits ed t);
         same = ap (λ t. TermTree.field t l) s.same;
         right = s.right;
         reads = λ ts r. s.reads _ (read_dot s.behind _ _ (read_word (s.behind + 1) l rest ts h.1 parts r));
@@ -450,7 +503,7 @@ mutual
       record {
         tree = Bag place s.tree s.behind;
         behind = s.behind + 1;
-        fits = λ n e. s.fits 1 (level_some a);
+        fits = λ n e ed t. s.fits 1 (level_some a) ed t;
         same = ap TermTree.single s.same;
         right = s.right;
         reads = λ ts r. read_open_bag place _ _ (s.reads _ (read_close_bag s.behind _ _ r));
@@ -460,7 +513,7 @@ mutual
       record {
         tree = Nil place (place + 1) s.tree s.behind;
         behind = s.behind + 1;
-        fits = λ n e. s.fits;
+        fits = λ n e ed t. s.fits;
         same = ap TermTree.nil s.same;
         right = s.right;
         reads = λ ts r. read_open_bag place _ _ (read_colon (place + 1) _ _ (read_space (place + 1 + 1) _ _ (s.reads _ (read_close_bag s.behind _ _ r))));
@@ -472,7 +525,7 @@ mutual
       record {
         tree = Infix s.tree (s.behind + 1) Union t.tree;
         behind = t.behind;
-        fits = λ n e. (e, s.fits, t.fits);
+        fits = λ n e ed u. (e, s.fits ed (allows_left ed (has_total a) (has_total b) u), t.fits ed (allows_right ed (has_total a) (has_total b) u));
         same = ap₂ TermTree.union s.same t.same;
         right = both_none (wrongs s.tree (names sc)) (wrongs t.tree (names sc)) s.right t.right;
         reads = λ ts r. s.reads _ (read_space s.behind _ _ (read_union (s.behind + 1) _ _ (read_space (s.behind + 1 + 2) _ _ (t.reads _ r))));
@@ -486,7 +539,7 @@ mutual
       record {
         tree = For place o v (name_text k) f s.tree s.behind t.tree;
         behind = t.behind;
-        fits = λ n e. (e, refl, s.fits 1 (level_some a), t.fits 1 (level_some b));
+        fits = λ n e ed u. (e, name_kind ed k, s.fits 1 (level_some a) ed (allows_left ed (has_total a) (has_total b) u), t.fits 1 (level_some b) ed (allows_right ed (has_total a) (has_total b) u));
         same = ap₂ TermTree.for s.same t.same;
         right = both_none (wrongs s.tree (names sc)) (wrongs t.tree (names (k ∷ sc))) s.right t.right;
         reads = λ ts r.
@@ -500,37 +553,37 @@ mutual
       record {
         tree = Where place o s.tree s.behind t.tree;
         behind = t.behind;
-        fits = λ n e. (e, s.fits 1 (level_some c), t.fits 1 (level_some a));
+        fits = λ n e ed u. (e, s.fits 1 (level_some c) ed (allows_left ed (has_total c) (has_total a) u), t.fits 1 (level_some a) ed (allows_right ed (has_total c) (has_total a) u));
         same = ap₂ TermTree.guard s.same t.same;
         right = both_none (wrongs s.tree (names sc)) (wrongs t.tree (names sc)) s.right t.right;
         reads = λ ts r. keyword (codes "where") where_word place _ _ (read_open o _ _ (s.reads _ (read_close s.behind _ _ (read_space (s.behind + 1) _ _ (t.reads _ r)))));
       }
-  spelled (empty a) sc place rest small h parts =
-      let o = place + 5 in
+  spelled (aggregate g a) sc place rest small h parts =
+      let o = place + length (aggregate_word g) in
       let s = spelled a sc (o + 1) (41 ∷ rest) small h (refl, refl, refl) in
       record {
-        tree = Empty place o s.tree s.behind;
+        tree = Aggregated g place o s.tree s.behind;
         behind = s.behind + 1;
-        fits = λ n e. s.fits 1 (level_some a);
-        same = ap TermTree.empty s.same;
+        fits = λ n e ed t. (asked_kind ed g a t, s.fits 1 (level_some a) ed (asked_part ed g a t));
+        same = ap (λ x. TermTree.aggregate g x) s.same;
         right = s.right;
-        reads = λ ts r. read_word place (codes "empty") _ _ empty_word (refl, refl, refl) (read_open o _ _ (s.reads _ (read_close s.behind _ _ r)));
+        reads = λ ts r. read_word place (aggregate_word g) _ _ (asked_word g) (refl, refl, refl) (read_open o _ _ (s.reads _ (read_close s.behind _ _ r)));
       }
 
-  fields_spelled : (fs : NamedFields) (start : Fields) (sc : List ℕ) (place : ℕ) (rest : List ℕ) → AreSmall sc → LegibleFields sc fs → Apart (labels start) (named_labels fs) → FieldsFit First start → fields_wrongs start (names sc) ≡ []
+  fields_spelled : (fs : NamedFields) (start : Fields) (sc : List ℕ) (place : ℕ) (rest : List ℕ) → AreSmall sc → LegibleFields sc fs → Apart (labels start) (named_labels fs) → fields_wrongs start (names sc) ≡ []
       → FieldsSpelling start fs sc place (fields_then fs rest) rest
-  fields_spelled no_field start sc place rest small h apart fit right =
-      record { tree = start; close = place; fits = fit; more = PlacedFields.none; same = refl; is = refl; right = right; tail = λ ts. ts; split = λ ts. refl; reads = λ ts r. read_close place _ _ r }
-  fields_spelled (with_field l a fs) start sc place rest small h apart fit right =
+  fields_spelled no_field start sc place rest small h apart right =
+      record { tree = start; close = place; fits = λ ed t f. f; more = PlacedFields.none; same = refl; is = refl; right = right; tail = λ ts. ts; split = λ ts. refl; reads = λ ts r. read_close place _ _ r }
+  fields_spelled (with_field l a fs) start sc place rest small h apart right =
       let v = place + 1 + 1 in
       let c = v + length l + 1 in
       let s = spelled a sc (c + 1 + 1) (fields_then fs rest) small h.1 (fields_parts fs rest) in
       let one = More start place v l c s.tree in
-      let n = fields_spelled fs one sc s.behind rest small h.2 apart.1 (fit, s.fits 1 (level_some a)) (none_twice (among l (labels start)) v (fields_wrongs start (names sc)) (wrongs s.tree (names sc)) right apart.0 s.right) in
+      let n = fields_spelled fs one sc s.behind rest small h.2 apart.1 (none_twice (among l (labels start)) v (fields_wrongs start (names sc)) (wrongs s.tree (names sc)) right apart.0 s.right) in
       record {
         tree = n.tree;
         close = n.close;
-        fits = n.fits;
+        fits = λ ed t f. n.fits ed (allows_right ed (has_total a) (have_total fs) t) (f, s.fits 1 (level_some a) ed (allows_left ed (has_total a) (have_total fs) t));
         more = PlacedFields.with_field l (term_of s.tree (names sc)) n.more;
         same = n.same;
         is = fields_same l _ _ _ _ s.same n.is;
@@ -541,23 +594,52 @@ mutual
             read_comma place _ _ (read_space (place + 1) _ _ (read_word v l _ _ h.0 (refl, refl, refl) (read_space (v + length l) _ _ (read_assign c _ _ (read_space (c + 1) _ _ (s.reads _ (n.reads ts r)))))));
       }
 
--- The text of a legible term spells it, at a depth of its own bytes.
-pub text_spelled : (m : NamedTerm) → Legible [] m → IsUtf8 (text_of m) → (tree : PlacedTerm) × Spells (length (text_of m)) (text_of m) tree × (bare tree ≡ bound [] m)
-text_spelled m h utf8 =
-    let s = spelled m [] 0 [] tt h tt in
-    let ts : List Token = tokens s.tree (End s.behind ∷ []) in
-    let e : text_of m ≡ text_then m [] = sym (append-nil (text_of m)) ∙ text_laid m [] in
-    let read : Reads 0 (text_of m) ts = subst (λ (l : List ℕ). Reads 0 l ts) (sym e) (s.reads _ (read_end s.behind)) in
-    let few = read.few in
-    let deep = depth_tokens s.tree (End s.behind ∷ []) in (
-      term_of s.tree [],
+-- the header, and then more bytes
+read_header : (rest : List ℕ) (ts : List Token) → Reads 6 rest ts → Reads 0 (codes "nq 2; " ++ rest) (Word 0 (codes "nq") ∷ Value 3 (Number 2 1) ∷ Sign 4 Semicolon ∷ ts)
+unfolding digits
+read_header rest ts r =
+    keyword (codes "nq") header_word 0 _ _
+    (read_number 3 2 (59 ∷ 32 ∷ rest) (Sign 4 Semicolon ∷ ts) (omega arith) (refl, refl, refl)
+    (read_token 4 59 (32 ∷ rest) ts 1 (λ p. Sign p Semicolon) refl (omega arith) (read_space 5 rest ts r)))
+
+-- a text that is read as these tokens, which are those of a program, spells its term at a depth of its own bytes
+program_spelled : (m : NamedTerm) (text : List ℕ) (ts : List Token) (tree : Syntax) → Reads 0 text ts → IsUtf8 text → IsProgram (edition_of ts) ts tree → suc (max (depth tree) (deepest tree)) ≤ length ts
+    → wrongs tree [] ≡ [] → bare (term_of tree []) ≡ bound [] m → (placed : PlacedTerm) × Spells (length text) text placed × (bare placed ≡ bound [] m)
+program_spelled m text ts tree read utf8 program deep right same =
+    let few = read.few in (
+      term_of tree [],
       record {
         tokens = ts;
-        cut = (utf8, read_all (text_of m) ts read);
-        syntax_tree = s.tree;
-        derived = record { program = (s.fits 0 (omega arith), s.behind, refl); within = (omega (arith, few, deep), omega (arith, few, deep)) };
-        bound = s.right;
+        cut = (utf8, read_all text ts read);
+        syntax_tree = tree;
+        derived = record { program = program; within = (omega (arith, few, deep), omega (arith, few, deep)) };
+        bound = right;
         same = refl;
       },
-      s.same,
+      same,
     )
+
+-- The text of a legible term spells it, behind the header where a total stands in it.
+pub text_spelled : (m : NamedTerm) → Legible [] m → IsUtf8 (cond (has_total m) (codes "nq 2; ") [] ++ text_of m)
+    → (tree : PlacedTerm) × Spells (length (cond (has_total m) (codes "nq 2; ") [] ++ text_of m)) (cond (has_total m) (codes "nq 2; ") [] ++ text_of m) tree × (bare tree ≡ bound [] m)
+text_spelled m h utf8 = go (has_total m) refl utf8
+  where
+    e : text_of m ≡ text_then m []
+    e = sym (append-nil (text_of m)) ∙ text_laid m []
+
+    go : (b : Bool) → has_total m ≡ b → IsUtf8 (cond b (codes "nq 2; ") [] ++ text_of m)
+        → (tree : PlacedTerm) × Spells (length (cond b (codes "nq 2; ") [] ++ text_of m)) (cond b (codes "nq 2; ") [] ++ text_of m) tree × (bare tree ≡ bound [] m)
+    go false none utf8 =
+        let s = spelled m [] 0 [] tt h tt in
+        let ts : List Token = tokens s.tree (End s.behind ∷ []) in
+        let deep = depth_tokens s.tree (End s.behind ∷ []) in
+        let program : IsProgram First ts s.tree = program_of First tt ts s.tree (s.fits 0 (omega arith) First none, s.behind, refl) in
+        program_spelled m (text_of m) ts s.tree (subst (λ (l : List ℕ). Reads 0 l ts) (sym e) (s.reads _ (read_end s.behind))) utf8
+        (subst (λ ed. IsProgram ed ts s.tree) (sym (keeps_first ts s.tree program)) program) (omega (arith, deep)) s.right s.same
+    go true some utf8 =
+        let s = spelled m [] 6 [] tt h tt in
+        let ts : List Token = tokens s.tree (End s.behind ∷ []) in
+        let deep = depth_tokens s.tree (End s.behind ∷ []) in
+        program_spelled m (codes "nq 2; " ++ text_of m) (Word 0 (codes "nq") ∷ Value 3 (Number 2 1) ∷ Sign 4 Semicolon ∷ ts) s.tree
+        (read_header (text_of m) ts (subst (λ (l : List ℕ). Reads 6 l ts) (sym e) (s.reads _ (read_end s.behind)))) utf8
+        (program_of Second (0, 3, 4) ts s.tree (s.fits 0 (omega arith) Second tt, s.behind, refl)) (omega (arith, deep)) s.right s.same

@@ -84,6 +84,7 @@ module _ (P Q : Label → Type 0) (weaker : (l : Label) → P l → Q l) where
     base_map (BaseTree.binary op a b) h = (base_map a h.0, base_map b h.1)
     base_map (BaseTree.choose x a b) h = (base_map x h.0, base_map a h.1, base_map b h.2)
     base_map (BaseTree.empty xs) h = tests_map xs h
+    base_map (BaseTree.total g gens bs b) h = (gens_map gens h.0, conds_map bs h.1, base_map b h.2)
 
     conds_map : (bs : Conds) → CondsWords P bs → CondsWords Q bs
     conds_map no_cond h = tt
@@ -139,7 +140,7 @@ module _ (Q : Label → Type 0) (holds : (l : Label) → IsQueryWord l → Q l) 
     term_words (TermTree.apply t u) h = (term_words t h.0, term_words u h.1)
     term_words (TermTree.rec fs) h = term_fields_words fs h.1
     term_words (TermTree.field t l) h = (term_words t h.0, holds l h.1)
-    term_words (TermTree.empty t) h = term_words t h
+    term_words (TermTree.aggregate g t) h = term_words t h
     term_words (TermTree.single t) h = term_words t h
     term_words (TermTree.nil a) h = type_map IsQueryWord Q holds a (proper_type_words a h.words)
     term_words (TermTree.union t u) h = (term_words t h.0, term_words u h.1)

@@ -23,7 +23,7 @@ abbrev pub lead : ℕ → List ℕ → List ℕ → List ℕ
 lead zero first further = first
 lead (suc place) first further = further
 
--- a comprehension whose body is this; that of a test is the record without fields
+-- a comprehension whose body is this; that of a test or a count is the record without fields
 abbrev pub comp_term : List Gen → Conds → NamedTerm → NamedTerm
 comp_term gens conds body = under_gens gens (named_where conds (single body))
 

@@ -1,6 +1,7 @@
-// Base terms, emptiness tests, generators and conditions.
-ghost use Rattle.std.specs.Prelude.{◌≡◌, ◌++◌, OnOk, map, string_bytes};
-ghost use Rattle.nq_ir.specs.Printed.{named_base, named_tests, sign_of, text_of, word_of};
+// Base terms, emptiness tests, counts, sums, generators and conditions.
+ghost use Rattle.std.specs.Prelude.{◌≡◌, ◌++◌, OnOk, codes, map, string_bytes};
+ghost use Rattle.nq_ir.specs.Printed.{aggregate, named_base, named_tests, sign_of, text_of, word_of};
+ghost use Rattle.nq_model.specs.Terms.{Count, Emptiness};
 ghost use Rattle.nq_ir.specs.Trees.{base_tree, conds_tree, test_part, tests_of};
 ghost use Rattle.normal_printer.specs.Parts.{gens_text, test_term, text_at, where_text};
 
@@ -10,7 +11,7 @@ use nq_ir::{Base, Gen, Test};
 use nq_model::{Binary, Memory, Unary};
 
 #[cycle(put_base)]
-#[tactic(auto, using(nq_ir::proofs::Forms::base_empty))]
+#[tactic(auto, using(nq_ir::proofs::Forms::base_empty, crate::proofs::Joined::named_count))]
 pub(crate) fn put_base(text: &mut String, base: &Base) -> Result<(), Memory>
     ensures { OnOk result (string_bytes text.new ≡ string_bytes text.old ++ text_of (named_base (base_tree base.now))) }
 {
@@ -41,11 +42,11 @@ pub(crate) fn put_base(text: &mut String, base: &Base) -> Result<(), Memory>
             text.push_str(" else ")?;
             put_base(text, no)
         }
-        Base::Empty(tests) => {
-            text.push_str("empty(")?;
-            put_tests(text, tests.as_slice())?;
-            text.push_str(")")?;
-            Ok(())
+        Base::Empty(tests) => put_empty(text, tests.as_slice()),
+        Base::Count(test) => put_count(text, test),
+        Base::Sum { over, value } => {
+            put_over(text, over)?;
+            put_summed(text, value)
         }
     }
 }
@@ -122,6 +123,51 @@ pub(crate) fn put_where(text: &mut String, conds: &[Base]) -> Result<(), Memory>
     Ok(())
 }
 
+#[cycle(put_base)]
+fn put_empty(text: &mut String, tests: &[Test]) -> Result<(), Memory>
+    ensures { OnOk result (string_bytes text.new
+        ≡ string_bytes text.old ++ text_of (aggregate Emptiness (named_tests (tests_of (map test_part tests.now))))) }
+{
+    text.push_str("empty(")?;
+    put_tests(text, tests)?;
+    text.push_str(")")?;
+    Ok(())
+}
+
+#[cycle(put_base)]
+fn put_count(text: &mut String, test: &Test) -> Result<(), Memory>
+    ensures { OnOk result (string_bytes text.new ≡ string_bytes text.old ++ text_of (aggregate Count (test_term test.now))) }
+{
+    text.push_str("count(")?;
+    put_test(text, test)?;
+    text.push_str(")")?;
+    Ok(())
+}
+
+// What a sum goes over.
+#[cycle(put_base)]
+fn put_over(text: &mut String, over: &Test) -> Result<(), Memory>
+    ensures { OnOk result (string_bytes text.new
+        ≡ string_bytes text.old ++ (codes "sum(" ++ (gens_text (test_part over.now).gens ++ where_text (test_part over.now).conds))) }
+{
+    text.push_str("sum(")?;
+    put_gens(text, over.gens.as_slice())?;
+    put_where(text, over.conds.as_slice())?;
+    Ok(())
+}
+
+// The value that is summed.
+#[cycle(put_base)]
+fn put_summed(text: &mut String, value: &Base) -> Result<(), Memory>
+    ensures { OnOk result (string_bytes text.new
+        ≡ string_bytes text.old ++ (codes "[" ++ (text_of (named_base (base_tree value.now)) ++ codes "])"))) }
+{
+    text.push_str("[")?;
+    put_base(text, value)?;
+    text.push_str("])")?;
+    Ok(())
+}
+
 // The comprehensions of a test in a union; of none the empty bag of records without fields.
 #[cycle(put_base)]
 fn put_tests(text: &mut String, tests: &[Test]) -> Result<(), Memory>
@@ -152,7 +198,7 @@ fn put_test_at(text: &mut String, test: &Test, asked: u64) -> Result<(), Memory>
     }
 }
 
-// A comprehension of a test gives records without fields.
+// A comprehension of a test or a count gives records without fields.
 #[cycle(put_base)]
 fn put_test(text: &mut String, test: &Test) -> Result<(), Memory>
     ensures { OnOk result (string_bytes text.new ≡ string_bytes text.old ++ text_of (test_term test.now)) }

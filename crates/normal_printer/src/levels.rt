@@ -46,11 +46,17 @@ pub(crate) fn left_level(op: Binary) -> u64
     }
 }
 
+#[tactic(auto, using(nq_ir::proofs::Forms::base_count, nq_ir::proofs::Forms::base_sum))]
 pub(crate) fn base_level(base: &Base) -> u64
     ensures { result ≡ level (named_base (base_tree base.now)) }
 {
     match base {
-        Base::Int(_) | Base::Bool(_) | Base::Text(_) | Base::Empty(_) => 10,
+        Base::Int(_)
+        | Base::Bool(_)
+        | Base::Text(_)
+        | Base::Empty(_)
+        | Base::Count(_)
+        | Base::Sum { .. } => 10,
         Base::Column { .. } => 9,
         Base::Unary { .. } => 8,
         Base::Binary { op, .. } => level_of(*op),

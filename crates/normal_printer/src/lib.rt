@@ -2,6 +2,7 @@
 #![tactic(auto)]
 
 mod bases;
+mod header;
 mod laws;
 mod levels;
 mod pieces;

@@ -1,7 +1,7 @@
 // Comprehensions, their bodies, and whole forms.
 ghost use Rattle.std.specs.Prelude.{◌≡◌, ◌++◌, IfOk, List, OnOk, [], length, map, string_bytes};
 ghost use Rattle.nq_ir.specs.Meanings.{form_meaning, rows_in};
-ghost use Rattle.nq_ir.specs.Printed.{named_body, named_fields, nil, printed_term, printed_text, rec, text_of};
+ghost use Rattle.nq_ir.specs.Printed.{named_body, named_fields, named_form, nil, printed_term, printed_text, rec, text_of};
 ghost use Rattle.nq_ir.specs.Trees.{bodies_of, body_tree, form_tree};
 ghost use Rattle.nq_model.specs.Databases.{FilledTable};
 ghost use Rattle.nq_model.specs.Meaning.{meaning};
@@ -12,6 +12,7 @@ ghost use Rattle.normal_printer.specs.Parts.{text_at, whole_term};
 ghost use Rattle.normal_printer.specs.Spellable.{IsSpellable};
 
 use crate::bases::{put_base, put_gens, put_where};
+use crate::header::put_header;
 use crate::levels::{UNION, comp_level, level_in};
 use crate::pieces::put_lead;
 use crate::types::put_type;
@@ -88,7 +89,8 @@ fn put_record(text: &mut String, fields: &[(Label, Body)]) -> Result<(), Memory>
 // The comprehensions in a union; of none the empty bag of the type of the elements.
 #[cycle(put_form)]
 fn put_form(text: &mut String, normal: &Normal) -> Result<(), Memory>
-    ensures { OnOk result (string_bytes text.new ≡ string_bytes text.old ++ printed_text (form_tree normal.now)) }
+    ensures { OnOk result (string_bytes text.new
+        ≡ string_bytes text.old ++ text_of (named_form (form_tree normal.now))) }
 {
     if normal.parts.is_empty() {
         return put_no_comp(text, &normal.element);
@@ -101,7 +103,8 @@ fn put_form(text: &mut String, normal: &Normal) -> Result<(), Memory>
 }
 
 /// The text of a normal form: a term of the query language with the variable `xk` for the generator k, one space
-/// between words, parentheses exactly where a part is weaker than its place asks. Where the form is well formed over a
+/// between words, parentheses exactly where a part is weaker than its place asks, behind `nq 2; ` exactly where a count
+/// or a sum stands in the form. Where the form is well formed over a
 /// schema and its names are words, the text spells the term at a depth of its own bytes, and the term means what the
 /// form means. The only error is that memory wants.
 pub fn print_normal(alloc: Global, normal: &Normal) -> Result<List<u8>, Memory>
@@ -112,6 +115,7 @@ pub fn print_normal(alloc: Global, normal: &Normal) -> Result<List<u8>, Memory>
         → meaning tables [] (printed_term (form_tree normal.now)) ≡ form_meaning (rows_in tables) (form_tree normal.now)) }
 {
     let mut text = String::new(alloc);
+    put_header(&mut text, normal)?;
     put_form(&mut text, normal)?;
     Ok(List::from_vec(text.into_bytes()))
 }

@@ -9,5 +9,6 @@ pub mod Choices
 pub mod BagTests
 pub mod Walks
 pub mod TermForms
+pub mod Sums
 pub mod Whole
 pub mod NumberedBodies

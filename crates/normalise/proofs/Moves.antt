@@ -3,8 +3,8 @@
 use Rattle.std.proofs.Common.{◌≡◌, ℕ, zero, suc, ◌+◌, ◌≤◌, List, [], ◌∷◌, drop, map, refl, sym, ap, ap₂, ◌∙◌, length, get_or, arith}
 use Rattle.nq_model.specs.NamedRows.{Label}
 use Rattle.nq_ir.specs.NormalForms.{gens_in_base, gens_in_conds, gens_in_tests, number_gens, deal, number_base, number_conds, number_tests}
-use Rattle.nq_ir.specs.RawForms.{RawBase, raw_literal, raw_column, raw_unary, raw_binary, raw_choose, raw_empty, RawConds, no_raw, and_raw, RawTests, no_raw_test, raw_test, up_index, up_base, up_bases, up_tests}
-use Rattle.nq_ir.specs.Trees.{BaseTree, column, unary, binary, and_cond, test}
+use Rattle.nq_ir.specs.RawForms.{RawBase, raw_literal, raw_column, raw_unary, raw_binary, raw_choose, raw_empty, raw_total, RawConds, no_raw, and_raw, RawTests, no_raw_test, raw_test, up_index, up_base, up_bases, up_tests}
+use Rattle.nq_ir.specs.Trees.{BaseTree, column, unary, binary, total, and_cond, test}
 use Rattle.normalise.specs.Numbers.{without}
 use Rattle.normalise.specs.Raw.{moved_base, raw_base}
 use Rattle.normalise.specs.declared.raw.MovedBase.{MovedBase}
@@ -27,6 +27,10 @@ mutual
   base_joined (raw_choose x a b) n c m d h k =
       ap (λ z. raw_choose z (up_base n c (up_base m d a)) (up_base n c (up_base m d b))) (base_joined x n c m d h k) ∙ ap₂ (raw_choose (up_base (n + m) d x)) (base_joined a n c m d h k) (base_joined b n c m d h k)
   base_joined (raw_empty xs) n c m d h k = ap raw_empty (tests_joined xs n c m d h k)
+  base_joined (raw_total g gs bs b) n c m d h k =
+      let p : length gs + d ≤ length gs + c = omega arith in
+      let q : length gs + c ≤ (length gs + d) + m = omega arith in
+      ap₂ (raw_total g gs) (bases_joined bs n (length gs + c) m (length gs + d) p q) (base_joined b n (length gs + c) m (length gs + d) p q)
 
   pub bases_joined : (bs : RawConds) (n c m d : ℕ) → d ≤ c → c ≤ d + m → up_bases n c (up_bases m d bs) ≡ up_bases (n + m) d bs
   bases_joined no_raw n c m d h k = refl
@@ -51,6 +55,7 @@ mutual
   base_same (raw_choose x a b) c =
       ap (λ z. raw_choose z (up_base 0 c a) (up_base 0 c b)) (base_same x c) ∙ ap₂ (raw_choose x) (base_same a c) (base_same b c)
   base_same (raw_empty xs) c = ap raw_empty (tests_same xs c)
+  base_same (raw_total g gs bs b) c = ap₂ (raw_total g gs) (bases_same bs (length gs + c)) (base_same b (length gs + c))
 
   pub bases_same : (bs : RawConds) (c : ℕ) → up_bases 0 c bs ≡ bs
   bases_same no_raw c = refl
@@ -105,6 +110,7 @@ mutual
   gens_moved (raw_binary o a b) k c = ap₂ (λ y z. y + z) (gens_moved a k c) (gens_moved b k c)
   gens_moved (raw_choose x a b) k c = ap₂ (λ y z. y + z) (gens_moved x k c) (ap₂ (λ y z. y + z) (gens_moved a k c) (gens_moved b k c))
   gens_moved (raw_empty xs) k c = gens_in_moved_tests xs k c
+  gens_moved (raw_total g gs bs b) k c = ap₂ (λ y z. length gs + (y + z)) (gens_in_moved bs k (length gs + c)) (gens_moved b k (length gs + c))
 
   pub gens_in_moved : (bs : RawConds) (k c : ℕ) → gens_in_conds (up_bases k c bs) ≡ gens_in_conds bs
   gens_in_moved no_raw k c = refl
@@ -128,6 +134,15 @@ mutual
       (ap (λ g. number_base (n + g) sc (up_base k c a)) (gens_moved x k c) ∙ moved_numbered a (n + gens_in_base x) k c sc)
       (ap₂ (λ g h. number_base (n + g + h) sc (up_base k c b)) (gens_moved x k c) (gens_moved a k c) ∙ moved_numbered b (n + gens_in_base x + gens_in_base a) k c sc)
   moved_numbered (raw_empty xs) n k c sc = ap BaseTree.empty (moved_tests_numbered xs n k c sc)
+  moved_numbered (raw_total g gs bs b) n k c sc =
+      let inner = length gs + c in
+      let own = deal n gs sc in
+      let under : deal n gs (without k c sc) ≡ without k inner own = deal_without n gs k c sc in
+      ap₂ (total g (number_gens n gs))
+      (moved_conds_numbered bs (n + length gs) k inner own ∙ ap (λ (z : List ℕ). number_conds (n + length gs) z bs) (sym under))
+      (ap (λ z. number_base (n + length gs + z) own (up_base k inner b)) (gens_in_moved bs k inner)
+      ∙ moved_numbered b (n + length gs + gens_in_conds bs) k inner own
+      ∙ ap (λ (z : List ℕ). number_base (n + length gs + gens_in_conds bs) z b) (sym under))
 
   pub moved_conds_numbered : (bs : RawConds) (n k c : ℕ) (sc : List ℕ) → number_conds n sc (up_bases k c bs) ≡ number_conds n (without k c sc) bs
   moved_conds_numbered no_raw n k c sc = refl

@@ -1,9 +1,10 @@
 -- What the numbering of the code's base terms gives.
 use Rattle.std.proofs.Common.{◌≡◌, ℕ, zero, suc, ◌+◌, ◌-◌, ◌<◌, ◌≤◌, List, [], ◌∷◌, map, refl, sym, ap, ap₂, ◌∙◌, length, get_or, arith, Bor}
 use Rattle.nq_model.specs.NamedRows.{Label}
+use Rattle.nq_model.specs.Totals.{Total}
 use Rattle.nq_ir.specs.NormalForms.{gens_in_base, gens_in_conds, gens_in_tests, number_gens, deal, number_base, number_conds, number_tests}
-use Rattle.nq_ir.specs.RawForms.{RawBase}
-use Rattle.nq_ir.specs.Trees.{and_cond, test, base_tree, test_part as numbered_part, conds_of as numbered_conds, tests_of as numbered_tests}
+use Rattle.nq_ir.specs.RawForms.{RawBase, raw_total}
+use Rattle.nq_ir.specs.Trees.{BaseTree, TestPart as NumberedPart, and_cond, test, base_tree, test_part as numbered_part, conds_of as numbered_conds, tests_of as numbered_tests}
 use Rattle.nq_ir.specs.declared.base.Base.{Base}
 use Rattle.nq_ir.specs.declared.base.Gen.{Gen}
 use Rattle.nq_ir.specs.declared.base.Test.{roll-Test}
@@ -88,6 +89,14 @@ test_made n count m sc x gens conds a b g h =
     ∙ ap (λ z. number_conds z (dealt n count sc) (raw_conds (out-RawTest x).conds)) (b ∙ ap (λ z. n + z) a)
     ∙ ap (λ z. number_conds (n + length (out-RawTest x).tables) z (raw_conds (out-RawTest x).conds)) (ap (λ z. dealt n z sc) a ∙ sym (deal_dealt n (out-RawTest x).tables sc)))
     ∙ ap (test_numbered n sc) (sym (test_is x))
+
+-- a total over a comprehension, numbered
+pub total_made : (g : Total) (n count m : ℕ) (sc : List ℕ) (p : TestPart) (t : NumberedPart) (y : BaseTree) (b : RawBase) → count ≡ length p.tables → t ≡ test_numbered n sc p → m ≡ n + gens_in_test p → y ≡ number_base m (dealt n count sc) b → BaseTree.total g t.gens t.conds y ≡ number_base n sc (raw_total g p.tables p.conds b)
+total_made g n count m sc p t y b a h e v =
+    let start : m ≡ n + length p.tables + gens_in_conds p.conds = omega arith in
+    let scope : dealt n count sc ≡ deal n p.tables sc = ap (λ z. dealt n z sc) a ∙ sym (deal_dealt n p.tables sc) in
+    ap (λ (z : NumberedPart). BaseTree.total g z.gens z.conds y) h
+    ∙ ap (BaseTree.total g (number_gens n p.tables) (number_conds (n + length p.tables) (deal n p.tables sc) p.conds)) (v ∙ ap₂ (λ k (z : List ℕ). number_base k z b) start scope)
 
 pub test_has : (n count m after : ℕ) (x : CodeTest) → count ≡ length (out-RawTest x).tables → m ≡ n + count → after ≡ m + gens_in_bases (map moved_base (out-RawTest x).conds) → after ≡ n + gens_in_test (test_part x)
 test_has n count m after x a b e =

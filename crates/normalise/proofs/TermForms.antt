@@ -1,7 +1,7 @@
 -- The raw forms of terms, form by form.
 use Rattle.std.proofs.Common.{◌≡◌, ℕ, Bool, List, [], ◌∷◌, map, ap, ◌∙◌, length, Box, Global, get_or}
 use Rattle.nq_model.specs.NamedRows.{Label}
-use Rattle.nq_model.specs.Terms.{bare, bare_node, node_tree, term_tree}
+use Rattle.nq_model.specs.Terms.{Count, Sum, bare, bare_node, node_tree, term_tree}
 use Rattle.nq_model.specs.declared.table.Cell.TheVariants as cell
 use Rattle.nq_model.specs.declared.table.TableShape.{TableShape}
 use Rattle.nq_model.specs.declared.term.Binary.{Binary}
@@ -10,8 +10,8 @@ use Rattle.nq_model.specs.declared.term.Node.TheVariants as node
 use Rattle.nq_model.specs.declared.term.Term.{Term}
 use Rattle.nq_model.specs.declared.term.Unary.{Unary}
 use Rattle.nq_model.specs.declared.ty.Ty.{Ty}
-use Rattle.nq_model.proofs.Terms.{placed_term, node_binary, node_bool, node_choose, node_empty, node_field, node_for, node_guard, node_nil, node_single, node_table, node_text, node_unary, node_union, node_var}
-use Rattle.nq_ir.specs.RawForms.{RawBody, append_raw, choice, columns_body, each_comp, no_raw, no_raw_body, no_raw_comp, raw_bag, raw_base_in, raw_binary, raw_comp, raw_comps_in, raw_empty, raw_field_in, raw_form, raw_literal, raw_plain, raw_rec, raw_tests_of, raw_unary, up_body, where_raw}
+use Rattle.nq_model.proofs.Terms.{placed_term, node_binary, node_bool, node_choose, node_count, node_empty, node_field, node_for, node_guard, node_nil, node_single, node_sum, node_table, node_text, node_unary, node_union, node_var}
+use Rattle.nq_ir.specs.RawForms.{RawBody, append_raw, choice, columns_body, each_comp, no_raw, no_raw_body, no_raw_comp, raw_aggregate, raw_bag, raw_base_in, raw_binary, raw_comp, raw_comps_in, raw_empty, raw_field_in, raw_form, raw_literal, raw_plain, raw_rec, raw_tests_of, raw_unary, up_body, where_raw}
 use Rattle.nq_ir.specs.WellFormed.{table_columns}
 
 module _ (S : List TableShape) (es : List RawBody) (t : Term) where
@@ -35,6 +35,12 @@ module _ (S : List TableShape) (es : List RawBody) (t : Term) where
 
   pub form_empty : (a : Box Term Global) → t.node ≡ node.Empty a → raw_form S (term_tree t) es ≡ raw_plain (raw_empty (raw_tests_of (raw_comps_in (raw_form S (term_tree a.value) es))))
   form_empty a e = of_node (node.Empty a) e ∙ ap (λ z. raw_form S (bare_node z) es) (node_empty a)
+
+  pub form_count : (a : Box Term Global) → t.node ≡ node.Count a → raw_form S (term_tree t) es ≡ raw_plain (raw_aggregate Count (raw_comps_in (raw_form S (term_tree a.value) es)))
+  form_count a e = of_node (node.Count a) e ∙ ap (λ z. raw_form S (bare_node z) es) (node_count a)
+
+  pub form_sum : (a : Box Term Global) → t.node ≡ node.Sum a → raw_form S (term_tree t) es ≡ raw_plain (raw_aggregate Sum (raw_comps_in (raw_form S (term_tree a.value) es)))
+  form_sum a e = of_node (node.Sum a) e ∙ ap (λ z. raw_form S (bare_node z) es) (node_sum a)
 
   pub form_single : (a : Box Term Global) → t.node ≡ node.Single a → raw_form S (term_tree t) es ≡ raw_bag (raw_comp [] no_raw (raw_form S (term_tree a.value) es) no_raw_comp)
   form_single a e = of_node (node.Single a) e ∙ ap (λ z. raw_form S (bare_node z) es) (node_single a)

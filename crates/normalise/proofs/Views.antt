@@ -1,10 +1,11 @@
 -- The raw forms of the code's bodies, form by form.
-use Rattle.std.proofs.Common.{◌≡◌, ℕ, Bool, List, map, sym, ap, ◌∙◌}
+use Rattle.std.proofs.Common.{◌≡◌, ℕ, ℤ, Bool, List, map, sym, ap, ◌∙◌}
 use Rattle.nq_model.specs.NamedRows.{Label}
+use Rattle.nq_model.specs.Totals.{SumOf}
 use Rattle.nq_model.specs.declared.table.Cell.TheVariants as cell
 use Rattle.nq_model.specs.declared.term.Binary.{Binary}
 use Rattle.nq_model.specs.declared.term.Unary.{Unary}
-use Rattle.nq_ir.specs.RawForms.{RawBase, raw_binary, raw_choose, raw_column, raw_literal, raw_empty, raw_unary, up_base, RawBody, raw_plain, raw_rec, raw_bag, up_body}
+use Rattle.nq_ir.specs.RawForms.{RawBase, raw_binary, raw_choose, raw_column, raw_literal, raw_empty, raw_total, raw_unary, up_base, RawBody, raw_plain, raw_rec, raw_bag, up_body}
 use Rattle.normalise.specs.declared.raw.RawBase.{RawBase-F, fold-roll-RawBase}
 use Rattle.normalise.specs.declared.raw.RawBase.TheVariants as base
 use Rattle.normalise.specs.declared.raw.MovedBase.{MovedBase, fold-roll-MovedBase}
@@ -13,7 +14,7 @@ use Rattle.normalise.specs.declared.raw.RawBody.{RawBody-F, fold-roll-RawBody}
 use Rattle.normalise.specs.declared.raw.RawBody.TheVariants as body
 use Rattle.normalise.specs.declared.raw.MovedBody.{MovedBody, fold-roll-MovedBody}
 use Rattle.normalise.specs.declared.raw.RawComp.{RawComp as CodeComp, fold-roll-RawComp}
-use Rattle.normalise.specs.Raw.{TestPart, CompPart, tests_of, fields_of, comps_of, base_layer, moved_layer, test_layer, raw_base, moved_base, test_part, raw_conds, body_layer, moved_body_layer, comp_layer, raw_body, moved_body, comp_part}
+use Rattle.normalise.specs.Raw.{TestPart, CompPart, count_in, tests_of, fields_of, comps_of, base_layer, moved_layer, test_layer, raw_base, moved_base, test_part, raw_conds, body_layer, moved_body_layer, comp_layer, raw_body, moved_body, comp_part}
 
 pub base_bool : (b : Bool) → raw_base (base.Bool b) ≡ raw_literal (cell.Bool b)
 base_bool b = ap raw_base (sym (base.rolls-Bool b)) ∙ fold-roll-RawBase RawBase RawBase TestPart base_layer moved_layer test_layer (RawBase-F.Bool b)
@@ -36,6 +37,15 @@ base_binary op a b = ap raw_base (sym (base.rolls-Binary op a b)) ∙ fold-roll-
 
 pub base_choose : (x a b : MovedBase) → raw_base (base.Choose x a b) ≡ raw_choose (moved_base x) (moved_base a) (moved_base b)
 base_choose x a b = ap raw_base (sym (base.rolls-Choose x a b)) ∙ fold-roll-RawBase RawBase RawBase TestPart base_layer moved_layer test_layer (RawBase-F.Choose x a b)
+
+pub base_int : (n : ℤ) → raw_base (base.Int n) ≡ raw_literal (cell.Int n)
+base_int n = ap raw_base (sym (base.rolls-Int n)) ∙ fold-roll-RawBase RawBase RawBase TestPart base_layer moved_layer test_layer (RawBase-F.Int n)
+
+pub base_count : (t : CodeTest) → raw_base (base.Count t) ≡ count_in (test_part t)
+base_count t = ap raw_base (sym (base.rolls-Count t)) ∙ fold-roll-RawBase RawBase RawBase TestPart base_layer moved_layer test_layer (RawBase-F.Count t)
+
+pub base_sum : (t : CodeTest) (b : MovedBase) → raw_base (base.Sum t b) ≡ raw_total SumOf (test_part t).tables (test_part t).conds (moved_base b)
+base_sum t b = ap raw_base (sym (base.rolls-Sum t b)) ∙ fold-roll-RawBase RawBase RawBase TestPart base_layer moved_layer test_layer (RawBase-F.Sum t b)
 
 pub base_moved : (b : MovedBase) → raw_base (base.Moved b) ≡ moved_base b
 base_moved b = ap raw_base (sym (base.rolls-Moved b)) ∙ fold-roll-RawBase RawBase RawBase TestPart base_layer moved_layer test_layer (RawBase-F.Moved b)

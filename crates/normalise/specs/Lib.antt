@@ -3,3 +3,4 @@ pub mod Numbers
 pub mod Scopes
 pub mod Choices
 pub mod BagTests
+pub mod Totals

@@ -1,8 +1,9 @@
 -- The code's bodies as raw forms.
-use Rattle.std.specs.Prelude.{ℕ, ◌+◌, ◌++◌, List, [], ◌∷◌, map, length}
+use Rattle.std.specs.Prelude.{ℕ, pos, ◌+◌, ◌++◌, List, [], ◌∷◌, map, length}
 use Rattle.nq_model.specs.NamedRows.{Label}
+use Rattle.nq_model.specs.Totals.{HowMany, SumOf}
 use Rattle.nq_model.specs.declared.table.Cell.TheVariants as cell
-use Rattle.nq_ir.specs.RawForms.{RawBase, raw_literal, raw_column, raw_unary, raw_binary, raw_choose, raw_empty, RawConds, no_raw, and_raw, RawTests, no_raw_test, raw_test, RawBody, raw_plain, raw_rec, raw_bag, RawFields, no_raw_field, raw_field, RawComps, no_raw_comp, raw_comp, up_base, up_bases, up_body, both_raw}
+use Rattle.nq_ir.specs.RawForms.{RawBase, raw_literal, raw_column, raw_unary, raw_binary, raw_choose, raw_empty, raw_total, RawConds, no_raw, and_raw, RawTests, no_raw_test, raw_test, RawBody, raw_plain, raw_rec, raw_bag, RawFields, no_raw_field, raw_field, RawComps, no_raw_comp, raw_comp, raw_base_in, up_base, up_bases, up_body, both_raw}
 use Rattle.normalise.specs.declared.raw.RawBase.{RawBase as CodeBase}
 use Rattle.normalise.specs.declared.raw.MovedBase.{MovedBase}
 use Rattle.normalise.specs.declared.raw.RawTest.{RawTest as CodeTest}
@@ -23,6 +24,10 @@ pub record TestPart : Type 0 where
   pub tables : List Label
   pub conds : RawConds
 
+-- how many elements it gives
+abbrev pub count_in : TestPart → RawBase
+count_in t = raw_total HowMany t.tables t.conds (raw_literal (cell.Int (pos 1)))
+
 abbrev pub tests_of : List TestPart → RawTests
 tests_of [] = no_raw_test
 tests_of (t ∷ ts) = raw_test t.tables t.conds (tests_of ts)
@@ -37,6 +42,10 @@ pub record CompPart : Type 0 where
   pub conds : RawConds
   pub body : RawBody
 
+-- the sum of its body over the elements that it gives
+abbrev pub sum_in : CompPart → RawBase
+sum_in c = raw_total SumOf c.tables c.conds (raw_base_in c.body)
+
 abbrev pub comps_of : List CompPart → RawComps
 comps_of [] = no_raw_comp
 comps_of (c ∷ cs) = raw_comp c.tables c.conds c.body (comps_of cs)
@@ -50,6 +59,8 @@ base_layer (RawBase-F.Unary op b) = raw_unary op b
 base_layer (RawBase-F.Binary op a b) = raw_binary op a b
 base_layer (RawBase-F.Choose x a b) = raw_choose x a b
 base_layer (RawBase-F.Empty ts) = raw_empty (tests_of ts)
+base_layer (RawBase-F.Count t) = count_in t
+base_layer (RawBase-F.Sum t b) = raw_total SumOf t.tables t.conds b
 base_layer (RawBase-F.Moved b) = b
 
 abbrev pub moved_layer : MovedBase-F RawBase RawBase TestPart → RawBase

@@ -40,11 +40,16 @@ pub(crate) fn deepest_under(conds: &[MovedBase], more: u64, before: u64) -> u64 
     if more == 0 { before } else { deepest(conds) }
 }
 
-/// How deep the comprehensions of a test are. Conditions are joined from the left.
+/// How deep a comprehension without its body is. Conditions are joined from the left.
+pub(crate) fn test_depth(test: &RawTest) -> u64 {
+    test.deepest.saturating_add(test.conds.len() as u64)
+}
+
+/// How deep the comprehensions of a test are.
 pub(crate) fn tests_depth(tests: &[RawTest]) -> u64 {
     let mut depth: u64 = 0;
     for test in tests {
-        depth = depth.max(test.deepest.saturating_add(test.conds.len() as u64));
+        depth = depth.max(test_depth(test));
     }
     depth
 }

@@ -8,6 +8,7 @@ ghost use Rattle.normalise.specs.Raw.{fields_of, fields_view, moved_base, moved_
 use crate::comps::{append, guarded, one_comp};
 use crate::depth::tests_depth;
 use crate::fields::in_label_order;
+use crate::moved::operation;
 use crate::raw::{MovedBase, MovedBody, RawBase, RawBody, RawComp, RawTest};
 use nq_model::{Binary, Label, List, Memory, Text, Unary};
 use std::alloc::Global;
@@ -55,9 +56,7 @@ pub(crate) fn binary(
 ) -> Result<MovedBody, Memory>
     ensures { IfOk result (λ b. moved_body b ≡ raw_plain (raw_binary op (moved_base left) (moved_base right))) }
 {
-    let below = left.depth.max(right.depth);
-    let base = RawBase::Binary { op, left, right };
-    let base = MovedBase::new(alloc, base, below)?;
+    let base = operation(alloc, op, left, right)?;
     MovedBody::new(alloc, RawBody::Plain(base))
 }
 

@@ -17,6 +17,7 @@ mod raw_copy;
 mod scope;
 mod table;
 mod tests;
+mod totals;
 mod types;
 mod walk;
 

@@ -1,13 +1,13 @@
 // Base terms that are shared, and moved under more generators without a walk over them.
 ghost use Rattle.std.specs.Prelude.{◌≡◌, IfOk};
-ghost use Rattle.nq_ir.specs.RawForms.{raw_choose, raw_unary, up_base};
+ghost use Rattle.nq_ir.specs.RawForms.{raw_binary, raw_choose, raw_unary, up_base};
 ghost use Rattle.nq_model.specs.declared.term.Unary.TheVariants.{Not};
 ghost use Rattle.normalise.specs.Raw.{moved_base, raw_base};
 
 use crate::depth::level_above;
 use crate::raw::{MovedBase, RawBase};
 use crate::raw_copy::plus;
-use nq_model::{Memory, Unary};
+use nq_model::{Binary, Memory, Unary};
 use std::alloc::Global;
 use std::rc::Rc;
 
@@ -84,6 +84,19 @@ pub(crate) fn choose(
 {
     let below = test.depth.max(yes.depth).max(no.depth);
     MovedBase::new(alloc, RawBase::Choose { test, yes, no }, below)
+}
+
+/// An operation on two base terms.
+pub(crate) fn operation(
+    alloc: Global,
+    op: Binary,
+    left: MovedBase,
+    right: MovedBase,
+) -> Result<MovedBase, Memory>
+    ensures { IfOk result (λ m. moved_base m ≡ raw_binary op (moved_base left) (moved_base right)) }
+{
+    let below = left.depth.max(right.depth);
+    MovedBase::new(alloc, RawBase::Binary { op, left, right }, below)
 }
 
 /// The negation.

@@ -51,6 +51,21 @@ fn number_base(
             let (tests, next) = number_tests(alloc, tests.as_slice(), next, scope)?;
             Ok((Base::Empty(tests), next))
         }
+        RawBase::Count(test) => {
+            let (test, next) = number_test(alloc, test, next, scope)?;
+            Ok((Base::Count(test), next))
+        }
+        RawBase::Sum { over, value } => {
+            // the generators of the comprehension are in scope in the value too
+            let inner = Numbers::Dealt {
+                first: next,
+                count: over.tables.len() as u64,
+                outer: &*scope,
+            };
+            let (over, next) = number_test(alloc, over, next, scope)?;
+            let (value, next) = number_boxed(alloc, value, next, &inner)?;
+            Ok((Base::Sum { over, value }, next))
+        }
         RawBase::Moved(moved) => number_moved(alloc, moved, next, scope),
     }
 }

@@ -29,6 +29,11 @@ pub(crate) enum RawBase {
         no: MovedBase,
     },
     Empty(List<RawTest>),
+    Count(RawTest),
+    Sum {
+        over: RawTest,
+        value: MovedBase,
+    },
     Moved(MovedBase),
 }
 
@@ -43,8 +48,8 @@ pub(crate) struct MovedBase {
     pub depth: u64,
 }
 
-/// A comprehension without its body, as in an emptiness test: the tables of its generators, outermost first, and its
-/// conditions, of which the deepest is so deep.
+/// A comprehension without its body, as in an emptiness test, a count or a sum: the tables of its generators, outermost
+/// first, and its conditions, of which the deepest is so deep.
 #[cycle(raw)]
 #[derive(Drop)]
 pub(crate) struct RawTest {

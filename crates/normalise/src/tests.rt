@@ -1,4 +1,5 @@
-// Comprehensions of emptiness tests, which have no bodies: one behind the other, and inside generators and conditions.
+// Comprehensions without bodies, as emptiness tests and counts have them: one behind the other, and inside generators
+// and conditions.
 ghost use Rattle.std.specs.Prelude.{◌≡◌, ◌++◌, ◌∷◌, [], IfOk, OnOk, map, option_map};
 ghost use Rattle.nq_ir.specs.RawForms.{no_raw, no_raw_test, raw_test, raw_tests_of};
 ghost use Rattle.normalise.specs.Raw.{append_tests, bodiless, comp_part, moved_base, moved_body, raw_comps, raw_tests, test_inside, test_part, where_tests};

@@ -19,6 +19,7 @@ use crate::tests::{
     append_tests, chosen_tests, guarded_tests, one_test, opened_tests, put_tests_inside, test_in,
     test_of_table,
 };
+use crate::totals::{count, sum};
 use nq_model::{Label, List, Memory, Node, Schema, Term};
 use std::alloc::Global;
 
@@ -57,6 +58,8 @@ fn body(alloc: Global, schema: &Schema, term: &Term, scope: &Scope) -> Result<Mo
             field_in(alloc, label, &of)
         }
         Node::Empty(of) => emptiness(alloc, tests(alloc, schema, of, scope)?),
+        Node::Count(of) => count(alloc, tests(alloc, schema, of, scope)?),
+        Node::Sum(of) => sum(alloc, comps(alloc, schema, of, scope)?),
         Node::Single(of) => single(alloc, body(alloc, schema, of, scope)?),
         Node::Nil(_) => bag(alloc, List::new(alloc)),
         Node::Union { left, right } => {

@@ -1,9 +1,8 @@
 use Rattle.std.proofs.Common.{ap, ◌∙◌}
 use Rattle.std.proofs.lemmas.Result.{IfOk-weaker}
 use Rattle.nq_ir.specs.RawForms.{raw_plain}
-use Rattle.normalise.proofs.Views.{base_binary, body_plain}
+use Rattle.normalise.proofs.Views.{body_plain}
 use Rattle.normalise.proofs.forms.binary.Goals as goal
 
 pub returns : goal.returns
-returns c =
-    IfOk-weaker c.new-2.result _ _ (λ b e. e ∙ body_plain c.in_ok-base.base ∙ ap raw_plain (c.in_ok-base.ensures ∙ base_binary c.args.op c.args.left c.args.right)) c.new-2.ensures
+returns c = IfOk-weaker c.new.result _ _ (λ b e. e ∙ body_plain c.in_ok-base.base ∙ ap raw_plain c.in_ok-base.ensures) c.new.ensures

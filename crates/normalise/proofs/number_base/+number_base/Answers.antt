@@ -1,16 +1,18 @@
-use Rattle.std.proofs.Common.{rules, arith, ◌≡◌, ◌+◌, ap, ap₂, sym, ◌∙◌, map, length, List, ℕ}
+use Rattle.std.proofs.Common.{rules, arith, ◌≡◌, ◌+◌, ap, ap₂, sym, ◌∙◌, map, length, List, ℕ, pos}
 use Rattle.std.proofs.lemmas.Result.{IfOk-weaker}
 use Rattle.nq_model.specs.NamedRows.{Label}
-use Rattle.nq_ir.specs.NormalForms.{number_base, number_gens, gens_in_base}
-use Rattle.nq_ir.specs.Trees.{BaseTree, base_tree, tests_of as numbered_tests}
-use Rattle.nq_ir.proofs.Forms.{base_binary as numbered_binary, base_bool as numbered_bool, base_choose as numbered_choose, base_column as numbered_column, base_empty as numbered_empty, base_unary as numbered_unary}
-use Rattle.normalise.specs.Raw.{moved_base, raw_base, test_part}
+use Rattle.nq_model.specs.Totals.{HowMany, SumOf}
+use Rattle.nq_model.specs.declared.table.Cell.TheVariants as cell
+use Rattle.nq_ir.specs.NormalForms.{number_base, number_gens, gens_in_base, gens_in_conds}
+use Rattle.nq_ir.specs.Trees.{BaseTree, TestPart as NumberedPart, base_tree, test_part as numbered_part, tests_of as numbered_tests}
+use Rattle.nq_ir.proofs.Forms.{base_binary as numbered_binary, base_bool as numbered_bool, base_choose as numbered_choose, base_column as numbered_column, base_count as numbered_count, base_empty as numbered_empty, base_sum as numbered_sum, base_unary as numbered_unary}
+use Rattle.normalise.specs.Raw.{TestPart, moved_base, raw_base, test_part}
 use Rattle.normalise.specs.Numbers.{numbers, without, bases_numbered, gens_in_bases, tests_numbered, gens_in_parts}
 use Rattle.normalise.specs.declared.raw.MovedBase.{MovedBase}
 use Rattle.normalise.specs.declared.raw.RawBase.{RawBase as CodeBase}
 use Rattle.normalise.specs.declared.raw.RawTest.{RawTest as CodeTest, out-RawTest}
-use Rattle.normalise.proofs.Views.{base_binary, base_bool, base_choose, base_column, base_empty, base_moved, base_unary}
-use Rattle.normalise.proofs.Numbering.{moved_has, moved_made, numbers_dealt, tests_are, tests_have, test_made, test_has}
+use Rattle.normalise.proofs.Views.{base_binary, base_bool, base_choose, base_column, base_count, base_empty, base_moved, base_sum, base_unary, test_is}
+use Rattle.normalise.proofs.Numbering.{moved_has, moved_made, numbers_dealt, tests_are, tests_have, test_made, test_has, total_made}
 use Rattle.normalise.proofs.number_base.+number_base.Goals as goal
 
 pub number_base-returns-in-Bool : goal.number_base-returns-in-Bool
@@ -101,6 +103,42 @@ number_base-returns-in_ok-tests-in-Empty t c =
           ∙ ap BaseTree.empty (sym (tests_are n sc (map test_part tests)))
           ∙ ap (number_base n sc) (sym old),
       h.1 ∙ ap (λ (z : List CodeTest). n + gens_in_parts (map test_part z)) s ∙ ap (λ z. n + z) (sym (tests_have (map test_part tests))) ∙ ap (λ z. n + gens_in_base z) (sym old),
+    )
+
+pub number_base-returns-in_ok-test-in-Count : goal.number_base-returns-in_ok-test-in-Count
+number_base-returns-in_ok-test-in-Count t c =
+    let sc = numbers c.args.scope.now in
+    let n = c.args.next in
+    let p = test_part c.in-Count.test in
+    let h = c.in_ok-test-in-Count.ensures in
+    let old = ap raw_base c.in-Count.is ∙ base_count c.in-Count.test in
+    let after : c.in_ok-test-in-Count.next ≡ n + (length p.tables + (gens_in_conds p.conds + 0)) = omega (arith, h.1) in (
+      numbered_count c.in_ok-test-in-Count.test
+          ∙ ap (λ (z : NumberedPart). BaseTree.total HowMany z.gens z.conds (BaseTree.literal (cell.Int (pos 1)))) h.0
+          ∙ ap (number_base n sc) (sym old),
+      after ∙ ap (λ z. n + gens_in_base z) (sym old),
+    )
+
+pub number_base-returns-in_ok-value-in-Sum : goal.number_base-returns-in_ok-value-in-Sum
+number_base-returns-in_ok-value-in-Sum t c =
+    let sc = numbers c.args.scope.now in
+    let n = c.args.next in
+    let x = c.in-Sum.over in
+    let p = test_part x in
+    let b = moved_base c.in-Sum.value in
+    let count = c.len.result in
+    let a : count ≡ length (out-RawTest x).tables = search rules in
+    let many : count ≡ length p.tables = a ∙ ap (λ (q : TestPart). length q.tables) (sym (test_is x)) in
+    let h = c.in_ok-over-in-Sum.ensures in
+    let k = c.in_ok-value-in-Sum.ensures in
+    let start = c.in_ok-over-in-Sum.next in
+    let i = numbers_dealt n count c.args.scope in
+    let old = ap raw_base c.in-Sum.is ∙ base_sum x c.in-Sum.value in
+    let after : c.in_ok-value-in-Sum.next ≡ n + (length p.tables + (gens_in_conds p.conds + gens_in_base b)) = omega (arith, h.1, k.1) in (
+      numbered_sum c.in_ok-over-in-Sum.over c.in_ok-value-in-Sum.value
+          ∙ total_made SumOf n count start sc p (numbered_part c.in_ok-over-in-Sum.over) (base_tree c.in_ok-value-in-Sum.value.value) b many h.0 h.1 (k.0 ∙ ap (λ (z : List ℕ). number_base start z b) i)
+          ∙ ap (number_base n sc) (sym old),
+      after ∙ ap (λ z. n + gens_in_base z) (sym old),
     )
 
 pub number_moved-returns : goal.number_moved-returns

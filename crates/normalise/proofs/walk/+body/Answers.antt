@@ -5,17 +5,19 @@ use Rattle.nq_model.specs.Orders.{by_label}
 use Rattle.nq_model.specs.Terms.{TermTree, bare, bare_node, node_tree, term_tree, fields_view as terms_view}
 use Rattle.nq_model.specs.declared.term.Term.{Term}
 use Rattle.nq_model.proofs.Terms.{placed_term, node_choose, node_guard, node_tree_record, node_union}
-use Rattle.nq_ir.specs.RawForms.{RawBody, RawComps, and_raw, append_raw, choice, each_comp, no_raw, no_raw_comp, no_raw_test, raw_bag, raw_base_in, raw_binary, raw_comp, raw_comps_in, raw_empty, raw_field_in, raw_form, raw_plain, raw_rec, raw_test, raw_tests_of, raw_unary, up_body, where_raw}
+use Rattle.nq_ir.specs.RawForms.{RawBase, RawBody, RawComps, and_raw, append_raw, choice, each_comp, no_raw, no_raw_comp, no_raw_test, of_each, plus_all, raw_bag, raw_base_in, raw_binary, raw_comp, raw_comps_in, raw_empty, raw_field_in, raw_form, raw_plain, raw_rec, raw_sum, raw_test, raw_tests_of, raw_unary, up_body, where_raw}
 use Rattle.normalise.specs.Raw.{append_tests, fields_of, moved_base, moved_body, raw_comps, raw_tests, where_tests}
 use Rattle.normalise.specs.declared.raw.RawComp.{RawComp as CodeComp}
 use Rattle.normalise.specs.declared.raw.RawTest.{RawTest as CodeTest}
 use Rattle.normalise.specs.Scopes.{bodies}
 use Rattle.normalise.specs.BagTests.{bag_tests, choice_of_tests}
+use Rattle.normalise.specs.Totals.{counts_of}
 use Rattle.normalise.proofs.FieldFacts.{fields_are}
 use Rattle.normalise.proofs.Lists.{tests_of_append, tests_of_inside}
 use Rattle.normalise.proofs.Scopes.{scope_inner, scope_under}
 use Rattle.normalise.proofs.BagTests.{choice_tests, tests_found}
-use Rattle.normalise.proofs.TermForms.{form_binary, form_bool, form_choose, form_empty, form_field, form_for, form_guard, form_nil, form_single, form_table, form_text, form_unary, form_union, form_var}
+use Rattle.normalise.proofs.TermForms.{form_binary, form_bool, form_choose, form_count, form_empty, form_field, form_for, form_guard, form_nil, form_single, form_sum, form_table, form_text, form_unary, form_union, form_var}
+use Rattle.normalise.proofs.Sums.{counts_each}
 use Rattle.normalise.proofs.Views.{base_bool}
 use Rattle.normalise.proofs.Walks.{loop_step, tests_step}
 use Rattle.normalise.proofs.walk.+body.Goals as goal
@@ -108,6 +110,27 @@ body-returns-in_ok-tests-in-Empty t c =
     ∙ ap (λ z. raw_plain (raw_empty z)) (c.in_ok-tests-in-Empty.ensures ∙ ap (λ (u : Term). raw_tests_of (raw_comps_in (raw_form S (term_tree u) es))) c.deref-in-Empty.ensures)
     ∙ sym (form_empty S es c.args.term.now _ c.in-Empty.is))
     c.emptiness.ensures
+
+pub body-returns-in_ok-tests-in-Count : goal.body-returns-in_ok-tests-in-Count
+body-returns-in_ok-tests-in-Count t c =
+    let S = c.args.schema.now.tables in
+    let es = bodies c.args.scope.now in
+    IfOk-weaker c.count.result _ _
+    (λ b e. e
+    ∙ ap (λ z. raw_plain (plus_all (counts_of z))) (c.in_ok-tests-in-Count.ensures ∙ ap (λ (u : Term). raw_tests_of (raw_comps_in (raw_form S (term_tree u) es))) c.deref-in-Count.ensures)
+    ∙ ap (λ (l : List RawBase). raw_plain (plus_all l)) (counts_each (raw_comps_in (raw_form S (term_tree c.in-Count.of.value) es)))
+    ∙ sym (form_count S es c.args.term.now _ c.in-Count.is))
+    c.count.ensures
+
+pub body-returns-in_ok-comps-in-Sum : goal.body-returns-in_ok-comps-in-Sum
+body-returns-in_ok-comps-in-Sum t c =
+    let S = c.args.schema.now.tables in
+    let es = bodies c.args.scope.now in
+    IfOk-weaker c.sum.result _ _
+    (λ b e. e
+    ∙ ap (λ (z : RawComps). raw_plain (plus_all (of_each raw_sum z))) (c.in_ok-comps-in-Sum.ensures ∙ ap (λ (u : Term). raw_comps_in (raw_form S (term_tree u) es)) c.deref-in-Sum.ensures)
+    ∙ sym (form_sum S es c.args.term.now _ c.in-Sum.is))
+    c.sum.ensures
 
 pub body-returns-in_ok-body-in-Single : goal.body-returns-in_ok-body-in-Single
 body-returns-in_ok-body-in-Single t c =

@@ -1,0 +1,92 @@
+// Counts and sums: one for each comprehension, joined by `+` from the left. Joined, they are as deep as there are
+// comprehensions, since what comes after recurses over them.
+ghost use Rattle.std.specs.Prelude.{◌≡◌, IfOk, map, option_map};
+ghost use Rattle.nq_ir.specs.RawForms.{of_each, plus_all, raw_plain, raw_sum};
+ghost use Rattle.normalise.specs.Raw.{comp_part, count_in, moved_base, moved_body, raw_comps, raw_tests, sum_in, test_part};
+ghost use Rattle.normalise.specs.Totals.{counts_of, plus_more};
+
+use crate::comps::base_in;
+use crate::depth::test_depth;
+use crate::moved::operation;
+use crate::raw::{MovedBase, MovedBody, RawBase, RawBody, RawComp, RawTest};
+use crate::tests::test_in;
+use nq_model::{Binary, List, Memory};
+use std::alloc::Global;
+
+/// How many elements the comprehensions give.
+#[inline(never)]
+pub(crate) fn count(alloc: Global, tests: List<RawTest>) -> Result<MovedBody, Memory>
+    ensures { IfOk result (λ b. moved_body b ≡ raw_plain (plus_all (counts_of (raw_tests tests)))) }
+{
+    let all = plus_all(alloc, each_count(alloc, tests)?)?;
+    MovedBody::new(alloc, RawBody::Plain(all))
+}
+
+/// The sum of the bodies over the elements that the comprehensions give.
+#[inline(never)]
+pub(crate) fn sum(alloc: Global, comps: List<RawComp>) -> Result<MovedBody, Memory>
+    ensures { IfOk result (λ b. moved_body b ≡ raw_plain (plus_all (of_each raw_sum (raw_comps comps)))) }
+{
+    let all = plus_all(alloc, each_sum(alloc, comps)?)?;
+    MovedBody::new(alloc, RawBody::Plain(all))
+}
+
+fn each_count(alloc: Global, tests: List<RawTest>) -> Result<List<MovedBase>, Memory>
+    ensures { IfOk result (λ all. map moved_base all ≡ map count_in (map test_part tests)) }
+{
+    let mut all = List::with_capacity(alloc, tests.len())?;
+    for test in tests.into_vec() {
+        all.push(count_one(alloc, test)?)?;
+    }
+    Ok(all)
+}
+
+fn count_one(alloc: Global, test: RawTest) -> Result<MovedBase, Memory>
+    ensures { IfOk result (λ b. moved_base b ≡ count_in (test_part test)) }
+{
+    let below = test_depth(&test);
+    MovedBase::new(alloc, RawBase::Count(test), below)
+}
+
+fn each_sum(alloc: Global, comps: List<RawComp>) -> Result<List<MovedBase>, Memory>
+    ensures { IfOk result (λ all. map moved_base all ≡ map sum_in (map comp_part comps)) }
+{
+    let mut all = List::with_capacity(alloc, comps.len())?;
+    for comp in comps.into_vec() {
+        all.push(sum_one(alloc, comp)?)?;
+    }
+    Ok(all)
+}
+
+fn sum_one(alloc: Global, comp: RawComp) -> Result<MovedBase, Memory>
+    ensures { IfOk result (λ b. moved_base b ≡ sum_in (comp_part comp)) }
+{
+    let value = base_in(alloc, &comp.body)?;
+    let over = test_in(comp);
+    let below = test_depth(&over).max(value.depth);
+    MovedBase::new(alloc, RawBase::Sum { over, value }, below)
+}
+
+// These joined by `+` from the left; of none it is the number 0.
+#[tactic(auto, using(crate::proofs::Views::base_int, crate::proofs::Sums::plus_some, crate::proofs::Sums::plus_none))]
+fn plus_all(alloc: Global, parts: List<MovedBase>) -> Result<MovedBase, Memory>
+    ensures { IfOk result (λ b. moved_base b ≡ plus_all (map moved_base parts)) }
+{
+    let mut all: Option<MovedBase> = None;
+    for part in parts.into_vec() {
+        all = Some(plus_one(alloc, all, part)?);
+    }
+    match all {
+        Some(all) => Ok(all),
+        None => MovedBase::new(alloc, RawBase::Int(0), 0),
+    }
+}
+
+fn plus_one(alloc: Global, left: Option<MovedBase>, right: MovedBase) -> Result<MovedBase, Memory>
+    ensures { IfOk result (λ b. moved_base b ≡ plus_more (option_map moved_base left) (moved_base right)) }
+{
+    match left {
+        Some(left) => operation(alloc, Binary::Add, left, right),
+        None => Ok(right),
+    }
+}
