@@ -5,13 +5,13 @@ use Rattle.nq_model.specs.Machines.{Faulty}
 use Rattle.nq_model.specs.OpenLists.{Deep}
 use Rattle.nq_model.specs.SchemaTexts.{type_word}
 use Rattle.nq_model.specs.QueryTokens.{Operator, Union, Of, Opening, Closing, OpeningBag, ClosingBag, Comma, Colon, Semicolon, Dot, Assign, From, Arrow, Bang, Token, Word, Value, Oper, Sign}
-use Rattle.nq_model.specs.QueryGrammar.{Edition, Kind, IsFor, IsWhere, IsIf, IsFun, IsTable, IsEmpty, IsTruth, IsBase, IsName, truth_word, kind, TypeSyntax, TBase, TBag, TParen, TNoFields, TRec, TFun, TypeFields, TOne, TMore, Syntax, Const, Truth, Var, Table, Empty, Paren, NoFields, Rec, Bag, Nil, For, Where, If, Fun, Let, Prefix, Infix, Apply, Field, Fields, One, More, type_tokens, type_fields_tokens, prefix_token, tokens, fields_tokens, level, left_level, TypeFits, TypeFieldsFit, Fits, FieldsFit, Within}
+use Rattle.nq_model.specs.QueryGrammar.{Edition, aggregate_word, Kind, IsFor, IsWhere, IsIf, IsFun, IsTable, IsAggregate, IsTruth, IsBase, IsName, truth_word, kind, TypeSyntax, TBase, TBag, TParen, TNoFields, TRec, TFun, TypeFields, TOne, TMore, Syntax, Const, Truth, Var, Table, Aggregated, Paren, NoFields, Rec, Bag, Nil, For, Where, If, Fun, Let, Prefix, Infix, Apply, Field, Fields, One, More, type_tokens, type_fields_tokens, prefix_token, tokens, fields_tokens, level, left_level, TypeFits, TypeFieldsFit, Fits, FieldsFit, Within}
 use Rattle.nq_model.specs.declared.term.Unary.{Unary as UnaryOp}
 use Rattle.nq_model.specs.declared.term.Unary.TheVariants.{Minus, Not}
 use Rattle.nq_model.specs.declared.term.Binary.TheVariants.{Add, Sub, Mul, And, Or}
 use Rattle.nq_model.specs.declared.table.ColumnType.{ColumnType}
 use Rattle.nq_model.specs.declared.table.ColumnType.TheVariants as column
-use Rattle.nq_parser.specs.Machine.{AtFirst, AtNext, TAtFirst, TAtNext, FieldHead, TypeHead, put_field, put_type, Frame, InParen, InBag, InEmpty, InSource, InBody, InTest, InGuarded, InIf, InThen, InElse, InFunBody, InValue, InLetBody, InPrefix, InRight, InArg, InField, TypeFrame, TInBag, TInParen, TInRight, TInField, Around, InNil, InFun, State, Want, AtWord, AtTable, AtEmpty, AtFor, AtForOpen, AtForName, AtWhere, AtFun, AtFunOpen, AtFunName, AtFunClose, AtLet, AtLetName, AtComma, AtLabel, AtDot, WantType, AtTypeWord, AtTypeComma, AtTypeLabel, HaveType, Have, asks_of, asks, binds, level_of, ends, joined, shift, after, begin_word, start, no_label, at_word, if_name, after_type, begin_base, no_type_label, at_type_word, step, unit, int_type, some_name, close, close_around, least, turn, run}
+use Rattle.nq_parser.specs.Machine.{AtFirst, AtNext, TAtFirst, TAtNext, FieldHead, TypeHead, put_field, put_type, Frame, InParen, InBag, InAggregate, InSource, InBody, InTest, InGuarded, InIf, InThen, InElse, InFunBody, InValue, InLetBody, InPrefix, InRight, InArg, InField, TypeFrame, TInBag, TInParen, TInRight, TInField, Around, InNil, InFun, State, Want, AtWord, AtTable, AtAggregate, AtFor, AtForOpen, AtForName, AtWhere, AtFun, AtFunOpen, AtFunName, AtFunClose, AtLet, AtLetName, AtComma, AtLabel, AtDot, WantType, AtTypeWord, AtTypeComma, AtTypeLabel, HaveType, Have, asks_of, asks, binds, level_of, ends, joined, shift, after, begin_word, start, no_label, at_word, if_name, after_type, begin_base, no_type_label, at_type_word, step, unit, int_type, some_name, close, close_around, least, turn, run}
 use Rattle.nq_parser.proofs.Depths.{depth_pos, type_pos, type_fields_pos, less, want_less, type_less, type_want_less, fits_true}
 
 abbrev pub is_assign : Token → Bool
@@ -115,7 +115,7 @@ module _ (ed : Edition) where
   level_enough (Truth p b) m h f = omega arith
   level_enough (Var p y) m h f = omega arith
   level_enough (Table p v l) m h f = omega arith
-  level_enough (Empty p o e c) m h f = omega arith
+  level_enough (Aggregated a p o e c) m h f = omega arith
   level_enough (Paren p e q) m h f = omega arith
   level_enough (NoFields p q) m h f = omega arith
   level_enough (Rec fs q) m h f = omega arith
@@ -166,7 +166,7 @@ module _ (ed : Edition) where
   settled IsName q p w k t st e = ap (λ z. step ed z t) (some_same _ _ e)
   settled (IsTruth b) q p w k t st e = ap (λ z. step ed z t) (some_same _ _ e)
   settled IsTable q p w k t st e = ap (λ z. step ed z t) (some_same _ _ e)
-  settled IsEmpty q p w k t st e = ap (λ z. step ed z t) (some_same _ _ e)
+  settled (IsAggregate a) q p w k t st e = ap (λ z. step ed z t) (some_same _ _ e)
   settled IsFor q p w k t st e = ap (λ z. step ed z t) (some_same (AtFor p (InParen q ∷ k)) st e)
   settled IsWhere q p w k t st e = ap (λ z. step ed z t) (some_same (AtWhere p (InParen q ∷ k)) st e)
   settled IsIf q p w k t st e = ap (λ z. step ed z t) (some_same (Want (InIf p ∷ InParen q ∷ k)) st e)
@@ -298,7 +298,7 @@ module _ (ed : Edition) where
     begins (Truth p b) x = record { head = Word p (truth_word b); tail = _; whole = refl; plain = refl }
     begins (Var p y) x = record { head = Word p y; tail = _; whole = refl; plain = refl }
     begins (Table p v l) x = record { head = Word p (codes "table"); tail = _; whole = refl; plain = refl }
-    begins (Empty p o e c) x = record { head = Word p (codes "empty"); tail = _; whole = refl; plain = refl }
+    begins (Aggregated a p o e c) x = record { head = Word p (aggregate_word a); tail = _; whole = refl; plain = refl }
     begins (Paren p e q) x = record { head = Sign p Opening; tail = _; whole = refl; plain = refl }
     begins (NoFields p q) x = record { head = Sign p Opening; tail = _; whole = refl; plain = refl }
     begins (Bag p e q) x = record { head = Sign p OpeningBag; tail = _; whole = refl; plain = refl }
@@ -340,14 +340,14 @@ module _ (ed : Edition) where
         let u = less d k (Table p 0 some_name) (Table p v l) (omega arith) (omega arith) w in
         word_begins d k p (codes "table") (Word v l) (t ∷ x) (AtTable p k) (Table p v l) refl refl u w
         ∙ next d (AtTable p k) (Have (Table p v l) k) (Word v l) (t ∷ x) refl w
-    reads (Empty p o e c) d k m t x f h b g w =
+    reads (Aggregated a p o e c) d k m t x f h b g w =
         let pe = depth_pos e in
-        let u = less d k (Empty p 0 unit 0) (Empty p o e c) (omega (arith, pe)) (omega arith) w in
-        let v = less d k (Empty p o e 0) (Empty p o e c) (omega arith) (omega arith) w in
-        word_begins d k p (codes "empty") (Sign o Opening) (tokens e (Sign c Closing ∷ t ∷ x)) (AtEmpty p k) (Empty p o e c) refl refl u w
-        ∙ next d (AtEmpty p k) (Want (InEmpty p o ∷ k)) (Sign o Opening) (tokens e (Sign c Closing ∷ t ∷ x)) refl (want_less d (InEmpty p o ∷ k) e v)
-        ∙ reads e d (InEmpty p o ∷ k) 1 (Sign c Closing) (t ∷ x) f (omega arith) (omega arith) refl v
-        ∙ next d (Have e (InEmpty p o ∷ k)) (Have (Empty p o e c) k) (Sign c Closing) (t ∷ x) refl w
+        let u = less d k (Aggregated a p 0 unit 0) (Aggregated a p o e c) (omega (arith, pe)) (omega arith) w in
+        let v = less d k (Aggregated a p o e 0) (Aggregated a p o e c) (omega arith) (omega arith) w in
+        word_begins d k p (aggregate_word a) (Sign o Opening) (tokens e (Sign c Closing ∷ t ∷ x)) (AtAggregate a p k) (Aggregated a p o e c) (ap (λ c. begin_word c k p (aggregate_word a)) f.0) refl u w
+        ∙ next d (AtAggregate a p k) (Want (InAggregate a p o ∷ k)) (Sign o Opening) (tokens e (Sign c Closing ∷ t ∷ x)) refl (want_less d (InAggregate a p o ∷ k) e v)
+        ∙ reads e d (InAggregate a p o ∷ k) 1 (Sign c Closing) (t ∷ x) f.1 (omega arith) (omega arith) refl v
+        ∙ next d (Have e (InAggregate a p o ∷ k)) (Have (Aggregated a p o e c) k) (Sign c Closing) (t ∷ x) refl w
     reads (Paren p e q) d k m t x f h b g w =
         let v = less d k (Paren p e 0) (Paren p e q) (omega arith) (omega arith) w in
         next d (Want k) (Want (InParen p ∷ k)) (Sign p Opening) (tokens e (Sign q Closing ∷ t ∷ x)) refl (want_less d (InParen p ∷ k) e v)

@@ -1,8 +1,8 @@
 -- A part that is no deeper makes a whole that is no deeper.
 use Rattle.std.proofs.Common.{◌≡◌, ℕ, ◌≤◌, max, true, List, [], ◌∷◌, arith}
 use Rattle.std.proofs.lemmas.Bool.Decides.{nat_tests}
-use Rattle.nq_model.specs.QueryGrammar.{TypeSyntax, TBase, TBag, TParen, TNoFields, TRec, TFun, TypeFields, TOne, TMore, Syntax, Const, Truth, Var, Table, Empty, Paren, NoFields, Rec, Bag, Nil, For, Where, If, Fun, Let, Prefix, Infix, Apply, Field, Fields, One, More, type_depth, type_fields_depth, depth, fields_depth, deepest, fields_deepest, Within}
-use Rattle.nq_parser.specs.Machine.{FieldHead, AtFirst, AtNext, TypeHead, TAtFirst, TAtNext, put_field, put_type, Frame, InParen, InBag, InEmpty, InSource, InBody, InTest, InGuarded, InIf, InThen, InElse, InFunBody, InValue, InLetBody, InPrefix, InRight, InArg, InField, TypeFrame, TInBag, TInParen, TInRight, TInField, Around, InNil, InFun, State, unit, int_type, finish, close, finish_type, close_type, fill_around, close_around, close_want, close_type_want, least, fits}
+use Rattle.nq_model.specs.QueryGrammar.{TypeSyntax, TBase, TBag, TParen, TNoFields, TRec, TFun, TypeFields, TOne, TMore, Syntax, Const, Truth, Var, Table, Aggregated, Paren, NoFields, Rec, Bag, Nil, For, Where, If, Fun, Let, Prefix, Infix, Apply, Field, Fields, One, More, type_depth, type_fields_depth, depth, fields_depth, deepest, fields_deepest, Within}
+use Rattle.nq_parser.specs.Machine.{FieldHead, AtFirst, AtNext, TypeHead, TAtFirst, TAtNext, put_field, put_type, Frame, InParen, InBag, InAggregate, InSource, InBody, InTest, InGuarded, InIf, InThen, InElse, InFunBody, InValue, InLetBody, InPrefix, InRight, InArg, InField, TypeFrame, TInBag, TInParen, TInRight, TInField, Around, InNil, InFun, State, unit, int_type, finish, close, finish_type, close_type, fill_around, close_around, close_want, close_type_want, least, fits}
 
 pub record NoDeeper (s s' : Syntax) : Type 0 where
   pub tall : depth s ≤ depth s'
@@ -21,7 +21,7 @@ type_mono (TAtNext fs q) v l c t t' h = omega arith
 pub finish_mono : (f : Frame) (s s' : Syntax) → NoDeeper s s' → NoDeeper (finish f s) (finish f s')
 finish_mono (InParen p) s s' h = record { tall = omega (arith, h.tall); typed = h.typed }
 finish_mono (InBag p) s s' h = record { tall = omega (arith, h.tall); typed = h.typed }
-finish_mono (InEmpty p o) s s' h = record { tall = omega (arith, h.tall); typed = h.typed }
+finish_mono (InAggregate a p o) s s' h = record { tall = omega (arith, h.tall); typed = h.typed }
 finish_mono (InSource p o v y a) s s' h = record { tall = omega (arith, h.tall); typed = omega (arith, h.typed) }
 finish_mono (InBody p o v y a m c) s s' h = record { tall = omega (arith, h.tall); typed = omega (arith, h.typed) }
 finish_mono (InTest p o) s s' h = record { tall = omega (arith, h.tall); typed = omega (arith, h.typed) }
@@ -46,7 +46,7 @@ depth_pos (Const p c) = omega arith
 depth_pos (Truth p b) = omega arith
 depth_pos (Var p y) = omega arith
 depth_pos (Table p v l) = omega arith
-depth_pos (Empty p o e c) = omega arith
+depth_pos (Aggregated a p o e c) = omega arith
 depth_pos (Paren p e q) = omega arith
 depth_pos (NoFields p q) = omega arith
 depth_pos (Rec fs q) = omega arith

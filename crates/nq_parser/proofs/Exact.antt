@@ -1,12 +1,13 @@
 -- The machine of the query grammar keeps the laws, so its answers are exact.
-use Rattle.std.proofs.Common.{Bool, true, false, cond, ◌≡◌, ℕ, ◌+◌, List, [], ◌∷◌, ◌++◌, refl, sym, ◌∙◌, ap, subst, arith, append-nil, append_assoc, Option, Some, None, inl, inr}
+use Rattle.std.proofs.Common.{Bool, true, false, cond, ◌≡◌, ℕ, ◌+◌, List, [], ◌∷◌, ◌++◌, refl, sym, ◌∙◌, ap, subst, arith, append-nil, Option, Some, None, inl, inr}
 use Rattle.std.specs.Prelude.{⊤}
 use Rattle.nq_model.specs.OpenLists.{Fault, Deep, IsFaultAt}
 use Rattle.nq_model.specs.Machines.{Outcome, Reached, Faulty}
 use Rattle.nq_model.proofs.OpenLists as generic
 use Rattle.nq_model.proofs.OpenLists.{Laws}
 use Rattle.nq_model.specs.QueryTokens.{Token, End}
-use Rattle.nq_model.specs.QueryGrammar.{Edition, Kind, IsIf, IsTruth, IsBase, IsName, kind, TypeSyntax, TBase, TFun, Syntax, Var, Truth, depth, deepest, IsProgram, Within, IsSpelled}
+use Rattle.nq_model.specs.QueryGrammar.{Edition, Kind, IsIf, IsTruth, IsBase, IsName, kind, TypeSyntax, TBase, TFun, Syntax, Var, Truth, depth, deepest, IsBody, Within}
+use Rattle.nq_model.proofs.QueryHeaders.{IsSpelledBody}
 use Rattle.nq_parser.specs.Machine.{Frame, InParen, InIf, TypeFrame, TInParen, TInRight, Around, InNil, InFun, State, Want, AtWord, AtTypeWord, HaveType, Have, Ready, start_state, joined, ends, shift, after, after_around, after_type, no_label, no_type_label, start, step, least, fits, turn, run}
 use Rattle.nq_parser.proofs.Depths.{fits_true, fits_within}
 use Rattle.nq_parser.proofs.Complete.{reads, next}
@@ -15,7 +16,7 @@ use Rattle.nq_parser.proofs.Filled.{filled, least_fits, left, end_place}
 
 module _ (ed : Edition) where
   -- What is spelled is read.
-  pub accepts : (d : ℕ) (ts : List Token) (s : Syntax) (p : IsProgram ed ts s) → Within d s → run ed d ts start_state ≡ Reached (Ready s p.1)
+  pub accepts : (d : ℕ) (ts : List Token) (s : Syntax) (p : IsBody ed ts s) → Within d s → run ed d ts start_state ≡ Reached (Ready s p.1)
   accepts d ts s p w =
       ap (λ z. run ed d z start_state) p.2
       ∙ reads ed s d [] 0 (End p.1) [] p.0 (omega arith) (omega arith) refl w
@@ -25,7 +26,7 @@ module _ (ed : Edition) where
   reached_same a b e = cc
 
   -- It is spelled by one tree.
-  pub one_tree : (ts : List Token) (s s' : Syntax) → IsProgram ed ts s → IsProgram ed ts s' → s ≡ s'
+  pub one_tree : (ts : List Token) (s s' : Syntax) → IsBody ed ts s → IsBody ed ts s' → s ≡ s'
   one_tree ts s s' p p' =
       let d = depth s + deepest s + (depth s' + deepest s') in
       let a = accepts d ts s p (omega arith, omega arith) in
@@ -36,7 +37,7 @@ module _ (ed : Edition) where
   at_next None st Q e h = absurd (cc)
   at_next (Some st') st Q e h = let e' : st' ≡ st = cc in subst Q e' h
 
-  pub laws : Laws Token State (IsSpelled ed) (step ed) fits start_state read (IsGood ed)
+  pub laws : Laws Token State (IsSpelledBody ed) (step ed) fits start_state read (IsGood ed)
   laws = record {
     begins = tt;
     nothing = λ x. refl;
@@ -48,16 +49,16 @@ module _ (ed : Edition) where
 
   -- The machine's fault is the fault that the definitions give.
   pub fault_exact : (d : ℕ) (ts : List Token) (t : Token) (f : Fault) → run ed d ts start_state ≡ Faulty t f
-      → (us : List Token) × (rest : List Token) × (ts ≡ us ++ t ∷ rest) × IsFaultAt Token (IsSpelled ed) d us t f
-  fault_exact = generic.fault_exact Token State (IsSpelled ed) (step ed) fits start_state read (IsGood ed) laws
+      → (us : List Token) × (rest : List Token) × (ts ≡ us ++ t ∷ rest) × IsFaultAt Token (IsSpelledBody ed) d us t f
+  fault_exact = generic.fault_exact Token State (IsSpelledBody ed) (step ed) fits start_state read (IsGood ed) laws
 
   -- What the machine reads to the end is spelled.
-  pub ready_exact : (d : ℕ) (ts : List Token) (s : Syntax) (q : ℕ) → run ed d ts start_state ≡ Reached (Ready s q) → IsProgram ed ts s × Within d s
+  pub ready_exact : (d : ℕ) (ts : List Token) (s : Syntax) (q : ℕ) → run ed d ts start_state ≡ Reached (Ready s q) → IsBody ed ts s × Within d s
   ready_exact d ts s q e =
-      let r = generic.reached Token State (IsSpelled ed) (step ed) fits start_state read (IsGood ed) laws ts d start_state (Ready s q) e tt in
-      let p : IsProgram ed ts s = (r.good, q, sym (append-nil ts) ∙ sym (r.same [])) in (
+      let r = generic.reached Token State (IsSpelledBody ed) (step ed) fits start_state read (IsGood ed) laws ts d start_state (Ready s q) e tt in
+      let p : IsBody ed ts s = (r.good, q, sym (append-nil ts) ∙ sym (r.same [])) in (
         p,
-        elim (generic.keeps Token State (IsSpelled ed) (step ed) fits start_state read (IsGood ed) laws ts d start_state (Ready s q) e) [
+        elim (generic.keeps Token State (IsSpelledBody ed) (step ed) fits start_state read (IsGood ed) laws ts d start_state (Ready s q) e) [
           | inl n ↦ absurd (let h : run ed d [] start_state ≡ Reached (Ready s q) = subst (λ z. run ed d z start_state ≡ Reached (Ready s q)) n e in let x = reached_same _ _ h in cc)
           | inr f ↦ fits_within d (Ready s q) f
         ],
@@ -135,10 +136,10 @@ module _ (ed : Edition) where
       go None e rec = absurd (cc)
       go (Some st') e rec = there (fits d st') st' e (rec st')
 
-  -- A token list that ends with the end of the text is spelled, or has a fault; never both.
+  -- A token list that ends with the end of the text is spelled, or has a fault.
   pub data Answer (d : ℕ) (ts : List Token) : Type 0 where
-    Derived : (s : Syntax) → IsProgram ed ts s → Within d s → Answer d ts
-    Has : (us : List Token) (t : Token) (rest : List Token) (f : Fault) → ts ≡ us ++ t ∷ rest → IsFaultAt Token (IsSpelled ed) d us t f → Answer d ts
+    Derived : (s : Syntax) → IsBody ed ts s → Within d s → Answer d ts
+    Has : (us : List Token) (t : Token) (rest : List Token) (f : Fault) → ts ≡ us ++ t ∷ rest → IsFaultAt Token (IsSpelledBody ed) d us t f → Answer d ts
 
   pub answer : (d : ℕ) (us : List Token) (q : ℕ) → Answer d (us ++ End q ∷ [])
   answer d us q = go (run ed d (us ++ End q ∷ []) start_state) refl
@@ -149,6 +150,3 @@ module _ (ed : Edition) where
           let y = ready_exact d (us ++ End q ∷ []) x.0 x.1 (subst (λ z. run ed d (us ++ End q ∷ []) start_state ≡ Reached z) x.2 e) in
           Derived x.0 y.0 y.1
       go (Faulty t f) e = let x = fault_exact d (us ++ End q ∷ []) t f e in Has x.0 t x.1 f x.2 x.3
-
-  pub never_both : (d : ℕ) (us : List Token) (t : Token) (rest : List Token) (f : Fault) → IsSpelled ed d (us ++ t ∷ rest) → IsFaultAt Token (IsSpelled ed) d us t f → ⊥
-  never_both d us t rest f s h = h.1 (rest, subst (λ z. IsSpelled ed d z) (sym (append_assoc us (t ∷ []) rest)) s)

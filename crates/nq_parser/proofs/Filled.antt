@@ -1,15 +1,15 @@
 -- The least completion is a program, and begins with what was read.
 use Rattle.std.proofs.Common.{◌≡◌, ℕ, true, List, [], ◌∷◌, refl, ◌∙◌, ap, codes}
 use Rattle.nq_model.specs.QueryTokens.{Opening, Closing, ClosingBag, Colon, Semicolon, Assign, From, Arrow, Token, Word, Sign, End}
-use Rattle.nq_model.specs.QueryGrammar.{Edition, TypeSyntax, TNoFields, TRec, TOne, TMore, Syntax, Table, Empty, NoFields, Rec, Nil, For, Where, Fun, Let, Field, One, More, type_tokens, tokens, TypeFits, Fits, FieldsFit}
-use Rattle.nq_parser.specs.Machine.{Frame, InParen, InBag, InEmpty, InSource, InBody, InTest, InGuarded, InIf, InThen, InElse, InFunBody, InValue, InLetBody, InPrefix, InRight, InArg, InField, TypeFrame, TInBag, TInParen, TInRight, TInField, Around, InNil, InFun, State, Want, AtWord, AtTable, AtEmpty, AtFor, AtForOpen, AtForName, AtWhere, AtFun, AtFunOpen, AtFunName, AtFunClose, AtLet, AtLetName, AtComma, AtLabel, AtDot, WantType, AtTypeWord, AtTypeComma, AtTypeLabel, HaveType, Have, Ready, asks_of, asks, unit, int_type, some_name, finish, close, finish_type, close_type, fill_around, close_around, close_want, close_type_want, least}
+use Rattle.nq_model.specs.QueryGrammar.{Edition, IsAggregate, kind, aggregate_word, TypeSyntax, TNoFields, TRec, TOne, TMore, Syntax, Table, Aggregated, NoFields, Rec, Nil, For, Where, Fun, Let, Field, One, More, type_tokens, tokens, TypeFits, Fits, FieldsFit}
+use Rattle.nq_parser.specs.Machine.{Frame, InParen, InBag, InAggregate, InSource, InBody, InTest, InGuarded, InIf, InThen, InElse, InFunBody, InValue, InLetBody, InPrefix, InRight, InArg, InField, TypeFrame, TInBag, TInParen, TInRight, TInField, Around, InNil, InFun, State, Want, AtWord, AtTable, AtAggregate, AtFor, AtForOpen, AtForName, AtWhere, AtFun, AtFunOpen, AtFunName, AtFunClose, AtLet, AtLetName, AtComma, AtLabel, AtDot, WantType, AtTypeWord, AtTypeComma, AtTypeLabel, HaveType, Have, Ready, asks_of, asks, unit, int_type, some_name, finish, close, finish_type, close_type, fill_around, close_around, close_want, close_type_want, least}
 use Rattle.nq_parser.proofs.Sound.{pre, shown, type_pre, types_shown, around_pre, shown_type, read, FrameFits, StackFits, TypeFrameFits, TypesFit, AroundFits, IsGood, put_field_tokens, put_type_tokens, put_field_fits, put_type_fits, asks_small, type_raise, name_is}
 
 -- what an unfinished form still asks for, and then x
 abbrev pub post : Frame → List Token → List Token
 post (InParen p) x = Sign 0 Closing ∷ x
 post (InBag p) x = Sign 0 ClosingBag ∷ x
-post (InEmpty p o) x = Sign 0 Closing ∷ x
+post (InAggregate a p o) x = Sign 0 Closing ∷ x
 post (InSource p o v y a) x = Sign 0 Closing ∷ tokens unit x
 post (InBody p o v y a m c) x = x
 post (InTest p o) x = Sign 0 Closing ∷ tokens unit x
@@ -46,7 +46,7 @@ around_post (InFun p o v y c) x = Sign 0 Closing ∷ Sign 0 Arrow ∷ tokens uni
 pub finished : (f : Frame) (s : Syntax) (x : List Token) → tokens (finish f s) x ≡ pre f (tokens s (post f x))
 finished (InParen p) s x = refl
 finished (InBag p) s x = refl
-finished (InEmpty p o) s x = refl
+finished (InAggregate a p o) s x = refl
 finished (InSource p o v y a) s x = refl
 finished (InBody p o v y a m c) s x = refl
 finished (InTest p o) s x = refl
@@ -107,7 +107,7 @@ abbrev pub left : State → List Token
 left (Want k) = want_left k
 left (AtWord p v w k) = Sign 0 Assign ∷ tokens unit (Sign 0 Closing ∷ last k)
 left (AtTable p k) = Word 0 some_name ∷ last k
-left (AtEmpty p k) = Sign 0 Opening ∷ tokens unit (Sign 0 Closing ∷ last k)
+left (AtAggregate a p k) = Sign 0 Opening ∷ tokens unit (Sign 0 Closing ∷ last k)
 left (AtFor p k) = Sign 0 Opening ∷ Word 0 some_name ∷ Sign 0 From ∷ tokens unit (Sign 0 Closing ∷ tokens unit (last k))
 left (AtForOpen p o k) = Word 0 some_name ∷ Sign 0 From ∷ tokens unit (Sign 0 Closing ∷ tokens unit (last k))
 left (AtForName p o v y k) = Sign 0 From ∷ tokens unit (Sign 0 Closing ∷ tokens unit (last k))
@@ -148,7 +148,7 @@ pub filled : (st : State) → tokens (least st) (End (end_place st) ∷ []) ≡ 
 filled (Want k) = want_filled k
 filled (AtWord p v w k) = closed k (Rec (One p v w 0 unit) 0) (End 0 ∷ [])
 filled (AtTable p k) = closed k (Table p 0 some_name) (End 0 ∷ [])
-filled (AtEmpty p k) = closed k (Empty p 0 unit 0) (End 0 ∷ [])
+filled (AtAggregate a p k) = closed k (Aggregated a p 0 unit 0) (End 0 ∷ [])
 filled (AtFor p k) = closed k (For p 0 0 some_name 0 unit 0 unit) (End 0 ∷ [])
 filled (AtForOpen p o k) = closed k (For p o 0 some_name 0 unit 0 unit) (End 0 ∷ [])
 filled (AtForName p o v y k) = closed k (For p o v y 0 unit 0 unit) (End 0 ∷ [])
@@ -180,7 +180,7 @@ module _ (ed : Edition) where
   pub finished_fits : (f : Frame) (k : List Frame) (s : Syntax) → FrameFits ed f k → Fits ed (asks_of f) s → Fits ed (asks k) (finish f s)
   finished_fits (InParen p) k s h g = g
   finished_fits (InBag p) k s h g = g
-  finished_fits (InEmpty p o) k s h g = g
+  finished_fits (InAggregate a p o) k s h g = (h, g)
   finished_fits (InSource p o v y a) k s h g = (h.0, h.1, g, tt)
   finished_fits (InBody p o v y a m c) k s h g = (h.0, h.1, h.2, g)
   finished_fits (InTest p o) k s h g = (h, g, tt)
@@ -243,10 +243,10 @@ module _ (ed : Edition) where
     where
       tab : (k : List Frame) → Fits ed (asks k) (Table p 0 some_name)
       tab k = tt
-  least_fits (AtEmpty p k) g = closed_fits k (Empty p 0 unit 0) g (emp k)
+  least_fits (AtAggregate a p k) g = closed_fits k (Aggregated a p 0 unit 0) g.1 (asked k g.0)
     where
-      emp : (k : List Frame) → Fits ed (asks k) (Empty p 0 unit 0)
-      emp k = tt
+      asked : (k : List Frame) → kind ed (aggregate_word a) ≡ IsAggregate a → Fits ed (asks k) (Aggregated a p 0 unit 0)
+      asked k e = (e, tt)
   least_fits (AtFor p k) g = closed_fits k (For p 0 0 some_name 0 unit 0 unit) g.1 (g.0, name_is ed, tt, tt)
   least_fits (AtForOpen p o k) g = closed_fits k (For p o 0 some_name 0 unit 0 unit) g.1 (g.0, name_is ed, tt, tt)
   least_fits (AtForName p o v y k) g = closed_fits k (For p o v y 0 unit 0 unit) g.2 (g.0, g.1, tt, tt)

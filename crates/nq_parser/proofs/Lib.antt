@@ -7,6 +7,8 @@ pub mod Utf8
 pub mod Lexed
 pub mod SoundTokens
 pub mod ProperTerms
+pub mod Editions
+pub mod Programs
 pub mod Verdicts
 pub mod Needs
 pub mod Joining

@@ -1,7 +1,7 @@
 -- The depth of the least program, by what the unfinished forms need and what was begun inside them.
 use Rattle.std.proofs.Common.{◌≡◌, ℕ, suc, ◌+◌, ◌≤◌, max, leb, ◌&&◌, List, [], ◌∷◌, length, refl, sym, ◌∙◌, ap, arith}
-use Rattle.nq_model.specs.QueryGrammar.{Syntax, TypeSyntax, TNoFields, TRec, TOne, TMore, NoFields, Rec, Nil, Table, Empty, For, Where, Fun, Let, Field, One, More, type_depth, type_fields_depth, depth, fields_depth, deepest, fields_deepest}
-use Rattle.nq_parser.specs.Machine.{FieldHead, AtFirst, AtNext, TypeHead, TAtFirst, TAtNext, put_field, put_type, Frame, InParen, InBag, InEmpty, InSource, InBody, InTest, InGuarded, InIf, InThen, InElse, InFunBody, InValue, InLetBody, InPrefix, InRight, InArg, InField, TypeFrame, TInBag, TInParen, TInRight, TInField, Around, InNil, InFun, State, Want, AtWord, AtTable, AtEmpty, AtFor, AtForOpen, AtForName, AtWhere, AtFun, AtFunOpen, AtFunName, AtFunClose, AtLet, AtLetName, AtComma, AtLabel, AtDot, WantType, AtTypeWord, AtTypeComma, AtTypeLabel, HaveType, Have, Ready, unit, int_type, some_name, finish, close, finish_type, close_type, fill_around, close_around, close_want, close_type_want, least, fits}
+use Rattle.nq_model.specs.QueryGrammar.{Syntax, TypeSyntax, TNoFields, TRec, TOne, TMore, NoFields, Rec, Nil, Table, Aggregated, For, Where, Fun, Let, Field, One, More, type_depth, type_fields_depth, depth, fields_depth, deepest, fields_deepest}
+use Rattle.nq_parser.specs.Machine.{FieldHead, AtFirst, AtNext, TypeHead, TAtFirst, TAtNext, put_field, put_type, Frame, InParen, InBag, InAggregate, InSource, InBody, InTest, InGuarded, InIf, InThen, InElse, InFunBody, InValue, InLetBody, InPrefix, InRight, InArg, InField, TypeFrame, TInBag, TInParen, TInRight, TInField, Around, InNil, InFun, State, Want, AtWord, AtTable, AtAggregate, AtFor, AtForOpen, AtForName, AtWhere, AtFun, AtFunOpen, AtFunName, AtFunClose, AtLet, AtLetName, AtComma, AtLabel, AtDot, WantType, AtTypeWord, AtTypeComma, AtTypeLabel, HaveType, Have, Ready, unit, int_type, some_name, finish, close, finish_type, close_type, fill_around, close_around, close_want, close_type_want, least, fits}
 use Rattle.nq_parser.specs.Forms.{head_held, held, head_types, held_types, needs, needs_types, type_head_held, type_held}
 use Rattle.nq_parser.specs.Needs.{open_forms, want_depth, want_types, want_type_depth, around_depth, hole, hole_types, over_types}
 use Rattle.nq_parser.proofs.Depths.{depth_pos, fields_pos, type_fields_pos}
@@ -17,7 +17,7 @@ put_types (AtNext fs c) v l a e = refl
 finished : (f : Frame) (s : Syntax) → depth (finish f s) ≡ suc (max (held f) (depth s))
 finished (InParen p) s = omega arith
 finished (InBag p) s = omega arith
-finished (InEmpty p o) s = omega arith
+finished (InAggregate a p o) s = omega arith
 finished (InSource p o v y a) s = let h = depth_pos s in omega (arith, h)
 finished (InBody p o v y a m c) s = refl
 finished (InTest p o) s = let h = depth_pos s in omega (arith, h)
@@ -36,7 +36,7 @@ finished (InField h v l a) s = ap suc (put_depth h v l a s)
 finished_types : (f : Frame) (s : Syntax) → deepest (finish f s) ≡ max (held_types f) (deepest s)
 finished_types (InParen p) s = omega arith
 finished_types (InBag p) s = omega arith
-finished_types (InEmpty p o) s = omega arith
+finished_types (InAggregate a p o) s = omega arith
 finished_types (InSource p o v y a) s = omega arith
 finished_types (InBody p o v y a m c) s = refl
 finished_types (InTest p o) s = omega arith
@@ -138,7 +138,7 @@ pub least_depth : (st : State) → depth (least st) ≡ max (needs (open_forms s
 least_depth (Want k) = want_over k
 least_depth (AtWord p v w k) = deep k (Rec (One p v w 0 unit) 0) 2 refl
 least_depth (AtTable p k) = deep k (Table p 0 some_name) 1 refl
-least_depth (AtEmpty p k) = deep k (Empty p 0 unit 0) 2 refl
+least_depth (AtAggregate a p k) = deep k (Aggregated a p 0 unit 0) 2 refl
 least_depth (AtFor p k) = deep k (For p 0 0 some_name 0 unit 0 unit) 2 refl
 least_depth (AtForOpen p o k) = deep k (For p o 0 some_name 0 unit 0 unit) 2 refl
 least_depth (AtForName p o v y k) = deep k (For p o v y 0 unit 0 unit) 2 refl
@@ -167,7 +167,7 @@ pub least_types : (st : State) → deepest (least st) ≡ max (needs_types (open
 least_types (Want k) = want_over_types k
 least_types (AtWord p v w k) = typed k (Rec (One p v w 0 unit) 0) 0 refl
 least_types (AtTable p k) = typed k (Table p 0 some_name) 0 refl
-least_types (AtEmpty p k) = typed k (Empty p 0 unit 0) 0 refl
+least_types (AtAggregate a p k) = typed k (Aggregated a p 0 unit 0) 0 refl
 least_types (AtFor p k) = typed k (For p 0 0 some_name 0 unit 0 unit) 0 refl
 least_types (AtForOpen p o k) = typed k (For p o 0 some_name 0 unit 0 unit) 0 refl
 least_types (AtForName p o v y k) = typed k (For p o v y 0 unit 0 unit) 0 refl

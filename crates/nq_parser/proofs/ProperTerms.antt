@@ -6,9 +6,9 @@ use Rattle.std.specs.List.{AllByRecursion as Each}
 use Rattle.std.specs.Ordering.{is_gt}
 use Rattle.nq_model.specs.Orders.{label_cmp, by_label, AreDistinct, AreRising}
 use Rattle.nq_model.specs.Proper.{IsQueryWord, labels_of, IsOrdered, AreOrdered, HasWords, HaveWords, IsProperType, field_labels, IsProperTerm, AreProperTerms, IsClosed, IsClosedUnder, AreClosedUnder}
-use Rattle.nq_model.specs.QueryGrammar.{TypeSyntax, TBase, TBag, TParen, TNoFields, TRec, TFun, TypeFields, TOne, TMore, Syntax, Const, Truth, Var, Table, Empty, Paren, NoFields, Rec, Bag, Nil, For, Where, If, Fun, Let, Prefix, Infix, Apply, Field, Fields, One, More, type_tokens, type_fields_tokens, tokens, fields_tokens, prefix_token}
+use Rattle.nq_model.specs.QueryGrammar.{Edition, First, Second, Header, header_tokens, TypeSyntax, TBase, TBag, TParen, TNoFields, TRec, TFun, TypeFields, TOne, TMore, Syntax, Const, Truth, Var, Table, Aggregated, Paren, NoFields, Rec, Bag, Nil, For, Where, If, Fun, Let, Prefix, Infix, Apply, Field, Fields, One, More, type_tokens, type_fields_tokens, tokens, fields_tokens, prefix_token}
 use Rattle.nq_model.specs.QueryScope.{Name, among, number_of, type_of, typed_fields, constant_node, operator_node, term_of, fields_of, if_unbound, if_twice, type_labels, labels, type_wrongs, type_fields_wrongs, wrongs, fields_wrongs}
-use Rattle.nq_model.specs.QueryTexts.{Spells}
+use Rattle.nq_model.specs.QueryTexts.{edition_of, Spells}
 use Rattle.nq_model.specs.QueryTokens.{Token, Word, Value, Sign, End, Constant, Number, Literal, Operator, Union, Of, Comma, Colon}
 use Rattle.nq_model.specs.Tables.{base_type}
 use Rattle.nq_model.specs.Terms.{PlacedTerm, PlacedFields, at, bare, bare_node, bare_fields}
@@ -214,7 +214,7 @@ mutual
   behind (Truth p b) x s = s.1
   behind (Var p y) x s = s.1
   behind (Table p v l) x s = s.1.1
-  behind (Empty p o e c) x s = (behind e _ s.1.1).1
+  behind (Aggregated a p o e c) x s = (behind e _ s.1.1).1
   behind (Paren p e q) x s = (behind e _ s.1).1
   behind (NoFields p q) x s = s.1.1
   behind (Rec fs q) x s = (behind_fields fs _ s).1
@@ -240,7 +240,7 @@ mutual
   good (Truth p b) xs x w s = record { proper = tt; closed = tt }
   good (Var p y) xs x w s = record { proper = tt; closed = bound_below y xs (found (among y xs) p w) }
   good (Table p v l) xs x w s = record { proper = s.1.0; closed = tt }
-  good (Empty p o e c) xs x w s = let g = good e xs _ w s.1.1 in record { proper = g.proper; closed = g.closed }
+  good (Aggregated a p o e c) xs x w s = let g = good e xs _ w s.1.1 in record { proper = g.proper; closed = g.closed }
   good (Paren p e q) xs x w s = good e xs _ w s.1
   good (NoFields p q) xs x w s = record { proper = (tt, tt); closed = tt }
   good (Rec fs q) xs x w s =
@@ -303,13 +303,19 @@ mutual
         closed = (g.closed, all.closed);
       })
 
+body_sound : (ed : Edition) (h : Header ed) (x : List Token) → Each IsSoundToken (header_tokens ed h x) → Each IsSoundToken x
+body_sound First h x s = s
+body_sound Second h x s = s.1.1.1
+
 spelled : (d : ℕ) (text : List ℕ) (t : PlacedTerm) (s : Spells d text t) → IsGood 0 t
 spelled d text t s =
     let program = s.derived.program in
+    let body = program.3 in
     let all = text_sound text s.tokens s.cut.1 in
     let P : List Token → Type 0 = λ z. Each IsSoundToken z in
     let Q : PlacedTerm → Type 0 = λ u. IsGood 0 u in
-    subst Q (sym s.same) (good s.syntax_tree [] (End program.1 ∷ []) s.bound (subst P program.2 all))
+    let behind = body_sound (edition_of s.tokens) program.0 program.1 (subst P program.2 all) in
+    subst Q (sym s.same) (good s.syntax_tree [] (End body.1 ∷ []) s.bound (subst P body.2 behind))
 
 pub spelled_proper : (d : ℕ) (text : List ℕ) (t : PlacedTerm) → Spells d text t → IsProperTerm (bare t)
 spelled_proper d text t s = (spelled d text t s).proper

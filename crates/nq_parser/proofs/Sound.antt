@@ -5,11 +5,12 @@ use Rattle.std.proofs.lemmas.Slice.Eq.{bytes_eq-Decides}
 use Rattle.std.specs.Prelude.{⊤}
 use Rattle.nq_model.specs.SchemaTexts.{type_word}
 use Rattle.nq_model.specs.QueryTokens.{Of, Opening, Closing, OpeningBag, ClosingBag, Comma, Colon, Semicolon, Dot, Assign, From, Arrow, Bang, Token, Word, Value, Oper, Sign, End}
-use Rattle.nq_model.specs.QueryGrammar.{Edition, First, Kind, IsFor, IsWhere, IsIf, IsThen, IsElse, IsFun, IsLet, IsTable, IsEmpty, IsTruth, IsBase, IsName, later_kind, truth_word, kind, TypeSyntax, TBase, TBag, TParen, TNoFields, TRec, TFun, Syntax, Const, Truth, Var, Table, Empty, Paren, NoFields, Rec, Bag, Nil, For, Where, If, Fun, Let, Prefix, Infix, Apply, Field, type_tokens, type_fields_tokens, prefix_token, tokens, fields_tokens, level, left_level, TypeFits, TypeFieldsFit, Fits, FieldsFit}
+use Rattle.nq_model.specs.QueryGrammar.{Edition, First, Second, aggregate_word, Kind, IsFor, IsWhere, IsIf, IsThen, IsElse, IsFun, IsLet, IsTable, IsAggregate, IsTruth, IsBase, IsName, later_kind, truth_word, kind, TypeSyntax, TBase, TBag, TParen, TNoFields, TRec, TFun, Syntax, Const, Truth, Var, Table, Aggregated, Paren, NoFields, Rec, Bag, Nil, For, Where, If, Fun, Let, Prefix, Infix, Apply, Field, type_tokens, type_fields_tokens, prefix_token, tokens, fields_tokens, level, left_level, TypeFits, TypeFieldsFit, Fits, FieldsFit}
+use Rattle.nq_model.specs.Terms.{Aggregate, Emptiness, Count, Sum}
 use Rattle.nq_model.specs.declared.term.Unary.TheVariants.{Minus, Not}
 use Rattle.nq_model.specs.declared.term.Binary.TheVariants.{Sub}
 use Rattle.nq_model.specs.declared.table.ColumnType.TheVariants as column
-use Rattle.nq_parser.specs.Machine.{AtFirst, AtNext, TAtFirst, TAtNext, FieldHead, TypeHead, put_field, put_type, Frame, InParen, InBag, InEmpty, InSource, InBody, InTest, InGuarded, InIf, InThen, InElse, InFunBody, InValue, InLetBody, InPrefix, InRight, InArg, InField, TypeFrame, TInBag, TInParen, TInRight, TInField, Around, InNil, InFun, State, Want, AtWord, AtTable, AtEmpty, AtFor, AtForOpen, AtForName, AtWhere, AtFun, AtFunOpen, AtFunName, AtFunClose, AtLet, AtLetName, AtComma, AtLabel, AtDot, WantType, AtTypeWord, AtTypeComma, AtTypeLabel, HaveType, Have, Ready, asks, binds, level_of, ends, joined, then_word, else_word, shift, after, begin_word, start_word, start, no_label, at_word, if_name, after_around, after_type, begin_base, start_base, start_type, no_type_label, at_type_word, step, some_name}
+use Rattle.nq_parser.specs.Machine.{AtFirst, AtNext, TAtFirst, TAtNext, FieldHead, TypeHead, put_field, put_type, Frame, InParen, InBag, InAggregate, InSource, InBody, InTest, InGuarded, InIf, InThen, InElse, InFunBody, InValue, InLetBody, InPrefix, InRight, InArg, InField, TypeFrame, TInBag, TInParen, TInRight, TInField, Around, InNil, InFun, State, Want, AtWord, AtTable, AtAggregate, AtFor, AtForOpen, AtForName, AtWhere, AtFun, AtFunOpen, AtFunName, AtFunClose, AtLet, AtLetName, AtComma, AtLabel, AtDot, WantType, AtTypeWord, AtTypeComma, AtTypeLabel, HaveType, Have, Ready, asks, binds, level_of, ends, joined, then_word, else_word, shift, after, begin_word, start_word, start, no_label, at_word, if_name, after_around, after_type, begin_base, start_base, start_type, no_type_label, at_type_word, step, some_name}
 use Rattle.nq_parser.proofs.Complete.{levels, is_arrow}
 
 -- What was read of an unfinished form, and then x.
@@ -32,7 +33,7 @@ put_type_tokens (TAtNext fs q) v l c t x = refl
 abbrev pub pre : Frame → List Token → List Token
 pre (InParen p) x = Sign p Opening ∷ x
 pre (InBag p) x = Sign p OpeningBag ∷ x
-pre (InEmpty p o) x = Word p (codes "empty") ∷ Sign o Opening ∷ x
+pre (InAggregate a p o) x = Word p (aggregate_word a) ∷ Sign o Opening ∷ x
 pre (InSource p o v y a) x = Word p (codes "for") ∷ Sign o Opening ∷ Word v y ∷ Sign a From ∷ x
 pre (InBody p o v y a m c) x = Word p (codes "for") ∷ Sign o Opening ∷ Word v y ∷ Sign a From ∷ tokens m (Sign c Closing ∷ x)
 pre (InTest p o) x = Word p (codes "where") ∷ Sign o Opening ∷ x
@@ -74,7 +75,7 @@ abbrev pub read : State → List Token → List Token
 read (Want k) x = shown k x
 read (AtWord p v w k) x = shown k (Sign p Opening ∷ Word v w ∷ x)
 read (AtTable p k) x = shown k (Word p (codes "table") ∷ x)
-read (AtEmpty p k) x = shown k (Word p (codes "empty") ∷ x)
+read (AtAggregate a p k) x = shown k (Word p (aggregate_word a) ∷ x)
 read (AtFor p k) x = shown k (Word p (codes "for") ∷ x)
 read (AtForOpen p o k) x = shown k (Word p (codes "for") ∷ Sign o Opening ∷ x)
 read (AtForName p o v y k) x = shown k (Word p (codes "for") ∷ Sign o Opening ∷ Word v y ∷ x)
@@ -108,7 +109,7 @@ TypeHeadFits (TAtNext fs q) = TypeFieldsFit fs
 abbrev pub FrameFits : Edition → Frame → List Frame → Type 0
 FrameFits ed (InParen p) k = ⊤
 FrameFits ed (InBag p) k = ⊤
-FrameFits ed (InEmpty p o) k = ⊤
+FrameFits ed (InAggregate a p o) k = kind ed (aggregate_word a) ≡ IsAggregate a
 FrameFits ed (InSource p o v y a) k = (asks k ≤ 1) × (kind ed y ≡ IsName)
 FrameFits ed (InBody p o v y a m c) k = (asks k ≤ 1) × (kind ed y ≡ IsName) × Fits ed 1 m
 FrameFits ed (InTest p o) k = asks k ≤ 1
@@ -147,7 +148,7 @@ abbrev pub IsGood : Edition → State → Type 0
 IsGood ed (Want k) = StackFits ed k
 IsGood ed (AtWord p v w k) = StackFits ed k
 IsGood ed (AtTable p k) = StackFits ed k
-IsGood ed (AtEmpty p k) = StackFits ed k
+IsGood ed (AtAggregate a p k) = (kind ed (aggregate_word a) ≡ IsAggregate a) × StackFits ed k
 IsGood ed (AtFor p k) = (asks k ≤ 1) × StackFits ed k
 IsGood ed (AtForOpen p o k) = (asks k ≤ 1) × StackFits ed k
 IsGood ed (AtForName p o v y k) = (asks k ≤ 1) × (kind ed y ≡ IsName) × StackFits ed k
@@ -184,13 +185,10 @@ Spelled IsElse w = w ≡ codes "else"
 Spelled IsFun w = w ≡ codes "fun"
 Spelled IsLet w = w ≡ codes "let"
 Spelled IsTable w = w ≡ codes "table"
-Spelled IsEmpty w = w ≡ codes "empty"
+Spelled (IsAggregate a) w = w ≡ aggregate_word a
 Spelled (IsTruth b) w = w ≡ truth_word b
 Spelled (IsBase b) w = w ≡ type_word b
 Spelled IsName w = ⊤
-
-later_spelled : (ed : Edition) (w : List ℕ) → Spelled (later_kind ed w) w
-later_spelled First w = tt
 
 pick : (w v : List ℕ) (c c' : Kind) → (w ≡ v → Spelled c w) → Spelled c' w → Spelled (cond (bytes_eq w v) c c') w
 pick w v c c' h g = go (bytes_eq w v) (λ e. h ((bytes_eq-Decides w v).0 e))
@@ -199,6 +197,10 @@ pick w v c c' h g = go (bytes_eq w v) (λ e. h ((bytes_eq-Decides w v).0 e))
     go true h = h refl
     go false h = g
 
+later_spelled : (ed : Edition) (w : List ℕ) → Spelled (later_kind ed w) w
+later_spelled First w = tt
+later_spelled Second w = pick w (codes "count") (IsAggregate Count) _ (λ e. e) (pick w (codes "sum") (IsAggregate Sum) IsName (λ e. e) tt)
+
 pub kind_spelled : (ed : Edition) (w : List ℕ) → Spelled (kind ed w) w
 kind_spelled ed w =
     let b0 = pick w (codes "text") (IsBase column.Text) _ (λ e. e) (later_spelled ed w) in
@@ -206,7 +208,7 @@ kind_spelled ed w =
     let b2 = pick w (codes "int") (IsBase column.Int) _ (λ e. e) b1 in
     let b3 = pick w (codes "false") (IsTruth false) _ (λ e. e) b2 in
     let b4 = pick w (codes "true") (IsTruth true) _ (λ e. e) b3 in
-    let b5 = pick w (codes "empty") IsEmpty _ (λ e. e) b4 in
+    let b5 = pick w (codes "empty") (IsAggregate Emptiness) _ (λ e. e) b4 in
     let b6 = pick w (codes "table") IsTable _ (λ e. e) b5 in
     let b7 = pick w (codes "let") IsLet _ (λ e. e) b6 in
     let b8 = pick w (codes "fun") IsFun _ (λ e. e) b7 in
@@ -219,8 +221,13 @@ kind_spelled ed w =
 pub spelled_as : (ed : Edition) (w : List ℕ) (c : Kind) → kind ed w ≡ c → Spelled c w
 spelled_as ed w c e = subst (λ z. Spelled z w) e (kind_spelled ed w)
 
+-- a word that asks something of a bag is its word
+pub asked_as : (ed : Edition) (w : List ℕ) (a : Aggregate) → kind ed w ≡ IsAggregate a → kind ed (aggregate_word a) ≡ IsAggregate a
+asked_as ed w a e = subst (λ z. kind ed z ≡ IsAggregate a) (spelled_as ed w (IsAggregate a) e) e
+
 pub name_is : (ed : Edition) → kind ed some_name ≡ IsName
 name_is First = refl
+name_is Second = refl
 
 pub asks_small : (k : List Frame) → asks k ≤ 9
 asks_small [] = omega arith
@@ -263,7 +270,7 @@ module _ (ed : Edition) where
   raise (Truth p b) n m f h = tt
   raise (Var p y) n m f h = f
   raise (Table p v l) n m f h = tt
-  raise (Empty p o e c) n m f h = f
+  raise (Aggregated a p o e c) n m f h = f
   raise (Paren p e q) n m f h = f
   raise (NoFields p q) n m f h = tt
   raise (Rec fs q) n m f h = f
@@ -305,7 +312,7 @@ module _ (ed : Edition) where
       then_if (leb 9 (level_of s)) (AtDot s p k) _ (λ e. record { good = (raise s (asks k) 9 f (leb-true _ _ e), g); same = λ x. refl })
   shift_goes (InParen p ∷ k) s (Sign q Closing) h f g = record { good = (f, g.1); same = λ x. refl }
   shift_goes (InBag p ∷ k) s (Sign q ClosingBag) h f g = record { good = (f, g.1); same = λ x. refl }
-  shift_goes (InEmpty p o ∷ k) s (Sign c Closing) h f g = record { good = (f, g.1); same = λ x. refl }
+  shift_goes (InAggregate a p o ∷ k) s (Sign c Closing) h f g = record { good = ((g.0, f), g.1); same = λ x. refl }
   shift_goes (InSource p o v y a ∷ k) s (Sign c Closing) h f g = record { good = ((g.0.0, g.0.1, f), g.1); same = λ x. refl }
   shift_goes (InTest p o ∷ k) s (Sign c Closing) h f g = record { good = ((g.0, f), g.1); same = λ x. refl }
   shift_goes (InIf p ∷ k) s (Word q w) h f g = then_goes (kind ed w) p s q w k refl f g.0 g.1
@@ -322,7 +329,7 @@ module _ (ed : Edition) where
   after_goes [] s t f g = shift_goes [] s t (λ h. omega arith) f g
   after_goes (InParen p ∷ k) s t f g = shift_goes (InParen p ∷ k) s t (λ h. omega arith) f g
   after_goes (InBag p ∷ k) s t f g = shift_goes (InBag p ∷ k) s t (λ h. omega arith) f g
-  after_goes (InEmpty p o ∷ k) s t f g = shift_goes (InEmpty p o ∷ k) s t (λ h. omega arith) f g
+  after_goes (InAggregate a p o ∷ k) s t f g = shift_goes (InAggregate a p o ∷ k) s t (λ h. omega arith) f g
   after_goes (InSource p o v y a ∷ k) s t f g = shift_goes (InSource p o v y a ∷ k) s t (λ h. omega arith) f g
   after_goes (InBody p o v y a m c ∷ k) s t f g =
       let all = joined (InBody p o v y a m c) s in
@@ -373,7 +380,7 @@ module _ (ed : Edition) where
       truth : (k : List Frame) (p : ℕ) (b : Bool) → Fits ed (asks k) (Truth p b)
       truth k p b = tt
   word_goes IsTable k p w e g = record { good = g; same = λ x. ap (λ z. shown k (Word p z ∷ x)) (sym (spelled_as ed w IsTable e)) }
-  word_goes IsEmpty k p w e g = record { good = g; same = λ x. ap (λ z. shown k (Word p z ∷ x)) (sym (spelled_as ed w IsEmpty e)) }
+  word_goes (IsAggregate a) k p w e g = record { good = (asked_as ed w a e, g); same = λ x. ap (λ z. shown k (Word p z ∷ x)) (sym (spelled_as ed w (IsAggregate a) e)) }
   word_goes IsFor k p w e g = then_if (leb (asks k) 1) (AtFor p k) _ (λ h. record { good = (leb-true _ _ h, g); same = λ x. ap (λ z. shown k (Word p z ∷ x)) (sym (spelled_as ed w IsFor e)) })
   word_goes IsWhere k p w e g = then_if (leb (asks k) 1) (AtWhere p k) _ (λ h. record { good = (leb-true _ _ h, g); same = λ x. ap (λ z. shown k (Word p z ∷ x)) (sym (spelled_as ed w IsWhere e)) })
   word_goes IsIf k p w e g = then_if (leb (asks k) 1) (Want (InIf p ∷ k)) _ (λ h. record { good = (leb-true _ _ h, g); same = λ x. ap (λ z. shown k (Word p z ∷ x)) (sym (spelled_as ed w IsIf e)) })
@@ -409,7 +416,7 @@ module _ (ed : Edition) where
       moved (after ed (InParen p ∷ k) (Truth v b) t) (λ x. shown k (Sign p Opening ∷ Word v (truth_word b) ∷ t ∷ x)) _ (λ x. ap (λ z. shown k (Sign p Opening ∷ Word v z ∷ t ∷ x)) (sym (spelled_as ed w (IsTruth b) e)))
       (after_goes (InParen p ∷ k) (Truth v b) t tt (tt, g))
   no_label_goes IsTable p v w k (Word q l) e g = record { good = (tt, (tt, g)); same = λ x. ap (λ z. shown k (Sign p Opening ∷ Word v z ∷ Word q l ∷ x)) (sym (spelled_as ed w IsTable e)) }
-  no_label_goes IsEmpty p v w k (Sign o Opening) e g = record { good = (tt, (tt, g)); same = λ x. ap (λ z. shown k (Sign p Opening ∷ Word v z ∷ Sign o Opening ∷ x)) (sym (spelled_as ed w IsEmpty e)) }
+  no_label_goes (IsAggregate a) p v w k (Sign o Opening) e g = record { good = (asked_as ed w a e, (tt, g)); same = λ x. ap (λ z. shown k (Sign p Opening ∷ Word v z ∷ Sign o Opening ∷ x)) (sym (spelled_as ed w (IsAggregate a) e)) }
   no_label_goes IsFor p v w k (Sign o Opening) e g = record { good = (omega arith, (tt, g)); same = λ x. ap (λ z. shown k (Sign p Opening ∷ Word v z ∷ Sign o Opening ∷ x)) (sym (spelled_as ed w IsFor e)) }
   no_label_goes IsWhere p v w k (Sign o Opening) e g = record { good = (omega arith, (tt, g)); same = λ x. ap (λ z. shown k (Sign p Opening ∷ Word v z ∷ Sign o Opening ∷ x)) (sym (spelled_as ed w IsWhere e)) }
   no_label_goes IsIf p v w k t e g =
@@ -483,7 +490,7 @@ module _ (ed : Edition) where
     where
       fits : (k : List Frame) (v : ℕ) (l : List ℕ) → Fits ed (asks k) (Table p v l)
       fits k v l = tt
-  goes (AtEmpty p k) (Sign o Opening) g = record { good = (tt, g); same = λ x. refl }
+  goes (AtAggregate a p k) (Sign o Opening) g = record { good = g; same = λ x. refl }
   goes (AtFor p k) (Sign o Opening) g = record { good = g; same = λ x. refl }
   goes (AtForOpen p o k) (Word v y) g = name_goes (kind ed y) y (AtForName p o v y k) _ refl (λ e. record { good = (g.0, e, g.1); same = λ x. refl })
   goes (AtForName p o v y k) (Sign a From) g = record { good = ((g.0, g.1), g.2); same = λ x. refl }

@@ -2,7 +2,7 @@
 use Rattle.std.proofs.Common.{◌≡◌, ℕ, List, [], ◌∷◌, refl, ◌∙◌, None}
 use Rattle.std.specs.Prelude.{⊤}
 use Rattle.nq_model.specs.QueryTokens.{Token, Sign, Closing, ClosingBag, Comma, Arrow}
-use Rattle.nq_model.specs.QueryGrammar.{First, kind, TypeSyntax, TFun}
+use Rattle.nq_model.specs.QueryGrammar.{Edition, kind, TypeSyntax, TFun}
 use Rattle.nq_parser.specs.Machine.{Frame, TypeFrame, TInParen, TInRight, Around, InNil, InFun, after_type, after_around, start_type, start_base, begin_base}
 use Rattle.query_syntax.specs.Symbols.{symbol_view}
 use Rattle.query_syntax.specs.declared.symbol.Symbol.{Symbol}
@@ -10,15 +10,15 @@ use Rattle.query_syntax.specs.declared.symbol.Symbol.TheVariants as symbols
 use Rattle.nq_parser.specs.TypeSettling.{NoArrow, SameBehind}
 use Rattle.nq_parser.specs.TypeStacks.{NoTypeParen}
 
-pub no_paren_closing : (j : List TypeFrame) (o : Around) (k : List Frame) (q : ℕ) → NoTypeParen j → start_type First j o k (Sign q Closing) ≡ None
-no_paren_closing [] o k q h = refl
-no_paren_closing (TInParen p ∷ j) o k q h = absurd h
-no_paren_closing (f ∷ j) o k q h = refl
+pub no_paren_closing : (ed : Edition) (j : List TypeFrame) (o : Around) (k : List Frame) (q : ℕ) → NoTypeParen j → start_type ed j o k (Sign q Closing) ≡ None
+no_paren_closing ed [] o k q h = refl
+no_paren_closing ed (TInParen p ∷ j) o k q h = absurd h
+no_paren_closing ed (f ∷ j) o k q h = refl
 
-pub no_paren_word : (j : List TypeFrame) (o : Around) (k : List Frame) (p : ℕ) (w : List ℕ) → NoTypeParen j → start_base First j o k p w ≡ begin_base (kind First w) j o k p
-no_paren_word [] o k p w h = refl
-no_paren_word (TInParen q ∷ j) o k p w h = absurd h
-no_paren_word (f ∷ j) o k p w h = refl
+pub no_paren_word : (ed : Edition) (j : List TypeFrame) (o : Around) (k : List Frame) (p : ℕ) (w : List ℕ) → NoTypeParen j → start_base ed j o k p w ≡ begin_base (kind ed w) j o k p
+no_paren_word ed [] o k p w h = refl
+no_paren_word ed (TInParen q ∷ j) o k p w h = absurd h
+no_paren_word ed (f ∷ j) o k p w h = refl
 
 -- a function type ends before every token but `->`
 pub right_ends : (j : List TypeFrame) (a : TypeSyntax) (p : ℕ) (t : TypeSyntax) → SameBehind (TInRight a p ∷ j) t j (TFun a p t)

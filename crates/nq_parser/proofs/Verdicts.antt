@@ -1,15 +1,17 @@
 -- A text spells one term at a depth, or it has one fault.
 use Rattle.std.proofs.Common.{◌≡◌, ℕ, List, [], ◌∷◌, ◌++◌, refl, sym, ◌∙◌, ap, subst, ◌⊎◌, inl, inr, Result, Ok, Err}
 use Rattle.std.specs.Str.{IsUtf8, IsValidUpTo}
+use Rattle.nq_model.specs.OpenLists.{IsFaultAt}
 use Rattle.nq_model.specs.OpenLists as open_lists
 use Rattle.nq_model.proofs.OpenLists as generic
 use Rattle.nq_model.specs.Terms.{PlacedTerm}
 use Rattle.nq_model.specs.QueryTokens.{Token, place_of, Stop, NoToken, TooLarge, tokens_of}
-use Rattle.nq_model.specs.QueryGrammar.{First, Syntax, IsProgram, IsSpelled}
+use Rattle.nq_model.specs.QueryGrammar.{First, Syntax, IsProgram, Within, IsSpelled}
 use Rattle.nq_model.specs.QueryScope.{term_of, Wrong, Unbound, TwiceLabel, wrongs}
-use Rattle.nq_model.specs.QueryTexts.{HasTokens, Derives, Spells, Fault, StopsAt, EndsOpen, HasWrong, HasFault}
+use Rattle.nq_model.specs.QueryTexts.{edition_of, HasTokens, Derives, Spells, Fault, StopsAt, EndsOpen, HasWrong, HasFault}
 use Rattle.nq_parser.specs.Reading.{ClosesAt}
-use Rattle.nq_parser.proofs.Exact.{one_tree, answer, Answer, Derived, Has, never_both}
+use Rattle.nq_parser.proofs.Programs as programs
+use Rattle.nq_parser.proofs.Programs.{answer, Answer, Derived, Closes, never_both, first_kept}
 use Rattle.nq_parser.proofs.Utf8.{valid_not_utf8, one_valid, utf8_or_fault}
 use Rattle.nq_parser.proofs.Lexed.{text_ends}
 
@@ -55,13 +57,13 @@ tokens_or_stop text ts s p h k = let a = h.1 in let b = k.1 in absurd (cc)
 -- they are those of one program
 pub one_program : (text : List ℕ) (d e : ℕ) (ts us : List Token) (s t : Syntax) → HasTokens text ts → HasTokens text us → Derives d ts s → Derives e us t → s ≡ t
 one_program text d e ts us s t h k p q =
-    one_tree First ts s t p.program (subst (λ z. IsProgram First z t) (sym (one_list text ts us h k)) q.program)
+    programs.one_program (edition_of ts) ts s t p.program (subst (λ z. IsProgram (edition_of z) z t) (sym (one_list text ts us h k)) q.program)
 
 -- a program is spelled, so no token of it closes the list
 spelled_open : (text : List ℕ) (d : ℕ) (ts : List Token) (s : Syntax) (g : open_lists.Fault) (p : ℕ) → HasTokens text ts → Derives d ts s → EndsOpen d text g p → ⊥
 spelled_open text d ts s g p h r e =
-    never_both First d e.before e.last e.after g
-    (subst (λ z. IsSpelled First d z) (one_list text ts (e.before ++ e.last ∷ e.after) h e.cut) (s, r.program, r.within)) e.closes
+    never_both (edition_of (e.before ++ e.last ∷ e.after)) d e.before e.last e.after g
+    (subst (λ z. IsSpelled (edition_of z) d z) (one_list text ts (e.before ++ e.last ∷ e.after) h e.cut) (s, r.program, r.within)) e.closes
 
 pub not_both : (d : ℕ) (text : List ℕ) (t : PlacedTerm) (f : Fault) (p : ℕ) → Spells d text t → HasFault d text f p → ⊥
 not_both d text t f p s h = go (found d text f p h)
@@ -103,8 +105,10 @@ one_fault d text f g p q h k = go (found d text f p h) (found d text g q k)
     go (of_close a e x) (of_utf8 i v) = absurd (valid_not_utf8 text q x.cut.0 v)
     go (of_close a e x) (of_stop t i y) = absurd (tokens_or_stop text (x.before ++ x.last ∷ x.after) t q x.cut y)
     go (of_close a e x) (of_close b i y) =
-        let z = generic.one_fault Token (IsSpelled First) d x.before x.last a x.after y.before y.last b y.after
-        (one_list text (x.before ++ x.last ∷ x.after) (y.before ++ y.last ∷ y.after) x.cut y.cut) x.closes y.closes in
+        let same = one_list text (x.before ++ x.last ∷ x.after) (y.before ++ y.last ∷ y.after) x.cut y.cut in
+        let ed = edition_of (x.before ++ x.last ∷ x.after) in
+        let z = generic.one_fault Token (IsSpelled ed) d x.before x.last a x.after y.before y.last b y.after same x.closes
+        (subst (λ z. IsFaultAt Token (IsSpelled (edition_of z)) d y.before y.last b) (sym same) y.closes) in
         (e ∙ ap close_fault z.2 ∙ sym i, sym x.there ∙ ap place_of z.1 ∙ y.there)
     go (of_close a e x) (of_wrong w i r y) = absurd (spelled_open text d y.tokens y.syntax_tree a p y.cut y.derived x)
     go (of_wrong w e r x) (of_utf8 i v) = absurd (valid_not_utf8 text q x.cut.0 v)
@@ -117,7 +121,15 @@ one_fault d text f g p q h k = go (found d text f p h) (found d text g q k)
 
 -- the fault that a list of tokens has
 pub ends_open : (d : ℕ) (text : List ℕ) (ts : List Token) (g : open_lists.Fault) (p : ℕ) → HasTokens text ts → ClosesAt d ts g p → EndsOpen d text g p
-ends_open d text ts g p h c = record { before = c.before; last = c.last; after = c.after; cut = subst (HasTokens text) c.whole h; there = c.there; closes = c.closes }
+ends_open d text ts g p h c =
+    record {
+      before = c.before;
+      last = c.last;
+      after = c.after;
+      cut = subst (HasTokens text) c.whole h;
+      there = c.there;
+      closes = subst (λ z. IsFaultAt Token (IsSpelled (edition_of z)) d c.before c.last g) c.whole c.closes;
+    }
 
 pub close_has : (d : ℕ) (text : List ℕ) (g : open_lists.Fault) (p : ℕ) → EndsOpen d text g p → HasFault d text (close_fault g) p
 close_has d text open_lists.Unexpected p e = e
@@ -138,21 +150,22 @@ named : (d : ℕ) (text : List ℕ) (ts : List Token) (s : Syntax) (ws : List Wr
 named d text ts s [] h r e = inl (term_of s [], record { tokens = ts; cut = h; syntax_tree = s; derived = r; bound = e; same = refl })
 named d text ts s (w ∷ ws) h r e = inr (wrong_fault w, wrong_place w, wrong_has d text w (record { tokens = ts; cut = h; syntax_tree = s; derived = r; later = ws; first = e }))
 
-judged : (d : ℕ) (text : List ℕ) (ts : List Token) → HasTokens text ts → Answer First d ts → Verdict d text
-judged d text ts h (Derived s p w) = named d text ts s (wrongs s []) h (record { program = p; within = w }) refl
-judged d text ts h (Has us t rest g e c) =
-    inr (close_fault g, place_of t, close_has d text g (place_of t) (record { before = us; last = t; after = rest; cut = subst (HasTokens text) e h; there = refl; closes = c }))
+judged : (d : ℕ) (text : List ℕ) (ts : List Token) → HasTokens text ts → Answer d ts → Verdict d text
+judged d text ts h (Derived s r) = named d text ts s (wrongs s []) h r refl
+judged d text ts h (Closes g p c) = inr (close_fault g, p, close_has d text g p (ends_open d text ts g p h c))
 
 -- it does one of both
 pub one_holds : (d : ℕ) (text : List ℕ) → Verdict d text
 one_holds d text = go (utf8_or_fault text)
   where
     cut : (r : Result (List Token) (ℕ × Stop)) → IsUtf8 text → tokens_of text ≡ r → Verdict d text
-    cut (Ok ts) u e =
-        let x = text_ends text ts e in
-        judged d text ts (u, e) (subst (λ z. Answer First d z) (sym x.2) (answer First d x.0 x.1))
+    cut (Ok ts) u e = judged d text ts (u, e) (answer d ts (text_ends text ts e))
     cut (Err e) u i = inr (stop_fault e.1, e.0, stop_has d text e.1 e.0 (u, i))
 
     go : IsUtf8 text ⊎ ((p : ℕ) × IsValidUpTo text p) → Verdict d text
     go (inl u) = cut (tokens_of text) u refl
     go (inr v) = inr (Fault.not_utf8, v.0, v.1)
+
+-- a text that spells a term by the grammar of the first edition spells that term
+pub first_spelled : (d : ℕ) (text : List ℕ) (ts : List Token) (s : Syntax) → HasTokens text ts → IsProgram First ts s → Within d s → wrongs s [] ≡ [] → Spells d text (term_of s [])
+first_spelled d text ts s h p w e = record { tokens = ts; cut = h; syntax_tree = s; derived = first_kept d ts s p w; bound = e; same = refl }

@@ -1,9 +1,9 @@
 -- The unfinished forms of the reader as those of the machine, and how deep they make what they hold.
 use Rattle.std.specs.Prelude.{ℕ, suc, ◌+◌, max, List, [], ◌∷◌, length}
 use Rattle.nq_model.specs.QueryGrammar.{Syntax, Fields, TypeFields, type_depth, type_fields_depth, depth, fields_depth, deepest, fields_deepest}
-use Rattle.nq_parser.specs.Machine.{FieldHead, AtFirst, AtNext, TypeHead, TAtFirst, TAtNext, Frame, InParen, InBag, InEmpty, InSource, InBody, InTest, InGuarded, InIf, InThen, InElse, InFunBody, InValue, InLetBody, InPrefix, InRight, InArg, InField, TypeFrame, TInBag, TInParen, TInRight, TInField, Around, InNil, InFun}
+use Rattle.nq_parser.specs.Machine.{FieldHead, AtFirst, AtNext, TypeHead, TAtFirst, TAtNext, Frame, InParen, InBag, InAggregate, InSource, InBody, InTest, InGuarded, InIf, InThen, InElse, InFunBody, InValue, InLetBody, InPrefix, InRight, InArg, InField, TypeFrame, TInBag, TInParen, TInRight, TInField, Around, InNil, InFun}
 use Rattle.query_syntax.specs.Symbols.{operator_view}
-use Rattle.query_syntax.specs.Trees.{syntax_view, type_view, fields, named, type_fields, typed}
+use Rattle.query_syntax.specs.Trees.{aggregate_view, syntax_view, type_view, fields, named, type_fields, typed}
 use Rattle.nq_parser.specs.declared.part.Fields.{Fields as CodeFields}
 use Rattle.nq_parser.specs.declared.part.Part.{Part}
 use Rattle.nq_parser.specs.declared.part.TypeFields.{TypeFields as CodeTypeFields}
@@ -38,7 +38,7 @@ type_head_view (type_head.Next fs c) = TAtNext (type_fields_view fs) c
 abbrev pub form_view : Form → Frame
 form_view (form.Paren p) = InParen p
 form_view (form.Bag p) = InBag p
-form_view (form.Empty p o) = InEmpty p o
+form_view (form.Aggregate a p o) = InAggregate (aggregate_view a) p o
 form_view (form.Source p o x a) = InSource p o x.place x.name a
 form_view (form.ForBody p o x a m c) = InBody p o x.place x.name a (part_view m) c
 form_view (form.Test p o) = InTest p o

@@ -1,3 +1,4 @@
+pub mod Editions
 pub mod Forms
 pub mod Machine
 pub mod Needs

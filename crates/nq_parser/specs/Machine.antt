@@ -1,7 +1,8 @@
 -- Reading a query token by token, with a stack of unfinished forms.
 use Rattle.std.specs.Prelude.{ℕ, suc, Bool, false, cond, ◌&&◌, leb, List, [], ◌∷◌, codes, Option, Some, None}
 use Rattle.nq_model.specs.QueryTokens.{Operator, Of, Opening, Closing, OpeningBag, ClosingBag, Comma, Colon, Semicolon, Dot, Assign, From, Arrow, Bang, Token, Word, Value, Oper, Sign, End}
-use Rattle.nq_model.specs.QueryGrammar.{Edition, Kind, IsFor, IsWhere, IsIf, IsThen, IsElse, IsFun, IsLet, IsTable, IsEmpty, IsTruth, IsBase, IsName, kind, TypeSyntax, TBase, TBag, TParen, TNoFields, TRec, TFun, TypeFields, TOne, TMore, Syntax, Const, Truth, Var, Table, Empty, Paren, NoFields, Rec, Bag, Nil, For, Where, If, Fun, Let, Prefix, Infix, Apply, Field, Fields, One, More, level, left_level, depth, deepest}
+use Rattle.nq_model.specs.QueryGrammar.{Edition, Kind, IsFor, IsWhere, IsIf, IsThen, IsElse, IsFun, IsLet, IsTable, IsAggregate, IsTruth, IsBase, IsName, kind, TypeSyntax, TBase, TBag, TParen, TNoFields, TRec, TFun, TypeFields, TOne, TMore, Syntax, Const, Truth, Var, Table, Aggregated, Paren, NoFields, Rec, Bag, Nil, For, Where, If, Fun, Let, Prefix, Infix, Apply, Field, Fields, One, More, level, left_level, depth, deepest}
+use Rattle.nq_model.specs.Terms.{Aggregate}
 use Rattle.nq_model.specs.declared.term.Unary.{Unary as UnaryOp}
 use Rattle.nq_model.specs.declared.term.Unary.TheVariants.{Minus, Not}
 use Rattle.nq_model.specs.declared.term.Binary.TheVariants.{Sub}
@@ -30,7 +31,7 @@ put_type (TAtNext fs q) v l c t = TMore fs q v l c t
 pub data Frame : Type 0 where
   InParen : ℕ → Frame
   InBag : ℕ → Frame
-  InEmpty : ℕ → ℕ → Frame
+  InAggregate : Aggregate → ℕ → ℕ → Frame
   InSource : ℕ → ℕ → ℕ → List ℕ → ℕ → Frame
   InBody : ℕ → ℕ → ℕ → List ℕ → ℕ → Syntax → ℕ → Frame
   InTest : ℕ → ℕ → Frame
@@ -62,7 +63,7 @@ pub data State : Type 0 where
   Want : List Frame → State
   AtWord : ℕ → ℕ → List ℕ → List Frame → State
   AtTable : ℕ → List Frame → State
-  AtEmpty : ℕ → List Frame → State
+  AtAggregate : Aggregate → ℕ → List Frame → State
   AtFor : ℕ → List Frame → State
   AtForOpen : ℕ → ℕ → List Frame → State
   AtForName : ℕ → ℕ → ℕ → List ℕ → List Frame → State
@@ -155,7 +156,7 @@ shift ed k s (Sign p Opening) = cond (leb 9 (level_of s)) (Some (Want (InArg s p
 shift ed k s (Sign p Dot) = cond (leb 9 (level_of s)) (Some (AtDot s p k)) None
 shift ed (InParen p ∷ k) s (Sign q Closing) = Some (Have (Paren p s q) k)
 shift ed (InBag p ∷ k) s (Sign q ClosingBag) = Some (Have (Bag p s q) k)
-shift ed (InEmpty p o ∷ k) s (Sign c Closing) = Some (Have (Empty p o s c) k)
+shift ed (InAggregate a p o ∷ k) s (Sign c Closing) = Some (Have (Aggregated a p o s c) k)
 shift ed (InSource p o v y a ∷ k) s (Sign c Closing) = Some (Want (InBody p o v y a s c ∷ k))
 shift ed (InTest p o ∷ k) s (Sign c Closing) = Some (Want (InGuarded p o s c ∷ k))
 shift ed (InIf p ∷ k) s (Word q w) = then_word (kind ed w) p s q k
@@ -177,7 +178,7 @@ abbrev pub begin_word : Kind → List Frame → ℕ → List ℕ → Option Stat
 begin_word IsName k p w = Some (Have (Var p w) k)
 begin_word (IsTruth b) k p w = Some (Have (Truth p b) k)
 begin_word IsTable k p w = Some (AtTable p k)
-begin_word IsEmpty k p w = Some (AtEmpty p k)
+begin_word (IsAggregate a) k p w = Some (AtAggregate a p k)
 begin_word IsFor k p w = cond (leb (asks k) 1) (Some (AtFor p k)) None
 begin_word IsWhere k p w = cond (leb (asks k) 1) (Some (AtWhere p k)) None
 begin_word IsIf k p w = cond (leb (asks k) 1) (Some (Want (InIf p ∷ k))) None
@@ -209,9 +210,9 @@ abbrev pub at_table : ℕ → List Frame → Token → Option State
 at_table p k (Word v l) = Some (Have (Table p v l) k)
 at_table p k _ = None
 
-abbrev pub at_empty : ℕ → List Frame → Token → Option State
-at_empty p k (Sign o Opening) = Some (Want (InEmpty p o ∷ k))
-at_empty p k _ = None
+abbrev pub at_aggregate : Aggregate → ℕ → List Frame → Token → Option State
+at_aggregate a p k (Sign o Opening) = Some (Want (InAggregate a p o ∷ k))
+at_aggregate a p k _ = None
 
 abbrev pub at_for : ℕ → List Frame → Token → Option State
 at_for p k (Sign o Opening) = Some (AtForOpen p o k)
@@ -230,7 +231,7 @@ abbrev pub no_label : Edition → Kind → ℕ → ℕ → List ℕ → List Fra
 no_label ed IsName p v w k t = after ed (InParen p ∷ k) (Var v w) t
 no_label ed (IsTruth b) p v w k t = after ed (InParen p ∷ k) (Truth v b) t
 no_label ed IsTable p v w k t = at_table v (InParen p ∷ k) t
-no_label ed IsEmpty p v w k t = at_empty v (InParen p ∷ k) t
+no_label ed (IsAggregate a) p v w k t = at_aggregate a v (InParen p ∷ k) t
 no_label ed IsFor p v w k t = at_for v (InParen p ∷ k) t
 no_label ed IsWhere p v w k t = at_where v (InParen p ∷ k) t
 no_label ed IsIf p v w k t = start ed (InIf v ∷ InParen p ∷ k) t
@@ -341,7 +342,7 @@ abbrev pub step : Edition → State → Token → Option State
 step ed (Want k) t = start ed k t
 step ed (AtWord p v w k) t = at_word ed p v w k t
 step ed (AtTable p k) t = at_table p k t
-step ed (AtEmpty p k) t = at_empty p k t
+step ed (AtAggregate a p k) t = at_aggregate a p k t
 step ed (AtFor p k) t = at_for p k t
 step ed (AtForOpen p o k) t = at_for_open ed p o k t
 step ed (AtForName p o v y k) t = at_for_name p o v y k t
@@ -377,7 +378,7 @@ some_name = codes "x"
 abbrev pub finish : Frame → Syntax → Syntax
 finish (InParen p) s = Paren p s 0
 finish (InBag p) s = Bag p s 0
-finish (InEmpty p o) s = Empty p o s 0
+finish (InAggregate a p o) s = Aggregated a p o s 0
 finish (InSource p o v y a) s = For p o v y a s 0 unit
 finish (InBody p o v y a m c) s = For p o v y a m c s
 finish (InTest p o) s = Where p o s 0 unit
@@ -430,7 +431,7 @@ abbrev pub least : State → Syntax
 least (Want k) = close_want k
 least (AtWord p v w k) = close k (Rec (One p v w 0 unit) 0)
 least (AtTable p k) = close k (Table p 0 some_name)
-least (AtEmpty p k) = close k (Empty p 0 unit 0)
+least (AtAggregate a p k) = close k (Aggregated a p 0 unit 0)
 least (AtFor p k) = close k (For p 0 0 some_name 0 unit 0 unit)
 least (AtForOpen p o k) = close k (For p o 0 some_name 0 unit 0 unit)
 least (AtForName p o v y k) = close k (For p o v y 0 unit 0 unit)

@@ -1,7 +1,7 @@
 -- How deep a program is at least that begins with what was read.
 use Rattle.std.specs.Prelude.{ℕ, suc, ◌+◌, max, List, [], ◌∷◌, length}
 use Rattle.nq_model.specs.QueryGrammar.{type_depth, type_fields_depth, depth, fields_depth, deepest, fields_deepest}
-use Rattle.nq_parser.specs.Machine.{Frame, InParen, InBag, TypeFrame, TInParen, Around, InNil, InFun, State, Want, AtWord, AtTable, AtEmpty, AtFor, AtForOpen, AtForName, AtWhere, AtFun, AtFunOpen, AtFunName, AtFunClose, AtLet, AtLetName, AtComma, AtLabel, AtDot, WantType, AtTypeWord, AtTypeComma, AtTypeLabel, HaveType, Have, Ready}
+use Rattle.nq_parser.specs.Machine.{Frame, InParen, InBag, TypeFrame, TInParen, Around, InNil, InFun, State, Want, AtWord, AtTable, AtAggregate, AtFor, AtForOpen, AtForName, AtWhere, AtFun, AtFunOpen, AtFunName, AtFunClose, AtLet, AtLetName, AtComma, AtLabel, AtDot, WantType, AtTypeWord, AtTypeComma, AtTypeLabel, HaveType, Have, Ready}
 use Rattle.nq_parser.specs.Forms.{type_needs}
 
 -- the unfinished forms of a state
@@ -9,7 +9,7 @@ abbrev pub open_forms : State → List Frame
 open_forms (Want k) = k
 open_forms (AtWord p v w k) = k
 open_forms (AtTable p k) = k
-open_forms (AtEmpty p k) = k
+open_forms (AtAggregate a p k) = k
 open_forms (AtFor p k) = k
 open_forms (AtForOpen p o k) = k
 open_forms (AtForName p o v y k) = k
@@ -55,7 +55,7 @@ abbrev pub hole : State → ℕ
 hole (Want k) = want_depth k
 hole (AtWord p v w k) = 2
 hole (AtTable p k) = 1
-hole (AtEmpty p k) = 2
+hole (AtAggregate a p k) = 2
 hole (AtFor p k) = 2
 hole (AtForOpen p o k) = 2
 hole (AtForName p o v y k) = 2

@@ -1,10 +1,15 @@
--- Token lists that end with their text, and where a list ceases to be open.
-use Rattle.std.specs.Prelude.{◌≡◌, ℕ, List, [], ◌∷◌, ◌++◌}
+-- What the reader says of a token list that ends with its text.
+use Rattle.std.specs.Prelude.{◌≡◌, ℕ, ⊤, List, [], ◌∷◌, ◌++◌, Result, Ok, Err}
 use Rattle.nq_model.specs.OpenLists.{IsFaultAt}
 use Rattle.nq_model.specs.OpenLists as open_lists
 use Rattle.nq_model.specs.QueryTokens as query
 use Rattle.nq_model.specs.QueryTokens.{place_of}
-use Rattle.nq_model.specs.QueryGrammar.{First, IsSpelled}
+use Rattle.nq_model.specs.QueryGrammar.{IsSpelled}
+use Rattle.nq_model.specs.QueryTexts.{edition_of, Derives}
+use Rattle.query_syntax.specs.Trees.{syntax_view}
+use Rattle.query_syntax.specs.declared.fault.SyntaxFault.{SyntaxFault}
+use Rattle.query_syntax.specs.declared.fault.SyntaxFault.TheVariants as code
+use Rattle.query_syntax.specs.declared.syntax.Syntax.{Syntax as CodeSyntax}
 
 -- the list ends with the end of the text
 abbrev pub Ends : List query.Token → Type 0
@@ -17,4 +22,12 @@ pub record ClosesAt (d : ℕ) (ts : List query.Token) (f : open_lists.Fault) (pl
   pub after : List query.Token
   pub whole : ts ≡ before ++ last ∷ after
   pub there : place_of last ≡ place
-  pub closes : IsFaultAt query.Token (IsSpelled First) d before last f
+  pub closes : IsFaultAt query.Token (IsSpelled (edition_of ts)) d before last f
+
+-- the tree of the program that the tokens are, or where they cease to be open; want of memory is free
+abbrev pub Reads : Result CodeSyntax SyntaxFault → ℕ → List query.Token → Type 0
+Reads (Ok s) d ts = Derives d ts (syntax_view s)
+Reads (Err code.Memory) d ts = ⊤
+Reads (Err (code.Unexpected p)) d ts = ClosesAt d ts open_lists.Unexpected p
+Reads (Err (code.Deep p)) d ts = ClosesAt d ts open_lists.Deep p
+Reads (Err _) d ts = ⊥

@@ -1,11 +1,11 @@
 -- The states of the reader as those of the machine.
 use Rattle.std.specs.Prelude.{◌≡◌, ⊤, List, Option, Some, None, Result, Ok, Err}
 use Rattle.nq_model.specs.declared.memory.Memory.{Memory}
-use Rattle.nq_parser.specs.Machine.{Frame, State, Want, AtWord, AtTable, AtEmpty, AtFor, AtForOpen, AtForName, AtWhere, AtFun, AtFunOpen, AtFunName, AtFunClose, AtLet, AtLetName, AtComma, AtLabel, AtDot, WantType, AtTypeWord, AtTypeComma, AtTypeLabel, HaveType, Have, Ready}
+use Rattle.nq_parser.specs.Machine.{Frame, State, Want, AtWord, AtTable, AtAggregate, AtFor, AtForOpen, AtForName, AtWhere, AtFun, AtFunOpen, AtFunName, AtFunClose, AtLet, AtLetName, AtComma, AtLabel, AtDot, WantType, AtTypeWord, AtTypeComma, AtTypeLabel, HaveType, Have, Ready}
 use Rattle.nq_parser.specs.Forms.{part_view, fields_view, type_fields_view, around_view}
 use Rattle.nq_parser.specs.Stacks.{frames}
 use Rattle.nq_parser.specs.TypeStacks.{type_frames}
-use Rattle.query_syntax.specs.Trees.{type_view}
+use Rattle.query_syntax.specs.Trees.{aggregate_view, type_view}
 use Rattle.nq_parser.specs.declared.state.Position.{Position}
 use Rattle.nq_parser.specs.declared.state.Position.TheVariants as at
 use Rattle.nq_parser.specs.declared.state.State.{State as CodeState}
@@ -15,7 +15,7 @@ abbrev pub position_view : Position → List Frame → State
 position_view at.Want k = Want k
 position_view (at.AtWord p w) k = AtWord p w.place w.name k
 position_view (at.AtTable p) k = AtTable p k
-position_view (at.AtEmpty p) k = AtEmpty p k
+position_view (at.AtAggregate a p) k = AtAggregate (aggregate_view a) p k
 position_view (at.AtFor p) k = AtFor p k
 position_view (at.AtForOpen p o) k = AtForOpen p o k
 position_view (at.AtForName p o x) k = AtForName p o x.place x.name k

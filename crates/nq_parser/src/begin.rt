@@ -1,6 +1,7 @@
 // A token where an expression begins.
 ghost use Rattle.std.specs.Prelude.{◌≡◌, [], cond, leb, Some, None};
-ghost use Rattle.nq_model.specs.QueryGrammar.{First, IsIf};
+ghost use Rattle.nq_model.specs.QueryGrammar.{Edition as AnyEdition, IsIf};
+ghost use Rattle.nq_parser.specs.Editions.{edition_view};
 ghost use Rattle.nq_model.specs.QueryTokens.{Closing, Colon, Sign};
 ghost use Rattle.nq_parser.specs.Machine.{asks, asks_of, begin_word, start, start_prefix, start_word};
 ghost use Rattle.nq_parser.specs.Stacks.{frames};
@@ -9,6 +10,7 @@ ghost use Rattle.nq_parser.specs.States.{position_view, Leads, Stands};
 ghost use Rattle.query_syntax.specs.Symbols.{token_view};
 ghost use Rattle.nq_parser.specs.Words.{kind_view};
 
+use crate::edition::Edition;
 use crate::form::{Around, Form};
 use crate::have::have;
 use crate::levels::level;
@@ -22,8 +24,13 @@ use query_syntax::{Operator, Symbol, Syntax, Token, Variable};
 use std::alloc::Global;
 
 /// A token where an expression begins.
-pub fn start(alloc: Global, stack: &mut Stack, token: Token<'_>) -> Result<Option<Position>, Memory>
-    ensures { Leads result (frames stack.new.levels) (start First (frames stack.old.levels) (token_view token.entry)) }
+pub fn start(
+    alloc: Global,
+    edition: Edition,
+    stack: &mut Stack,
+    token: Token<'_>,
+) -> Result<Option<Position>, Memory>
+    ensures { Leads result (frames stack.new.levels) (start (edition_view edition) (frames stack.old.levels) (token_view token.entry)) }
 {
     let place = token.place;
     match token.symbol {
@@ -32,7 +39,7 @@ pub fn start(alloc: Global, stack: &mut Stack, token: Token<'_>) -> Result<Optio
             let spelled = Text::from_str(alloc, spelled)?;
             have(alloc, Syntax::Literal { place, spelled }, 1, 0)
         }
-        Symbol::Word(word) => start_word(alloc, stack, place, word),
+        Symbol::Word(word) => start_word(alloc, edition, stack, place, word),
         Symbol::Operator(Operator::Of(Binary::Sub)) => start_prefix(stack, place, Unary::Minus),
         Symbol::Bang => start_prefix(stack, place, Unary::Not),
         Symbol::Opening => wants(stack, Form::Paren { opening: place }),
@@ -68,7 +75,7 @@ pub fn start(alloc: Global, stack: &mut Stack, token: Token<'_>) -> Result<Optio
 // `(` and `)` are the record with no fields.
 #[tactic(auto, using(crate::proofs::Stepping::no_paren_closing))]
 fn no_fields(alloc: Global, stack: &mut Stack, closing: u64) -> Result<Option<Position>, Memory>
-    ensures { Leads result (frames stack.new.levels) (start First (frames stack.old.levels) (Sign closing Closing)) }
+    ensures { (edition : AnyEdition) → Leads result (frames stack.new.levels) (start edition (frames stack.old.levels) (Sign closing Closing)) }
 {
     match stack.take_paren() {
         Some(opening) => have(alloc, Syntax::NoFields { opening, closing }, 1, 0),
@@ -79,7 +86,7 @@ fn no_fields(alloc: Global, stack: &mut Stack, closing: u64) -> Result<Option<Po
 // `[` and `:` begin an empty bag.
 #[tactic(auto, using(crate::proofs::Stepping::no_bag_colon))]
 fn nil_type(alloc: Global, stack: &mut Stack, colon: u64) -> Result<Option<Position>, Memory>
-    ensures { Leads result (frames stack.new.levels) (start First (frames stack.old.levels) (Sign colon Colon)) }
+    ensures { (edition : AnyEdition) → Leads result (frames stack.new.levels) (start edition (frames stack.old.levels) (Sign colon Colon)) }
 {
     match stack.take_bag() {
         Some(opening) => {
@@ -108,11 +115,12 @@ fn start_prefix(stack: &mut Stack, place: u64, op: Unary) -> Result<Option<Posit
 #[tactic(auto, using(crate::proofs::Stepping::no_paren_word))]
 fn start_word(
     alloc: Global,
+    edition: Edition,
     stack: &mut Stack,
     place: u64,
     word: &str,
 ) -> Result<Option<Position>, Memory>
-    ensures { Leads result (frames stack.new.levels) (start_word First (frames stack.old.levels) place word.now) }
+    ensures { Leads result (frames stack.new.levels) (start_word (edition_view edition) (frames stack.old.levels) place word.now) }
 {
     match stack.take_paren() {
         Some(opening) => {
@@ -120,7 +128,7 @@ fn start_word(
             let word = Variable { place, name };
             Ok(Some(Position::AtWord { opening, word }))
         }
-        None => begin_word(alloc, stack, kind_of(word), place, word),
+        None => begin_word(alloc, stack, kind_of(edition, word), place, word),
     }
 }
 
@@ -141,7 +149,7 @@ fn begin_word(
         }
         WordKind::Truth(truth) => have(alloc, Syntax::Truth { place, truth }, 1, 0),
         WordKind::Table => Ok(Some(Position::AtTable { place })),
-        WordKind::Empty => Ok(Some(Position::AtEmpty { place })),
+        WordKind::Aggregate(aggregate) => Ok(Some(Position::AtAggregate { aggregate, place })),
         WordKind::If => begin_if(stack, place),
         WordKind::For => Ok(begin_form(stack, 1, Position::AtFor { place })),
         WordKind::Where => Ok(begin_form(stack, 1, Position::AtWhere { place })),
@@ -188,7 +196,7 @@ fn asks_of(form: &Form) -> u64
         Form::LetBody { .. } => 0,
         Form::Paren { .. }
         | Form::Bag { .. }
-        | Form::Empty { .. }
+        | Form::Aggregate { .. }
         | Form::Source { .. }
         | Form::ForBody { .. }
         | Form::Test { .. }

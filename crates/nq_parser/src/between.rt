@@ -1,14 +1,15 @@
 // A token where one certain token has to come.
 ghost use Rattle.std.specs.Prelude.{◌≡◌, cond, List, None, Some};
-ghost use Rattle.nq_model.specs.QueryGrammar.{First};
+ghost use Rattle.nq_parser.specs.Editions.{edition_view};
 ghost use Rattle.nq_parser.specs.Forms.{fields_view, part_view};
-ghost use Rattle.nq_parser.specs.Machine.{Frame, State as MachineState, at_comma, at_dot, at_empty, at_for, at_for_name, at_for_open, at_fun, at_fun_close, at_fun_name, at_fun_open, at_label, at_let, at_let_name, at_table, at_where, if_name};
+ghost use Rattle.nq_parser.specs.Machine.{Frame, State as MachineState, at_aggregate, at_comma, at_dot, at_for, at_for_name, at_for_open, at_fun, at_fun_close, at_fun_name, at_fun_open, at_label, at_let, at_let_name, at_table, at_where, if_name};
 ghost use Rattle.nq_parser.specs.Stacks.{frames};
 ghost use Rattle.nq_parser.specs.States.{Leads, Stands};
 ghost use Rattle.query_syntax.specs.Symbols.{token_view};
-ghost use Rattle.query_syntax.specs.Trees.{type_view};
+ghost use Rattle.query_syntax.specs.Trees.{aggregate_view, type_view};
 ghost use Rattle.nq_parser.specs.Words.{kind_view};
 
+use crate::edition::Edition;
 use crate::form::{Around, FieldHead, Form};
 use crate::have::have;
 use crate::part::{Fields, Part, TypePart, deeper};
@@ -18,7 +19,7 @@ use crate::type_stack::TypeStack;
 use crate::wants::wants;
 use crate::words::{WordKind, kind_of};
 use nq_model::{Label, Memory};
-use query_syntax::{Symbol, Syntax, Token, Variable};
+use query_syntax::{Aggregate, Symbol, Syntax, Token, Variable};
 use std::alloc::Global;
 
 /// The name of a table.
@@ -38,14 +39,20 @@ pub fn at_table(alloc: Global, place: u64, token: Token<'_>) -> Result<Option<Po
     }
 }
 
-/// The `(` behind `empty`.
-pub fn at_empty(stack: &mut Stack, place: u64, token: Token<'_>) -> Result<Option<Position>, Memory>
-    ensures { Leads result (frames stack.new.levels) (at_empty place (frames stack.old.levels) (token_view token.entry)) }
+/// The `(` behind `empty`, `count` or `sum`.
+pub fn at_aggregate(
+    stack: &mut Stack,
+    aggregate: Aggregate,
+    place: u64,
+    token: Token<'_>,
+) -> Result<Option<Position>, Memory>
+    ensures { Leads result (frames stack.new.levels) (at_aggregate (aggregate_view aggregate) place (frames stack.old.levels) (token_view token.entry)) }
 {
     match token.symbol {
         Symbol::Opening => wants(
             stack,
-            Form::Empty {
+            Form::Aggregate {
+                aggregate,
                 place,
                 opening: token.place,
             },
@@ -99,11 +106,12 @@ pub fn at_fun(place: u64, token: Token<'_>) -> Option<Position>
 /// The variable of a `for`.
 pub fn at_for_open(
     alloc: Global,
+    edition: Edition,
     place: u64,
     opening: u64,
     token: Token<'_>,
 ) -> Result<Option<Position>, Memory>
-    ensures { (k : List Frame) → Leads result k (at_for_open First place opening k (token_view token.entry)) }
+    ensures { (k : List Frame) → Leads result k (at_for_open (edition_view edition) place opening k (token_view token.entry)) }
 {
     match token.symbol {
         Symbol::Word(word) => {
@@ -111,7 +119,7 @@ pub fn at_for_open(
                 place: token.place,
                 name: Label::from_str(alloc, word)?,
             };
-            if is_name(kind_of(word)) {
+            if is_name(kind_of(edition, word)) {
                 Ok(Some(Position::AtForName {
                     place,
                     opening,
@@ -128,11 +136,12 @@ pub fn at_for_open(
 /// The variable of a function.
 pub fn at_fun_open(
     alloc: Global,
+    edition: Edition,
     place: u64,
     opening: u64,
     token: Token<'_>,
 ) -> Result<Option<Position>, Memory>
-    ensures { (k : List Frame) → Leads result k (at_fun_open First place opening k (token_view token.entry)) }
+    ensures { (k : List Frame) → Leads result k (at_fun_open (edition_view edition) place opening k (token_view token.entry)) }
 {
     match token.symbol {
         Symbol::Word(word) => {
@@ -140,7 +149,7 @@ pub fn at_fun_open(
                 place: token.place,
                 name: Label::from_str(alloc, word)?,
             };
-            if is_name(kind_of(word)) {
+            if is_name(kind_of(edition, word)) {
                 Ok(Some(Position::AtFunName {
                     place,
                     opening,
@@ -155,8 +164,13 @@ pub fn at_fun_open(
 }
 
 /// The variable of a `let`.
-pub fn at_let(alloc: Global, place: u64, token: Token<'_>) -> Result<Option<Position>, Memory>
-    ensures { (k : List Frame) → Leads result k (at_let First place k (token_view token.entry)) }
+pub fn at_let(
+    alloc: Global,
+    edition: Edition,
+    place: u64,
+    token: Token<'_>,
+) -> Result<Option<Position>, Memory>
+    ensures { (k : List Frame) → Leads result k (at_let (edition_view edition) place k (token_view token.entry)) }
 {
     match token.symbol {
         Symbol::Word(word) => {
@@ -164,7 +178,7 @@ pub fn at_let(alloc: Global, place: u64, token: Token<'_>) -> Result<Option<Posi
                 place: token.place,
                 name: Label::from_str(alloc, word)?,
             };
-            if is_name(kind_of(word)) {
+            if is_name(kind_of(edition, word)) {
                 Ok(Some(Position::AtLetName { place, variable }))
             } else {
                 Ok(None)
@@ -188,7 +202,7 @@ fn is_name(kind: WordKind) -> bool
         | WordKind::Fun
         | WordKind::Let
         | WordKind::Table
-        | WordKind::Empty
+        | WordKind::Aggregate(_)
         | WordKind::Truth(_)
         | WordKind::Base(_) => false,
     }

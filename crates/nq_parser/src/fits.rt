@@ -47,7 +47,7 @@ fn hole_at(at: &Position, stack: &Stack) -> Result<Hole, Memory>
         Position::Want => Ok(want(stack)),
         Position::AtTable { .. } => Ok(Hole { depth: 1, types: 0 }),
         Position::AtWord { .. }
-        | Position::AtEmpty { .. }
+        | Position::AtAggregate { .. }
         | Position::AtFor { .. }
         | Position::AtForOpen { .. }
         | Position::AtForName { .. }
@@ -107,7 +107,7 @@ fn want_in(form: &Form) -> Hole
     match form {
         Form::Paren { .. } => Hole { depth: 0, types: 0 },
         Form::Bag { .. } => Hole { depth: 0, types: 1 },
-        Form::Empty { .. }
+        Form::Aggregate { .. }
         | Form::Source { .. }
         | Form::ForBody { .. }
         | Form::Test { .. }

@@ -1,7 +1,7 @@
 // Forms that wait for an expression or a type, with the parts that were read.
 use crate::part::{Fields, Part, TypeFields, TypePart};
 use nq_model::{Label, Unary};
-use query_syntax::{Operator, Variable};
+use query_syntax::{Aggregate, Operator, Variable};
 
 /// What stands before the next field: the `(`, or the fields so far and a comma.
 #[derive(Drop)]
@@ -26,7 +26,8 @@ pub enum Form {
     Bag {
         opening: u64,
     },
-    Empty {
+    Aggregate {
+        aggregate: Aggregate,
         place: u64,
         opening: u64,
     },

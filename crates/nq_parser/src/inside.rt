@@ -1,13 +1,16 @@
 // A token that ends what stands between two tokens of a form.
 ghost use Rattle.std.specs.Prelude.{◌≡◌, ◌∷◌, IfOk};
-ghost use Rattle.nq_model.specs.QueryGrammar.{Apply, Bag, Empty, First, Paren, Rec};
+ghost use Rattle.nq_model.specs.QueryGrammar.{Aggregated, Apply, Bag, Edition as AnyEdition, Paren, Rec};
 ghost use Rattle.nq_model.specs.QueryTokens.{Closing, ClosingBag, Comma, Semicolon, Sign, Word};
+ghost use Rattle.nq_parser.specs.Editions.{edition_view};
 ghost use Rattle.nq_parser.specs.Forms.{form_view, head_view, part_view};
 ghost use Rattle.nq_parser.specs.Machine.{else_word, put_field, shift, then_word};
 ghost use Rattle.nq_parser.specs.Stacks.{frames};
 ghost use Rattle.nq_parser.specs.States.{Leads};
 ghost use Rattle.nq_parser.specs.Words.{kind_view};
+ghost use Rattle.query_syntax.specs.Trees.{aggregate_view};
 
+use crate::edition::Edition;
 use crate::form::{FieldHead, Form};
 use crate::join::put_field;
 use crate::part::{Part, deeper};
@@ -16,7 +19,7 @@ use crate::state::Position;
 use crate::wants::wants;
 use crate::words::{WordKind, kind_of};
 use nq_model::{Label, Memory};
-use query_syntax::Syntax;
+use query_syntax::{Aggregate, Syntax};
 use std::alloc::Global;
 
 /// A `)` behind the expression that the innermost form waited for.
@@ -26,7 +29,7 @@ pub fn close(
     part: Part,
     closing: u64,
 ) -> Result<Option<Position>, Memory>
-    ensures { Leads result (frames stack.new.levels) (shift First (frames stack.old.levels) (part_view part) (Sign closing Closing)) }
+    ensures { (edition : AnyEdition) → Leads result (frames stack.new.levels) (shift edition (frames stack.old.levels) (part_view part) (Sign closing Closing)) }
 {
     match stack.pop() {
         Some(form) => close_form(alloc, stack, form, part, closing),
@@ -41,7 +44,7 @@ fn close_form(
     part: Part,
     closing: u64,
 ) -> Result<Option<Position>, Memory>
-    ensures { Leads result (frames stack.new.levels) (shift First (form_view form ∷ frames stack.old.levels) (part_view part) (Sign closing Closing)) }
+    ensures { (edition : AnyEdition) → Leads result (frames stack.new.levels) (shift edition (form_view form ∷ frames stack.old.levels) (part_view part) (Sign closing Closing)) }
 {
     match form {
         Form::Source {
@@ -73,8 +76,12 @@ fn close_form(
             let part = paren(alloc, opening, part, closing)?;
             Ok(Some(Position::Have { part }))
         }
-        Form::Empty { place, opening } => {
-            let part = empty(alloc, place, opening, part, closing)?;
+        Form::Aggregate {
+            aggregate,
+            place,
+            opening,
+        } => {
+            let part = asked(alloc, aggregate, place, opening, part, closing)?;
             Ok(Some(Position::Have { part }))
         }
         Form::Argument { func, opening } => {
@@ -120,12 +127,20 @@ fn paren(alloc: Global, opening: u64, inner: Part, closing: u64) -> Result<Part,
     Part::new(alloc, syntax, depth, types)
 }
 
-fn empty(alloc: Global, place: u64, opening: u64, of: Part, closing: u64) -> Result<Part, Memory>
-    ensures { IfOk result (λ whole. part_view whole ≡ Empty place opening (part_view of) closing) }
+fn asked(
+    alloc: Global,
+    aggregate: Aggregate,
+    place: u64,
+    opening: u64,
+    of: Part,
+    closing: u64,
+) -> Result<Part, Memory>
+    ensures { IfOk result (λ whole. part_view whole ≡ Aggregated (aggregate_view aggregate) place opening (part_view of) closing) }
 {
     let depth = deeper(of.depth)?;
     let types = of.types;
-    let syntax = Syntax::Empty {
+    let syntax = Syntax::Aggregated {
+        aggregate,
         place,
         opening,
         of: of.syntax,
@@ -178,7 +193,7 @@ pub fn close_bag(
     part: Part,
     closing: u64,
 ) -> Result<Option<Position>, Memory>
-    ensures { Leads result (frames stack.new.levels) (shift First (frames stack.old.levels) (part_view part) (Sign closing ClosingBag)) }
+    ensures { (edition : AnyEdition) → Leads result (frames stack.new.levels) (shift edition (frames stack.old.levels) (part_view part) (Sign closing ClosingBag)) }
 {
     match stack.pop() {
         Some(form) => close_bag_form(alloc, stack, form, part, closing),
@@ -193,7 +208,7 @@ fn close_bag_form(
     part: Part,
     closing: u64,
 ) -> Result<Option<Position>, Memory>
-    ensures { Leads result (frames stack.new.levels) (shift First (form_view form ∷ frames stack.old.levels) (part_view part) (Sign closing ClosingBag)) }
+    ensures { (edition : AnyEdition) → Leads result (frames stack.new.levels) (shift edition (form_view form ∷ frames stack.old.levels) (part_view part) (Sign closing ClosingBag)) }
 {
     match form {
         Form::Bag { opening } => {
@@ -201,7 +216,7 @@ fn close_bag_form(
             Ok(Some(Position::Have { part }))
         }
         Form::Paren { .. }
-        | Form::Empty { .. }
+        | Form::Aggregate { .. }
         | Form::Source { .. }
         | Form::ForBody { .. }
         | Form::Test { .. }
@@ -237,38 +252,48 @@ fn bag(alloc: Global, opening: u64, element: Part, closing: u64) -> Result<Part,
 
 /// `then` or `else` behind the expression that the innermost form waited for.
 pub fn word_behind(
+    edition: Edition,
     stack: &mut Stack,
     part: Part,
     place: u64,
     word: &str,
 ) -> Result<Option<Position>, Memory>
-    ensures { Leads result (frames stack.new.levels) (shift First (frames stack.old.levels) (part_view part) (Word place word.now)) }
+    ensures { Leads result (frames stack.new.levels) (shift (edition_view edition) (frames stack.old.levels) (part_view part) (Word place word.now)) }
 {
     match stack.pop() {
-        Some(form) => word_form(stack, form, part, place, word),
+        Some(form) => word_form(edition, stack, form, part, place, word),
         None => Ok(None),
     }
 }
 
 fn word_form(
+    edition: Edition,
     stack: &mut Stack,
     form: Form,
     part: Part,
     behind: u64,
     word: &str,
 ) -> Result<Option<Position>, Memory>
-    ensures { Leads result (frames stack.new.levels) (shift First (form_view form ∷ frames stack.old.levels) (part_view part) (Word behind word.now)) }
+    ensures { Leads result (frames stack.new.levels) (shift (edition_view edition) (form_view form ∷ frames stack.old.levels) (part_view part) (Word behind word.now)) }
 {
     match form {
-        Form::If { place } => then_behind(stack, place, part, behind, kind_of(word)),
+        Form::If { place } => then_behind(stack, place, part, behind, kind_of(edition, word)),
         Form::Then {
             place,
             test,
             then_place,
-        } => else_behind(stack, place, test, then_place, part, behind, kind_of(word)),
+        } => else_behind(
+            stack,
+            place,
+            test,
+            then_place,
+            part,
+            behind,
+            kind_of(edition, word),
+        ),
         Form::Paren { .. }
         | Form::Bag { .. }
-        | Form::Empty { .. }
+        | Form::Aggregate { .. }
         | Form::Source { .. }
         | Form::ForBody { .. }
         | Form::Test { .. }
@@ -312,7 +337,7 @@ fn then_behind(
         | WordKind::Fun
         | WordKind::Let
         | WordKind::Table
-        | WordKind::Empty
+        | WordKind::Aggregate(_)
         | WordKind::Truth(_)
         | WordKind::Base(_)
         | WordKind::Name => Ok(None),
@@ -348,7 +373,7 @@ fn else_behind(
         | WordKind::Fun
         | WordKind::Let
         | WordKind::Table
-        | WordKind::Empty
+        | WordKind::Aggregate(_)
         | WordKind::Truth(_)
         | WordKind::Base(_)
         | WordKind::Name => Ok(None),
@@ -361,7 +386,7 @@ pub fn semicolon_behind(
     value: Part,
     semicolon: u64,
 ) -> Result<Option<Position>, Memory>
-    ensures { Leads result (frames stack.new.levels) (shift First (frames stack.old.levels) (part_view value) (Sign semicolon Semicolon)) }
+    ensures { (edition : AnyEdition) → Leads result (frames stack.new.levels) (shift edition (frames stack.old.levels) (part_view value) (Sign semicolon Semicolon)) }
 {
     match stack.pop() {
         Some(form) => semicolon_form(stack, form, value, semicolon),
@@ -375,7 +400,7 @@ fn semicolon_form(
     value: Part,
     semicolon: u64,
 ) -> Result<Option<Position>, Memory>
-    ensures { Leads result (frames stack.new.levels) (shift First (form_view form ∷ frames stack.old.levels) (part_view value) (Sign semicolon Semicolon)) }
+    ensures { (edition : AnyEdition) → Leads result (frames stack.new.levels) (shift edition (form_view form ∷ frames stack.old.levels) (part_view value) (Sign semicolon Semicolon)) }
 {
     match form {
         Form::LetValue {
@@ -394,7 +419,7 @@ fn semicolon_form(
         ),
         Form::Paren { .. }
         | Form::Bag { .. }
-        | Form::Empty { .. }
+        | Form::Aggregate { .. }
         | Form::Source { .. }
         | Form::ForBody { .. }
         | Form::Test { .. }
@@ -421,7 +446,7 @@ pub fn comma_behind(
     part: Part,
     comma: u64,
 ) -> Result<Option<Position>, Memory>
-    ensures { Leads result (frames stack.new.levels) (shift First (frames stack.old.levels) (part_view part) (Sign comma Comma)) }
+    ensures { (edition : AnyEdition) → Leads result (frames stack.new.levels) (shift edition (frames stack.old.levels) (part_view part) (Sign comma Comma)) }
 {
     match stack.pop() {
         Some(form) => comma_form(alloc, stack, form, part, comma),
@@ -436,7 +461,7 @@ fn comma_form(
     part: Part,
     comma: u64,
 ) -> Result<Option<Position>, Memory>
-    ensures { Leads result (frames stack.new.levels) (shift First (form_view form ∷ frames stack.old.levels) (part_view part) (Sign comma Comma)) }
+    ensures { (edition : AnyEdition) → Leads result (frames stack.new.levels) (shift edition (form_view form ∷ frames stack.old.levels) (part_view part) (Sign comma Comma)) }
 {
     match form {
         Form::Field {
@@ -450,7 +475,7 @@ fn comma_form(
         }
         Form::Paren { .. }
         | Form::Bag { .. }
-        | Form::Empty { .. }
+        | Form::Aggregate { .. }
         | Form::Source { .. }
         | Form::ForBody { .. }
         | Form::Test { .. }

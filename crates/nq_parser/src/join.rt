@@ -133,7 +133,7 @@ pub fn joined(alloc: Global, form: Form, last: Part) -> Result<Part, Memory>
         }
         Form::Paren { .. }
         | Form::Bag { .. }
-        | Form::Empty { .. }
+        | Form::Aggregate { .. }
         | Form::Source { .. }
         | Form::Test { .. }
         | Form::If { .. }

@@ -72,7 +72,7 @@ pub fn ends(form: &Form, token: Token<'_>) -> bool
         Form::Right { op, .. } => binds(token) <= level(*op),
         Form::Paren { .. }
         | Form::Bag { .. }
-        | Form::Empty { .. }
+        | Form::Aggregate { .. }
         | Form::Source { .. }
         | Form::Test { .. }
         | Form::If { .. }

@@ -8,6 +8,7 @@ mod begin;
 mod behind;
 mod behind_word;
 mod between;
+mod edition;
 mod fits;
 mod form;
 mod have;

@@ -1,6 +1,6 @@
 // Forms that end before a token.
 ghost use Rattle.std.specs.Prelude.{◌≡◌, IfOk, length, ◌+◌, OnSome};
-ghost use Rattle.nq_model.specs.QueryGrammar.{First};
+ghost use Rattle.nq_model.specs.QueryGrammar.{Edition};
 ghost use Rattle.nq_parser.specs.Forms.{part_view};
 ghost use Rattle.nq_parser.specs.Machine.{after, shift};
 ghost use Rattle.nq_parser.specs.Settling.{Taken, top_ends};
@@ -45,8 +45,8 @@ pub fn settle(
     first: Part,
     token: Token<'_>,
 ) -> Result<Part, Memory>
-    ensures { IfOk result (λ whole. after First (frames stack.old.levels) (part_view first) (token_view token.entry)
-        ≡ shift First (frames stack.new.levels) (part_view whole) (token_view token.entry)) }
+    ensures { (edition : Edition) → IfOk result (λ whole. after edition (frames stack.old.levels) (part_view first) (token_view token.entry)
+        ≡ shift edition (frames stack.new.levels) (part_view whole) (token_view token.entry)) }
 {
     let mut part = first;
     while let Some(form) = take_ending(stack, token) {

@@ -45,7 +45,7 @@ pub fn held(form: &Form) -> u64
         } => 0,
         Form::Paren { .. }
         | Form::Bag { .. }
-        | Form::Empty { .. }
+        | Form::Aggregate { .. }
         | Form::Source { .. }
         | Form::Test { .. }
         | Form::If { .. }
@@ -78,7 +78,7 @@ pub fn held_types(form: &Form) -> u64
         } => 0,
         Form::Paren { .. }
         | Form::Bag { .. }
-        | Form::Empty { .. }
+        | Form::Aggregate { .. }
         | Form::Source { .. }
         | Form::Test { .. }
         | Form::If { .. }

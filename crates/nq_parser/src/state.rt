@@ -3,7 +3,7 @@ use crate::form::Around;
 use crate::part::{Fields, Part, TypeFields, TypePart};
 use crate::stack::Stack;
 use crate::type_stack::TypeStack;
-use query_syntax::Variable;
+use query_syntax::{Aggregate, Variable};
 
 /// The type that is being read: its unfinished forms, and where it stands.
 #[derive(Drop)]
@@ -25,7 +25,8 @@ pub enum Position {
     AtTable {
         place: u64,
     },
-    AtEmpty {
+    AtAggregate {
+        aggregate: Aggregate,
         place: u64,
     },
     AtFor {

@@ -1,6 +1,7 @@
 // A token where one certain token of a record type has to come.
 ghost use Rattle.std.specs.Prelude.{List};
-ghost use Rattle.nq_model.specs.QueryGrammar.{First, kind};
+ghost use Rattle.nq_model.specs.QueryGrammar.{kind};
+ghost use Rattle.nq_parser.specs.Editions.{edition_view};
 ghost use Rattle.nq_parser.specs.Forms.{around_view, type_fields_view};
 ghost use Rattle.nq_parser.specs.Machine.{Frame, at_type_comma, at_type_label, at_type_word, no_type_label};
 ghost use Rattle.nq_parser.specs.States.{Leads};
@@ -8,6 +9,7 @@ ghost use Rattle.query_syntax.specs.Symbols.{token_view};
 ghost use Rattle.nq_parser.specs.TypeStacks.{type_frames};
 ghost use Rattle.nq_parser.specs.Words.{kind_view};
 
+use crate::edition::Edition;
 use crate::form::{TypeForm, TypeHead};
 use crate::part::{TypeFields, TypePart};
 use crate::state::{Position, TypeState};
@@ -72,12 +74,13 @@ pub fn at_type_label(
 /// A token behind `(` and a word: a `:`, or the word is a type.
 pub fn at_type_word(
     alloc: Global,
+    edition: Edition,
     opening: u64,
     word: Variable,
     ty: TypeState,
     token: Token<'_>,
 ) -> Result<Option<Position>, Memory>
-    ensures { (k : List Frame) → Leads result k (at_type_word First opening word.place word.name (type_frames ty.forms.levels) (around_view ty.around) k (token_view token.entry)) }
+    ensures { (k : List Frame) → Leads result k (at_type_word (edition_view edition) opening word.place word.name (type_frames ty.forms.levels) (around_view ty.around) k (token_view token.entry)) }
 {
     match token.symbol {
         Symbol::Colon => {
@@ -89,21 +92,22 @@ pub fn at_type_word(
             };
             wants_type(ty, form)
         }
-        _ => no_label(alloc, opening, word, ty, token),
+        _ => no_label(alloc, edition, opening, word, ty, token),
     }
 }
 
 // The word behind a `(` is a type, and this token stands behind it.
 fn no_label(
     alloc: Global,
+    edition: Edition,
     opening: u64,
     word: Variable,
     ty: TypeState,
     token: Token<'_>,
 ) -> Result<Option<Position>, Memory>
-    ensures { (k : List Frame) → Leads result k (no_type_label (kind First word.name) opening word.place (type_frames ty.forms.levels) (around_view ty.around) k (token_view token.entry)) }
+    ensures { (k : List Frame) → Leads result k (no_type_label (kind (edition_view edition) word.name) opening word.place (type_frames ty.forms.levels) (around_view ty.around) k (token_view token.entry)) }
 {
-    let kind = kind_of(word.name.as_str());
+    let kind = kind_of(edition, word.name.as_str());
     base_behind(alloc, opening, kind, word.place, ty, token)
 }
 
@@ -136,7 +140,7 @@ fn base_behind(
         | WordKind::Fun
         | WordKind::Let
         | WordKind::Table
-        | WordKind::Empty
+        | WordKind::Aggregate(_)
         | WordKind::Truth(_)
         | WordKind::Name => Ok(None),
     }

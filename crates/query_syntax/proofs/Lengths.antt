@@ -1,7 +1,7 @@
 -- No tree is deeper than it has tokens.
 use Rattle.std.proofs.Common.{ℕ, suc, ◌+◌, ◌≤◌, max, codes, List, [], ◌∷◌, length, arith}
 use Rattle.nq_model.specs.QueryTokens.{Opening, Closing, OpeningBag, ClosingBag, Comma, Colon, Semicolon, Dot, Assign, From, Arrow, Token, Word, Value, Oper, Sign, End}
-use Rattle.nq_model.specs.QueryGrammar.{TypeSyntax, TBase, TBag, TParen, TNoFields, TRec, TFun, TypeFields, TOne, TMore, Syntax, Const, Truth, Var, Table, Empty, Paren, NoFields, Rec, Bag, Nil, For, Where, If, Fun, Let, Prefix, Infix, Apply, Field, Fields, One, More, type_tokens, type_fields_tokens, type_depth, type_fields_depth, tokens, fields_tokens, depth, fields_depth, deepest, fields_deepest}
+use Rattle.nq_model.specs.QueryGrammar.{TypeSyntax, TBase, TBag, TParen, TNoFields, TRec, TFun, TypeFields, TOne, TMore, Syntax, Const, Truth, Var, Table, Aggregated, Paren, NoFields, Rec, Bag, Nil, For, Where, If, Fun, Let, Prefix, Infix, Apply, Field, Fields, One, More, type_tokens, type_fields_tokens, type_depth, type_fields_depth, tokens, fields_tokens, depth, fields_depth, deepest, fields_deepest}
 
 mutual
   pub type_depth_tokens : (t : TypeSyntax) (x : List Token) → type_depth t + length x ≤ length (type_tokens t x)
@@ -29,7 +29,7 @@ mutual
   depth_tokens (Truth p b) x = omega arith
   depth_tokens (Var p y) x = omega arith
   depth_tokens (Table p v l) x = omega arith
-  depth_tokens (Empty p o e c) x = let h = depth_tokens e (Sign c Closing ∷ x) in omega (arith, h)
+  depth_tokens (Aggregated g p o e c) x = let h = depth_tokens e (Sign c Closing ∷ x) in omega (arith, h)
   depth_tokens (Paren p e q) x = let h = depth_tokens e (Sign q Closing ∷ x) in omega (arith, h)
   depth_tokens (NoFields p q) x = omega arith
   depth_tokens (Rec fs q) x = let h = fields_depth_tokens fs (Sign q Closing ∷ x) in omega (arith, h)

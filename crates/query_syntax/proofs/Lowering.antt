@@ -3,7 +3,7 @@ use Rattle.std.proofs.Common.{◌≡◌, ℕ, Bool, true, false, if◌then◌els
 use Rattle.nq_model.specs.Orders.{by_label}
 use Rattle.nq_model.specs.Types.{TypeTree, field_types_of}
 use Rattle.nq_model.specs.Terms.{PlacedTerm, PlacedNode, PlacedFields, at, placed, placed_fields_of}
-use Rattle.nq_model.specs.QueryGrammar.{TypeSyntax, TBase, TBag, TParen, TNoFields, TRec, TFun, TypeFields, TOne, TMore, Syntax, Const, Truth, Var, Table, Empty, Paren, NoFields, Rec, Bag, Nil, For, Where, If, Fun, Let, Prefix, Infix, Apply, Field, Fields, One, More}
+use Rattle.nq_model.specs.QueryGrammar.{TypeSyntax, TBase, TBag, TParen, TNoFields, TRec, TFun, TypeFields, TOne, TMore, Syntax, Const, Truth, Var, Table, Aggregated, Paren, NoFields, Rec, Bag, Nil, For, Where, If, Fun, Let, Prefix, Infix, Apply, Field, Fields, One, More}
 use Rattle.nq_model.specs.QueryScope.{Name, among, number_of, operator_node, fields_place, type_labels, labels, typed_fields, type_of, fields_of, if_unbound, if_twice, type_wrongs, type_fields_wrongs, fields_wrongs, Wrong, wrongs, term_of}
 use Rattle.nq_model.specs.declared.term.Term.{Term}
 use Rattle.query_syntax.specs.Lowering.{◌>>=◌, new_label, type_lowered, type_fields_lowered, bound, lowered, fields_lowered, Gives, fault_of, IsFirst, Lowered}
@@ -107,7 +107,7 @@ mutual
   walk (Rec fs q) xs =
       last (fields_lowered fs xs) (fields_wrongs fs xs) (field_list fs xs) (λ parts. at (fields_place fs) (PlacedNode.rec (placed_fields_of parts))) (fields_walk fs xs)
       ∙ ap (λ parts. outcome (fields_wrongs fs xs) (at (fields_place fs) (PlacedNode.rec parts))) (fields_are_list fs xs)
-  walk (Empty p o e c) xs = last (lowered e xs) (wrongs e xs) (term_of e xs) (λ a. at p (PlacedNode.empty a)) (walk e xs)
+  walk (Aggregated g p o e c) xs = last (lowered e xs) (wrongs e xs) (term_of e xs) (λ a. at p (PlacedNode.aggregate g a)) (walk e xs)
   walk (Bag p e q) xs = last (lowered e xs) (wrongs e xs) (term_of e xs) (λ a. at p (PlacedNode.single a)) (walk e xs)
   walk (Prefix p u e) xs = last (lowered e xs) (wrongs e xs) (term_of e xs) (λ a. at p (PlacedNode.unary u a)) (walk e xs)
   walk (Field e p v l) xs = last (lowered e xs) (wrongs e xs) (term_of e xs) (λ a. at p (PlacedNode.field a l)) (walk e xs)

@@ -2,13 +2,14 @@
 use Rattle.std.proofs.Common.{◌≡◌, ℕ, Bool, List, [], ◌∷◌, ◌++◌, refl, sym, ap, ◌∙◌, Box, Global}
 use Rattle.std.proofs.lemmas.List.{map-append}
 use Rattle.nq_model.specs.QueryTokens.{Number, Literal}
-use Rattle.nq_model.specs.QueryGrammar.{TypeSyntax, TBase, TBag, TParen, TNoFields, TRec, TFun, Syntax, Const, Truth, Var, Table, Empty, Paren, NoFields, Rec, Bag, Nil, For, Where, If, Fun, Let, Prefix, Infix, Apply, Field, Fields, One, More, TypeFields, TOne, TMore}
+use Rattle.nq_model.specs.QueryGrammar.{TypeSyntax, TBase, TBag, TParen, TNoFields, TRec, TFun, Syntax, Const, Truth, Var, Table, Aggregated, Paren, NoFields, Rec, Bag, Nil, For, Where, If, Fun, Let, Prefix, Infix, Apply, Field, Fields, One, More, TypeFields, TOne, TMore}
 use Rattle.nq_model.specs.declared.term.Unary.{Unary as UnaryOp}
 use Rattle.nq_model.specs.declared.table.ColumnType.{ColumnType}
 use Rattle.query_syntax.specs.Symbols.{operator_view}
-use Rattle.query_syntax.specs.Trees.{grow_types, type_fields, type_layer, type_view, typed, grow, fields, layer, syntax_view, named}
+use Rattle.query_syntax.specs.Trees.{aggregate_view, grow_types, type_fields, type_layer, type_view, typed, grow, fields, layer, syntax_view, named}
 use Rattle.query_syntax.specs.declared.symbol.Operator.{Operator as CodeOperator}
 use Rattle.query_syntax.specs.declared.symbol.Whole.{Whole}
+use Rattle.query_syntax.specs.declared.syntax.Aggregate.{Aggregate as CodeAggregate}
 use Rattle.query_syntax.specs.declared.syntax.FieldName.{FieldName}
 use Rattle.query_syntax.specs.declared.syntax.Variable.{Variable}
 use Rattle.query_syntax.specs.declared.syntax.TypeSyntax.{TypeSyntax as CodeType, TypeSyntax-F, fold-roll-TypeSyntax}
@@ -49,8 +50,8 @@ form_var p x = ap syntax_view (sym (forms.rolls-Var p x)) ∙ fold-roll-Syntax S
 pub form_table : (p v : ℕ) (l : List ℕ) → syntax_view (forms.Table p v l) ≡ Table p v l
 form_table p v l = ap syntax_view (sym (forms.rolls-Table p v l)) ∙ fold-roll-Syntax Syntax layer (Syntax-F.Table p v l)
 
-pub form_empty : (p o : ℕ) (e : Box CodeSyntax Global) (c : ℕ) → syntax_view (forms.Empty p o e c) ≡ Empty p o (syntax_view e.value) c
-form_empty p o e c = ap syntax_view (sym (forms.rolls-Empty p o e c)) ∙ fold-roll-Syntax Syntax layer (Syntax-F.Empty p o e c)
+pub form_aggregated : (g : CodeAggregate) (p o : ℕ) (e : Box CodeSyntax Global) (c : ℕ) → syntax_view (forms.Aggregated g p o e c) ≡ Aggregated (aggregate_view g) p o (syntax_view e.value) c
+form_aggregated g p o e c = ap syntax_view (sym (forms.rolls-Aggregated g p o e c)) ∙ fold-roll-Syntax Syntax layer (Syntax-F.Aggregated g p o e c)
 
 pub form_paren : (p : ℕ) (e : Box CodeSyntax Global) (q : ℕ) → syntax_view (forms.Paren p e q) ≡ Paren p (syntax_view e.value) q
 form_paren p e q = ap syntax_view (sym (forms.rolls-Paren p e q)) ∙ fold-roll-Syntax Syntax layer (Syntax-F.Paren p e q)

@@ -7,7 +7,7 @@ use Rattle.nq_model.specs.Orders.{by_label}
 use Rattle.nq_model.specs.Tables.{base_type}
 use Rattle.nq_model.specs.Types.{TypeTree, field_types_of}
 use Rattle.nq_model.specs.Terms.{PlacedTerm, PlacedNode, PlacedFields, at, placed, placed_fields_of}
-use Rattle.nq_model.specs.QueryGrammar.{TypeSyntax, TBase, TBag, TParen, TNoFields, TRec, TFun, TypeFields, TOne, TMore, Syntax, Const, Truth, Var, Table, Empty, Paren, NoFields, Rec, Bag, Nil, For, Where, If, Fun, Let, Prefix, Infix, Apply, Field, Fields, One, More}
+use Rattle.nq_model.specs.QueryGrammar.{TypeSyntax, TBase, TBag, TParen, TNoFields, TRec, TFun, TypeFields, TOne, TMore, Syntax, Const, Truth, Var, Table, Aggregated, Paren, NoFields, Rec, Bag, Nil, For, Where, If, Fun, Let, Prefix, Infix, Apply, Field, Fields, One, More}
 use Rattle.nq_model.specs.QueryScope.{Name, among, number_of, constant_node, operator_node, fields_place, type_labels, labels, Wrong, Unbound, TwiceLabel, wrongs, term_of}
 use Rattle.nq_model.specs.declared.term.Term.{Term}
 use Rattle.query_syntax.specs.declared.fault.SyntaxFault.{SyntaxFault}
@@ -66,9 +66,9 @@ abbrev mutual
   lowered (Truth p b) xs = Ok (at p (PlacedNode.bool b))
   lowered (Var p x) xs = bound p (index_of x xs)
   lowered (Table p v l) xs = Ok (at p (PlacedNode.table l))
-  lowered (Empty p o e c) xs = do
+  lowered (Aggregated g p o e c) xs = do
     a ← lowered e xs
-    Ok (at p (PlacedNode.empty a))
+    Ok (at p (PlacedNode.aggregate g a))
   lowered (Paren p e q) xs = lowered e xs
   lowered (NoFields p q) xs = Ok (at p (PlacedNode.rec PlacedFields.none))
   lowered (Rec fs q) xs = do

@@ -1,8 +1,11 @@
 -- Syntax trees of the reader, without where they lie in memory.
 use Rattle.std.specs.Prelude.{List, [], ◌∷◌, map}
 use Rattle.nq_model.specs.QueryTokens.{Number, Literal}
-use Rattle.nq_model.specs.QueryGrammar.{TypeSyntax, TBase, TBag, TParen, TNoFields, TRec, TFun, TypeFields, TOne, TMore, Syntax, Const, Truth, Var, Table, Empty, Paren, NoFields, Rec, Bag, Nil, For, Where, If, Fun, Let, Prefix, Infix, Apply, Field, Fields, One, More}
+use Rattle.nq_model.specs.QueryGrammar.{TypeSyntax, TBase, TBag, TParen, TNoFields, TRec, TFun, TypeFields, TOne, TMore, Syntax, Const, Truth, Var, Table, Aggregated, Paren, NoFields, Rec, Bag, Nil, For, Where, If, Fun, Let, Prefix, Infix, Apply, Field, Fields, One, More}
+use Rattle.nq_model.specs.Terms as asked
 use Rattle.query_syntax.specs.Symbols.{operator_view}
+use Rattle.query_syntax.specs.declared.syntax.Aggregate.{Aggregate}
+use Rattle.query_syntax.specs.declared.syntax.Aggregate.TheVariants as aggregates
 use Rattle.query_syntax.specs.declared.syntax.FieldName.{FieldName}
 use Rattle.query_syntax.specs.declared.syntax.TypeSyntax.{TypeSyntax as CodeType, fold-TypeSyntax}
 use Rattle.query_syntax.specs.declared.syntax.TypeSyntax.TheOpen.{TypeSyntax-F}
@@ -29,6 +32,11 @@ type_layer (TypeSyntax-F.Fun a p t) = TFun a.value p t.value
 abbrev pub type_view : CodeType → TypeSyntax
 type_view = fold-TypeSyntax TypeSyntax type_layer
 
+abbrev pub aggregate_view : Aggregate → asked.Aggregate
+aggregate_view aggregates.Emptiness = asked.Emptiness
+aggregate_view aggregates.Count = asked.Count
+aggregate_view aggregates.Sum = asked.Sum
+
 abbrev pub grow : Fields → List (FieldName × Syntax) → Fields
 grow fs [] = fs
 grow fs (x ∷ xs) = grow (More fs x.0.before x.0.place x.0.label x.0.mark x.1) xs
@@ -43,7 +51,7 @@ layer (Syntax-F.Literal p spelled) = Const p (Literal spelled)
 layer (Syntax-F.Truth p b) = Truth p b
 layer (Syntax-F.Var p x) = Var p x
 layer (Syntax-F.Table p v l) = Table p v l
-layer (Syntax-F.Empty p o e c) = Empty p o e.value c
+layer (Syntax-F.Aggregated g p o e c) = Aggregated (aggregate_view g) p o e.value c
 layer (Syntax-F.Paren p e q) = Paren p e.value q
 layer (Syntax-F.NoFields p q) = NoFields p q
 layer (Syntax-F.Rec x e fs q) = Rec (fields x e.value fs) q

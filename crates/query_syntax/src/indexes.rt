@@ -2,16 +2,16 @@
 ghost use Rattle.std.specs.Prelude.{◌≡◌, Ok, OnOk, reverse, ◌∷◌};
 ghost use Rattle.nq_model.specs.QueryGrammar.{Syntax as Written};
 ghost use Rattle.nq_model.specs.QueryScope.{operator_node};
-ghost use Rattle.nq_model.specs.Terms.{at, placed, placed_node};
+ghost use Rattle.nq_model.specs.Terms.{PlacedNode, at, placed, placed_node};
 ghost use Rattle.query_syntax.specs.Lowering.{Gives, Lowered, bound, index_of, lowered, fields_lowered, places_view};
-ghost use Rattle.query_syntax.specs.Trees.{fields as record_fields, named, syntax_view};
+ghost use Rattle.query_syntax.specs.Trees.{aggregate_view, fields as record_fields, named, syntax_view};
 ghost use Rattle.query_syntax.specs.Symbols.{operator_view};
 
 use crate::fault::SyntaxFault;
 use crate::lower_labels;
 use crate::lower_type::lower_type;
 use crate::symbol::Operator;
-use crate::syntax::{FieldName, Syntax};
+use crate::syntax::{Aggregate, FieldName, Syntax};
 use lexical::unquoted;
 use nq_model::{Label, List, Node, Term, boxed};
 use std::alloc::Global;
@@ -45,9 +45,14 @@ fn lower_under(alloc: Global, syntax: Syntax, scope: &mut List<Label>) -> Result
         Syntax::Truth { place, truth } => Ok(term(place, Node::Bool(truth))),
         Syntax::Var { place, name } => variable(place, name.as_str(), scope.as_slice()),
         Syntax::Table { place, name, .. } => Ok(term(place, Node::Table(name))),
-        Syntax::Empty { place, of, .. } => {
+        Syntax::Aggregated {
+            aggregate,
+            place,
+            of,
+            ..
+        } => {
             let of = lower_box(alloc, of, scope)?;
-            Ok(term(place, Node::Empty(of)))
+            Ok(term(place, asked(aggregate, of)))
         }
         Syntax::Paren { inner, .. } => lower_under(alloc, Box::into_inner(inner), scope),
         Syntax::NoFields { opening, .. } => Ok(term(opening, Node::Rec(List::new(alloc)))),
@@ -224,6 +229,16 @@ fn term(place: u64, node: Node) -> Term
     ensures { placed result ≡ at place (placed_node node) }
 {
     Term { place, node }
+}
+
+fn asked(aggregate: Aggregate, of: Box<Term>) -> Node
+    ensures { placed_node result ≡ PlacedNode.aggregate (aggregate_view aggregate) (placed of.value) }
+{
+    match aggregate {
+        Aggregate::Emptiness => Node::Empty(of),
+        Aggregate::Count => Node::Count(of),
+        Aggregate::Sum => Node::Sum(of),
+    }
 }
 
 fn variable(place: u64, name: &str, scope: &[Label]) -> Result<Term, SyntaxFault>

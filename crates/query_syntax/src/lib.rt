@@ -15,4 +15,4 @@ pub use fault::SyntaxFault;
 pub use indexes::lower;
 pub use lexer::tokens;
 pub use symbol::{Operator, Symbol, Token, Whole};
-pub use syntax::{FieldName, Syntax, TypeSyntax, Variable};
+pub use syntax::{Aggregate, FieldName, Syntax, TypeSyntax, Variable};

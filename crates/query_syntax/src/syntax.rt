@@ -19,6 +19,14 @@ pub struct Variable {
     pub name: Label,
 }
 
+/// What is asked of a bag: whether it has no element, how many it has, or their sum.
+#[derive(Clone, Copy, Debug, PartialEq, Eq)]
+pub enum Aggregate {
+    Emptiness,
+    Count,
+    Sum,
+}
+
 /// A type as it is written.
 #[derive(Drop)]
 pub enum TypeSyntax {
@@ -77,7 +85,8 @@ pub enum Syntax {
         word: u64,
         name: Label,
     },
-    Empty {
+    Aggregated {
+        aggregate: Aggregate,
         place: u64,
         opening: u64,
         of: Box<Syntax>,

@@ -1,5 +1,5 @@
 use Rattle.nq_parser.proofs.ProperTerms.{spelled_proper, spelled_closed}
-use Rattle.nq_parser.proofs.Verdicts.{one_holds, not_both, one_term, one_fault}
+use Rattle.nq_parser.proofs.Verdicts.{one_holds, not_both, one_term, one_fault, first_spelled}
 use Rattle.nq_parser.proofs.laws.query_laws.Goals as goal
 
 pub returns-clause-some : goal.returns-clause-some
@@ -19,3 +19,6 @@ returns-clause-proper c = spelled_proper
 
 pub returns-clause-closed : goal.returns-clause-closed
 returns-clause-closed c = spelled_closed
+
+pub returns-clause-keeps_first : goal.returns-clause-keeps_first
+returns-clause-keeps_first c = first_spelled

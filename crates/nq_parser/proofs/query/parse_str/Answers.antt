@@ -1,8 +1,7 @@
 use Rattle.std.proofs.Common.{◌≡◌, Err, Ok, ap, map, rules, subst, sym}
 use Rattle.nq_model.specs.QueryTokens.{tokens_of}
 use Rattle.nq_parser.specs.Parsing.{Parsed}
-use Rattle.nq_parser.specs.Reading.{Ends}
-use Rattle.nq_parser.specs.Runs.{Reads}
+use Rattle.nq_parser.specs.Reading.{Ends, Reads}
 use Rattle.query_syntax.specs.Symbols.{token_view}
 use Rattle.nq_parser.proofs.Lexed.{text_ends}
 use Rattle.nq_parser.proofs.Parsing.{ended, resolved}
