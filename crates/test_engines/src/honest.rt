@@ -17,7 +17,7 @@ struct Case {
     answers: [&'static str; 2],
 }
 
-const CASES: [Case; 18] = [
+const CASES: [Case; 31] = [
     // Ties.
     Case {
         text: r#"SELECT "x"."b" AS "b", ROW_NUMBER() OVER (ORDER BY "x"."a") AS "n" FROM "t" AS "x""#,
@@ -105,6 +105,67 @@ const CASES: [Case; 18] = [
     Case {
         text: r#"SELECT "x"."b" AS "b" FROM "t" AS "x", "t" AS "y" WHERE (("x"."b" = "y"."b") AND ("x"."a" = 6)) UNION ALL SELECT "x"."b" AS "b" FROM "t" AS "x", "t" AS "y" WHERE (("x"."a" = "y"."a") AND ("y"."b" = 3))"#,
         answers: ["2 ;1 ;3 ;", "2 ;3 ;1 ;"],
+    },
+    // Counts by a key from outside, and sums that name a column from outside.
+    Case {
+        text: r#"SELECT "x"."b" AS "b", (SELECT COUNT(*) FROM "t" AS "y" WHERE ("y"."a" = "x"."a")) AS "n" FROM "t" AS "x""#,
+        answers: ["1 2 ;2 1 ;3 2 ;", "3 2 ;2 1 ;1 2 ;"],
+    },
+    Case {
+        text: r#"SELECT "x"."b" AS "b", (SELECT COALESCE(SUM(("y"."b" + "x"."b")), 0) FROM "t" AS "y" WHERE ("y"."a" = "x"."a")) AS "s" FROM "t" AS "x""#,
+        answers: ["1 6 ;2 4 ;3 10 ;", "3 10 ;2 4 ;1 6 ;"],
+    },
+    // A key of two columns.
+    Case {
+        text: r#"SELECT "x"."b" AS "b", (SELECT COUNT(*) FROM "t" AS "y", "t" AS "z" WHERE (("y"."a" = "x"."a") AND ("z"."b" = "x"."b"))) AS "n" FROM "t" AS "x""#,
+        answers: ["1 2 ;2 1 ;3 2 ;", "3 2 ;2 1 ;1 2 ;"],
+    },
+    // A key from outside, and a condition on another source there.
+    Case {
+        text: r#"SELECT "x"."b" AS "b", "z"."b" AS "c", (SELECT COUNT(*) FROM "t" AS "y" WHERE (("y"."a" = "x"."a") AND ("y"."b" <= "z"."b"))) AS "n" FROM "t" AS "x", "t" AS "z" WHERE ("x"."b" < "z"."b")"#,
+        answers: ["1 2 1 ;1 3 2 ;2 3 1 ;", "2 3 1 ;1 3 2 ;1 2 1 ;"],
+    },
+    // No key: the rows with a smaller number.
+    Case {
+        text: r#"SELECT "x"."a" AS "a", (SELECT COUNT(*) FROM "t" AS "y" WHERE ("y"."b" < "x"."b")) AS "n" FROM "t" AS "x""#,
+        answers: ["5 0 ;6 1 ;5 2 ;", "5 2 ;6 1 ;5 0 ;"],
+    },
+    // Nothing from outside: all pairs, no row, no source, and no source with a condition.
+    Case {
+        text: r#"SELECT (SELECT COUNT(*) FROM "t" AS "y", "t" AS "z") AS "n", (SELECT COUNT(*) FROM "e" AS "y") AS "m", (SELECT COUNT(*)) AS "o", (SELECT COUNT(*) WHERE FALSE) AS "p" FROM "t" AS "x" WHERE ("x"."b" = 2)"#,
+        answers: ["9 0 1 0 ;", "9 0 1 0 ;"],
+    },
+    // A sum of none, and one that wraps: three times 2^63 - 1.
+    Case {
+        text: r#"SELECT (SELECT COALESCE(SUM("y"."a"), 0) FROM "e" AS "y") AS "s", (SELECT COALESCE(SUM((9223372036854775807 + ("y"."b" * 0))), 0) FROM "t" AS "y") AS "w""#,
+        answers: ["0 9223372036854775805 ;", "0 9223372036854775805 ;"],
+    },
+    // A source with the alias of the one around.
+    Case {
+        text: r#"SELECT "x"."b" AS "b", (SELECT COUNT(*) FROM "t" AS "x" WHERE ("x"."a" = 5)) AS "n" FROM "t" AS "x""#,
+        answers: ["1 2 ;2 2 ;3 2 ;", "3 2 ;2 2 ;1 2 ;"],
+    },
+    // A count in WHERE, as an order key, inside NOT EXISTS, and in a WITH query whose rows a sum adds.
+    Case {
+        text: r#"SELECT "x"."b" AS "b" FROM "t" AS "x" WHERE ((SELECT COUNT(*) FROM "t" AS "y" WHERE ("y"."a" = "x"."a")) > 1)"#,
+        answers: ["1 ;3 ;", "3 ;1 ;"],
+    },
+    Case {
+        text: r#"SELECT "x"."b" AS "b", ROW_NUMBER() OVER (ORDER BY (SELECT COUNT(*) FROM "t" AS "y" WHERE ("y"."a" = "x"."a")), "x"."b") AS "n" FROM "t" AS "x""#,
+        answers: ["1 2 ;2 1 ;3 3 ;", "3 3 ;2 1 ;1 2 ;"],
+    },
+    Case {
+        text: r#"SELECT "x"."b" AS "b" FROM "t" AS "x" WHERE (NOT EXISTS (SELECT 1 AS "o" FROM "t" AS "y" WHERE (("y"."b" > "x"."b") AND ((SELECT COUNT(*) FROM "t" AS "z" WHERE ("z"."a" = "y"."a")) = 1))))"#,
+        answers: ["2 ;3 ;", "3 ;2 ;"],
+    },
+    Case {
+        text: r#"WITH "w" AS (SELECT (SELECT COUNT(*) FROM "t" AS "y" WHERE ("y"."a" = "x"."a")) AS "n" FROM "t" AS "x") SELECT (SELECT COALESCE(SUM("u"."n"), 0) FROM "w" AS "u") AS "s""#,
+        answers: ["5 ;", "5 ;"],
+    },
+    // A count inside the value of a sum: of each row with the number of a row, the rows with its number.
+    Case {
+        text: r#"SELECT "x"."b" AS "b", (SELECT COALESCE(SUM((SELECT COUNT(*) FROM "t" AS "z" WHERE ("z"."a" = "y"."a"))), 0) FROM "t" AS "y" WHERE ("y"."a" = "x"."a")) AS "s" FROM "t" AS "x""#,
+        answers: ["1 4 ;2 1 ;3 4 ;", "3 4 ;2 1 ;1 4 ;"],
     },
 ];
 

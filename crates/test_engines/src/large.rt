@@ -47,6 +47,28 @@ const INNER_BY_QUERY: &str =
 const AROUND_ALONE: &str =
     r#"SELECT "x"."a" AS "a" FROM "t" AS "x" WHERE (NOT EXISTS (SELECT 1 AS "o" FROM "e" AS "y" WHERE ("x"."a" < 100)))"#;
 
+// Each row with the count of the rows of its number, and with the sum of their numbers.
+const COUNTED: &str =
+    r#"SELECT ("x"."a" + (SELECT COUNT(*) FROM "t" AS "y" WHERE ("y"."a" = "x"."a"))) AS "a" FROM "t" AS "x""#;
+
+const SUMMED: &str =
+    r#"SELECT (SELECT COALESCE(SUM("y"."a"), 0) FROM "t" AS "y" WHERE ("y"."a" = "x"."a")) AS "a" FROM "t" AS "x""#;
+
+// The rows whose number one row of the other table has.
+const COUNTED_ONCE: &str =
+    r#"SELECT "x"."a" AS "a" FROM "t" AS "x" WHERE ((SELECT COUNT(*) FROM "e" AS "y" WHERE ("y"."a" = "x"."a")) = 1)"#;
+
+// All rows have one key: each number with the count of all, and with as great a sum.
+const COUNTED_AGAIN: &str =
+    r#"SELECT ("x"."a" + (SELECT COUNT(*) FROM "t" AS "y" WHERE ("y"."b" = "x"."b"))) AS "a" FROM "t" AS "x""#;
+
+const SUMMED_AGAIN: &str =
+    r#"SELECT ("x"."a" + (SELECT COALESCE(SUM(("y"."b" + 1)), 0) FROM "t" AS "y" WHERE ("y"."b" = "x"."b"))) AS "a" FROM "t" AS "x""#;
+
+// The same without a condition.
+const ALL_COUNTED: &str =
+    r#"SELECT ("x"."a" + (SELECT COUNT(*) FROM "t" AS "y")) AS "a" FROM "t" AS "x""#;
+
 // As many pairs, whose first numbers rise from 0 by a step.
 fn pairs(alloc: Global, count: usize, step: i64) -> Result<Vec<(i64, i64)>, Memory> {
     let mut pairs = Vec::with_capacity(alloc, count)?;
@@ -106,6 +128,38 @@ fn conditions_on_one_source(rt: HostRuntime) -> Result<(), Fail> {
     assert!(&rt; rise(&inner.rows, HALF, 0, 1));
     let around = ask(alloc, &mut server, &schema, AROUND_ALONE)?;
     assert!(&rt; rise(&around.rows, 99_900, 100, 1));
+    Ok(())
+}
+
+#[test]
+fn counts_and_sums(rt: HostRuntime) -> Result<(), Fail> {
+    let alloc = rt.alloc();
+    let schema = schema(alloc)?;
+    let (every, even) = (pairs(alloc, COUNT, 1)?, pairs(alloc, COUNT, 2)?);
+    let mut server: Box<dyn SqlServer> = Box::new(alloc, FastServer::new(alloc))?;
+    load_both(alloc, &mut server, every.as_slice(), even.as_slice())?;
+    let counted = ask(alloc, &mut server, &schema, COUNTED)?;
+    assert!(&rt; rise(&counted.rows, COUNT, 1, 1));
+    let summed = ask(alloc, &mut server, &schema, SUMMED)?;
+    assert!(&rt; rise(&summed.rows, COUNT, 0, 1));
+    let once = ask(alloc, &mut server, &schema, COUNTED_ONCE)?;
+    assert!(&rt; rise(&once.rows, HALF, 0, 2));
+    Ok(())
+}
+
+#[test]
+fn totals_of_one_key(rt: HostRuntime) -> Result<(), Fail> {
+    let alloc = rt.alloc();
+    let schema = schema(alloc)?;
+    let every = pairs(alloc, HALF, 1)?;
+    let mut server: Box<dyn SqlServer> = Box::new(alloc, FastServer::new(alloc))?;
+    load_both(alloc, &mut server, every.as_slice(), &[])?;
+    let counted = ask(alloc, &mut server, &schema, COUNTED_AGAIN)?;
+    assert!(&rt; rise(&counted.rows, HALF, 100_000, 1));
+    let summed = ask(alloc, &mut server, &schema, SUMMED_AGAIN)?;
+    assert!(&rt; rise(&summed.rows, HALF, 100_000, 1));
+    let all = ask(alloc, &mut server, &schema, ALL_COUNTED)?;
+    assert!(&rt; rise(&all.rows, HALF, 100_000, 1));
     Ok(())
 }
 

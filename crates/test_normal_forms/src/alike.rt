@@ -12,6 +12,8 @@ pub fn is_alike(one: &Term, two: &Term) -> bool {
         (Node::Table(one), Node::Table(two)) => one.as_str() == two.as_str(),
         (Node::Nil(one), Node::Nil(two)) => one.same(two),
         (Node::Empty(one), Node::Empty(two)) => is_alike(one, two),
+        (Node::Count(one), Node::Count(two)) => is_alike(one, two),
+        (Node::Sum(one), Node::Sum(two)) => is_alike(one, two),
         (Node::Single(one), Node::Single(two)) => is_alike(one, two),
         (Node::Rec(one), Node::Rec(two)) => are_alike(one.as_slice(), two.as_slice()),
         (

@@ -1,11 +1,11 @@
 // Queries whose normal forms are deep.
 ghost use Rattle.nq_model.specs.Tables.{IsProperSchema};
 
-use crate::asked::{org, plain};
 use normalise::normalise;
 use nq_model::{Memory, Schema};
 use std::alloc::Global;
 use std::process::Abort;
+use test_support::{org, plain};
 
 // Marks, one in another, in a bag over `x`. Each has two sides round the inner one, and the bag has two, round the
 // marks and what is marked. The first `x` is `first`.

@@ -1,12 +1,12 @@
 // Queries with the normal forms worked out by hand.
-use crate::asked::{org, plain};
 use crate::told::told;
 use normalise::normalise;
 use nq_model::Memory;
 use std::process::Abort;
+use test_support::{org, plain};
 
 // A query, and its normal form.
-const QUERIES: [(&str, &str); 19] = [
+const QUERIES: [(&str, &str); 24] = [
     // Three levels, the innermost by a function.
     (
         "let tasksOf = fun (e: text) ->
@@ -125,6 +125,33 @@ const QUERIES: [(&str, &str); 19] = [
     (
         "[(a = empty(for (d <- table departments) [(inner = table tasks)]), b = table departments)]",
         "{(a: bool, b: [(name: text)]) | 1: once -> (a = empty(x1 in departments), b = {(name: text) | 2: x2 in departments -> (name = x2.name)})}",
+    ),
+    // Counts and sums have numbers and no tags.
+    (
+        "nq 2;
+         for (d <- table departments) [(d = d.name,
+           n = count(for (e <- table employees) where (e.dept == d.name) [e]),
+           s = sum(for (e <- table employees) where (e.dept == d.name) [e.salary]))]",
+        "{(d: text, n: int, s: int) | 1: x1 in departments -> (d = x1.name, n = count(x2 in employees where (x2.dept == x1.name)), s = sum(x3 in employees where (x3.dept == x1.name) -> x3.salary))}",
+    ),
+    // One for each comprehension, joined from the left; of none it is 0.
+    (
+        "nq 2; [count([1] ++ [2] ++ [3])]",
+        "{int | 1: once -> ((count(once) + count(once)) + count(once))}",
+    ),
+    (
+        "nq 2; [sum([: int]) + count([: bool])]",
+        "{int | 1: once -> (0 + 0)}",
+    ),
+    // Each branch of a choice of bags is under its test.
+    (
+        "nq 2; [count(if true then [1] else [2] ++ [3])]",
+        "{int | 1: once -> ((count(once where true) + count(once where !true)) + count(once where !true))}",
+    ),
+    // A sum's generators come before those of its conditions, and those before the ones of its value.
+    (
+        "nq 2; [sum(for (e <- table employees) where (count(table tasks) > 1) [count(table contacts) + e.salary])]",
+        "{int | 1: once -> sum(x1 in employees where (count(x2 in tasks) > 1) -> (count(x3 in contacts) + x1.salary))}",
     ),
 ];
 

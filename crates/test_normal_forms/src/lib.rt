@@ -4,8 +4,6 @@
 #[cfg(test)]
 mod alike;
 #[cfg(test)]
-mod asked;
-#[cfg(test)]
 mod deep;
 #[cfg(test)]
 mod forms;

@@ -3,16 +3,16 @@
 ghost use Rattle.nq_model.specs.Tables.{IsProperSchema};
 
 use crate::alike::is_alike;
-use crate::asked::{org, plain};
 use normal_printer::print_normal;
 use normalise::normalise;
 use nq_model::{List, Memory, Schema};
 use nq_parser::parse;
 use std::alloc::Global;
 use std::process::Abort;
+use test_support::{org, plain};
 
 // A query, and the text of its normal form.
-const PRINTED: [(&str, &str); 23] = [
+const PRINTED: [(&str, &str); 39] = [
     (
         "let tasksOf = fun (e: text) ->
            for (t <- table tasks) where (t.employee == e) [t.task];
@@ -107,6 +107,62 @@ const PRINTED: [(&str, &str); 23] = [
     ),
     ("[()] ++ [: ()]", "[()]"),
     ("[: (a: (), b: [(c: bool)])]", "[: (a: (), b: [(c: bool)])]"),
+    // Where a count or a sum stands in the form, its text has the header of the second edition.
+    (
+        "nq 2;
+         for (d <- table departments) [(d = d.name,
+           n = count(for (e <- table employees) where (e.dept == d.name) [e]),
+           s = sum(for (e <- table employees) where (e.dept == d.name) [e.salary]))]",
+        "nq 2; for (x1 <- table departments) [(d = x1.name, n = count(for (x2 <- table employees) where (x2.dept == x1.name) [()]), s = sum(for (x3 <- table employees) where (x3.dept == x1.name) [x3.salary]))]",
+    ),
+    (
+        "nq 2; [sum([1] ++ [2] ++ [3])]",
+        "nq 2; [sum([1]) + sum([2]) + sum([3])]",
+    ),
+    (
+        "nq 2; [count(table departments ++ table departments)]",
+        "nq 2; [count(for (x1 <- table departments) [()]) + count(for (x2 <- table departments) [()])]",
+    ),
+    (
+        "nq 2; [count([[1] ++ [2]] ++ [[: int]])]",
+        "nq 2; [count([()]) + count([()])]",
+    ),
+    (
+        "nq 2; let twice = fun (b: [int]) -> sum(b) + count(b); [twice([4] ++ [5])]",
+        "nq 2; [sum([4]) + sum([5]) + (count([()]) + count([()]))]",
+    ),
+    (
+        "nq 2; [sum(for (x <- [1] ++ [2]) for (e <- table employees) [x])]",
+        "nq 2; [sum(for (x1 <- table employees) [1]) + sum(for (x2 <- table employees) [2])]",
+    ),
+    (
+        "nq 2; [count(if true then [1] else [2] ++ [3])]",
+        "nq 2; [count(where (true) [()]) + count(where (!true) [()]) + count(where (!true) [()])]",
+    ),
+    (
+        "nq 2; [sum(where (empty(table tasks)) [7])]",
+        "nq 2; [sum(where (empty(for (x1 <- table tasks) [()])) [7])]",
+    ),
+    (
+        "nq 2; [sum(for (d <- table departments)
+           [count(for (e <- table employees) where (e.dept == d.name) [e])])]",
+        "nq 2; [sum(for (x1 <- table departments) [count(for (x2 <- table employees) where (x2.dept == x1.name) [()])])]",
+    ),
+    ("nq 2; [-sum([5]) * 2]", "nq 2; [-sum([5]) * 2]"),
+    // In a condition of a test, and in one of a comprehension.
+    (
+        "nq 2; [empty(for (d <- table departments) where (count(table tasks) == 2) [sum([: int])])]",
+        "nq 2; [empty(for (x1 <- table departments) where (count(for (x2 <- table tasks) [()]) == 2) [()])]",
+    ),
+    (
+        "nq 2; [empty(where (sum([1]) == 1) [2])]",
+        "nq 2; [empty(where (sum([1]) == 1) [()])]",
+    ),
+    // What has no count and no sum in its form has no header.
+    ("nq 2; [count([: int])]", "[0]"),
+    ("nq 2; [1]", "[1]"),
+    ("nq 2; [(count = 1).count]", "[1]"),
+    ("let sum = fun (x: int) -> x; [sum(2)]", "[2]"),
 ];
 
 // The text of the normal form of a query.

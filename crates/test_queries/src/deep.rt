@@ -1,8 +1,9 @@
 // Queries whose terms are deep, or get deep on the way.
-use crate::asked::{Outcome, answered, org, read};
+use crate::asked::{Outcome, answered, read};
 use nq_model::{Memory, Node, Schema, Term};
 use std::alloc::Global;
 use std::process::Abort;
+use test_support::org;
 
 const PLUS_ONE: &str = "fun (x: int) -> x + 1";
 

@@ -1,11 +1,9 @@
-//! Worked queries, with the terms to which they unfold and with what they mean over tables, and values with their
-//! canonical texts: tests alone, over the calls that are checked elsewhere.
+//! Worked queries, with the terms to which they unfold and with what they mean over tables: tests alone, over the calls
+//! that are checked elsewhere.
 #![tactic(auto)]
 
 #[cfg(test)]
 mod asked;
-#[cfg(test)]
-mod canonical;
 #[cfg(test)]
 mod deep;
 #[cfg(test)]

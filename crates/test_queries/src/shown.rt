@@ -2,96 +2,87 @@
 use nq_model::{Binary, Label, Memory, Node, Term, Ty};
 use nq_types::write_type;
 use std::alloc::Global;
+use test_support::Page;
 
 /// The text of a term, with the place of each node before it where `places` says so. A form that no row leaves
 /// is a question mark.
 pub fn shown(alloc: Global, term: &Term, places: bool) -> Result<String, Memory> {
-    let mut page = Page {
-        alloc,
+    let mut shown = TermPage {
+        page: Page::new(alloc),
         places,
-        text: String::new(alloc),
     };
-    page.put(term, 0)?;
-    Ok(page.text)
+    shown.put(term, 0)?;
+    Ok(shown.page.text)
 }
 
 #[derive(Drop)]
-struct Page {
-    alloc: Global,
+struct TermPage {
+    page: Page,
     places: bool,
-    text: String,
 }
 
-impl Page {
-    fn say(&mut self, words: &str) -> Result<(), Memory> {
-        self.text.push_str(words)?;
-        Ok(())
-    }
-
-    // A word before a number, and one after it.
-    fn number(&mut self, before: &str, number: u64, after: &str) -> Result<(), Memory> {
-        let text = format!(in self.alloc; "{before}{number}{after}")?;
-        self.say(text.as_str())
-    }
-
+impl TermPage {
     // The parameter of a function, and the arrow.
     fn parameter(&mut self, level: u64, taken: &Ty) -> Result<(), Memory> {
-        let taken = write_type(self.alloc, taken)?;
-        self.number("fun (x", level, ": ")?;
-        self.say(str::from_utf8(taken.as_slice()).unwrap_or("?"))?;
-        self.say(") -> ")
+        let taken = write_type(self.page.alloc, taken)?;
+        self.page.number("fun (x", level, ": ")?;
+        self.page
+            .say(str::from_utf8(taken.as_slice()).unwrap_or("?"))?;
+        self.page.say(") -> ")
     }
 
     #[cycle(put)]
     fn put(&mut self, term: &Term, level: u64) -> Result<(), Memory> {
         if self.places {
-            self.number("@", term.place, " ")?;
+            self.page.number("@", term.place, " ")?;
         }
         let under = level.saturating_add(1);
         match &term.node {
-            Node::Var(k) => self.number("x", level.saturating_sub(*k), ""),
+            Node::Var(k) => self.page.number("x", level.saturating_sub(*k), ""),
             Node::Int(number) => {
-                let text = format!(in self.alloc; "{number}")?;
-                self.say(text.as_str())
+                let text = format!(in self.page.alloc; "{number}")?;
+                self.page.say(text.as_str())
             }
-            Node::Bool(truth) => self.say(if *truth { "true" } else { "false" }),
+            Node::Bool(truth) => self.page.say(if *truth { "true" } else { "false" }),
             Node::Table(name) => {
-                self.say("table ")?;
-                self.say(name.as_str())
+                self.page.say("table ")?;
+                self.page.say(name.as_str())
             }
             Node::Binary { op, left, right } => {
-                self.say("(")?;
+                self.page.say("(")?;
                 self.put(left, level)?;
-                self.say(sign(*op))?;
+                self.page.say(sign(*op))?;
                 self.put(right, level)?;
-                self.say(")")
+                self.page.say(")")
             }
             Node::If { test, yes, no } => {
-                self.say("(if ")?;
+                self.page.say("(if ")?;
                 self.put(test, level)?;
-                self.say(" then ")?;
+                self.page.say(" then ")?;
                 self.put(yes, level)?;
-                self.say(" else ")?;
+                self.page.say(" else ")?;
                 self.put(no, level)?;
-                self.say(")")
+                self.page.say(")")
             }
             Node::Field { of, label } => {
                 self.put(of, level)?;
-                self.say(".")?;
-                self.say(label.as_str())
+                self.page.say(".")?;
+                self.page.say(label.as_str())
             }
             Node::Single(of) => {
-                self.say("[")?;
+                self.page.say("[")?;
                 self.put(of, level)?;
-                self.say("]")
+                self.page.say("]")
             }
             Node::Union { left, right } => {
-                self.say("(")?;
+                self.page.say("(")?;
                 self.put(left, level)?;
-                self.say(" ++ ")?;
+                self.page.say(" ++ ")?;
                 self.put(right, level)?;
-                self.say(")")
+                self.page.say(")")
             }
+            Node::Count(of) => self.put_asked("count(", of, level),
+            Node::Sum(of) => self.put_asked("sum(", of, level),
             Node::Rec(fields) => self.put_record(fields.as_slice(), level),
             Node::Fun { taken, body } => {
                 self.parameter(under, taken)?;
@@ -99,42 +90,50 @@ impl Page {
             }
             Node::Apply { func, arg } => {
                 self.put(func, level)?;
-                self.say("(")?;
+                self.page.say("(")?;
                 self.put(arg, level)?;
-                self.say(")")
+                self.page.say(")")
             }
             Node::Bind { value, body } => {
-                self.number("let x", under, " = ")?;
+                self.page.number("let x", under, " = ")?;
                 self.put(value, level)?;
-                self.say("; ")?;
+                self.page.say("; ")?;
                 self.put(body, under)
             }
             Node::For { source, body } => {
-                self.number("for (x", under, " <- ")?;
+                self.page.number("for (x", under, " <- ")?;
                 self.put(source, level)?;
-                self.say(") ")?;
+                self.page.say(") ")?;
                 self.put(body, under)
             }
             Node::Guard { test, body } => {
-                self.say("where (")?;
+                self.page.say("where (")?;
                 self.put(test, level)?;
-                self.say(") ")?;
+                self.page.say(") ")?;
                 self.put(body, level)
             }
-            _ => self.say("?"),
+            _ => self.page.say("?"),
         }
+    }
+
+    // What is asked of a bag: a word, and the bag in parentheses.
+    #[cycle(put)]
+    fn put_asked(&mut self, word: &str, of: &Term, level: u64) -> Result<(), Memory> {
+        self.page.say(word)?;
+        self.put(of, level)?;
+        self.page.say(")")
     }
 
     #[cycle(put)]
     fn put_record(&mut self, fields: &[(Label, Term)], level: u64) -> Result<(), Memory> {
-        self.say("(")?;
+        self.page.say("(")?;
         for field in fields {
-            self.say(field.0.as_str())?;
-            self.say(" = ")?;
+            self.page.say(field.0.as_str())?;
+            self.page.say(" = ")?;
             self.put(&field.1, level)?;
-            self.say(", ")?;
+            self.page.say(", ")?;
         }
-        self.say(")")
+        self.page.say(")")
     }
 }
 

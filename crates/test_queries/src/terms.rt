@@ -1,14 +1,15 @@
 // Each query is unfolded, and compared with the term worked out by hand and with what single steps reach, places
 // included. In a term `x1`, `x2`, .. name the binders from outside.
-use crate::asked::{Outcome, answered, org, read, with_lets};
+use crate::asked::{Outcome, answered, read, with_lets};
 use crate::shown::shown;
 use nq_model::{Memory, Schema, Term};
 use reference_terms::unfold_by_steps;
 use std::alloc::Global;
 use std::process::Abort;
+use test_support::org;
 
 // A query and the term to which it unfolds.
-const QUERIES: [(&str, &str); 17] = [
+const QUERIES: [(&str, &str); 20] = [
     ("let f = fun (x: int) -> [x]; f(1)", "[1]"),
     (
         "let twice = fun (f: int -> int) -> fun (x: int) -> f(f(x)); [twice(fun (n: int) -> n + 1)(5)]",
@@ -86,6 +87,17 @@ const QUERIES: [(&str, &str); 17] = [
         "let f = fun (x: int) -> x + 1; let g = fun (x: int) -> f(f(x)); [g(g(1))]",
         "[((((1 + 1) + 1) + 1) + 1)]",
     ),
+    // Counts and sums stay where they stand, and what they are asked of is unfolded.
+    (
+        "nq 2; let twice = fun (b: [int]) -> sum(b) + count(b); [twice([4] ++ [5])]",
+        "[(sum(([4] ++ [5])) + count(([4] ++ [5])))]",
+    ),
+    (
+        "nq 2; let of = fun (d: text) -> for (e <- table employees) where (e.dept == d) [e.salary];
+         for (d <- table departments) [count(of(d.name)) + sum(of(d.name))]",
+        "for (x1 <- table departments) [(count(for (x2 <- table employees) where ((x2.dept == x1.name)) [x2.salary]) + sum(for (x2 <- table employees) where ((x2.dept == x1.name)) [x2.salary]))]",
+    ),
+    ("let sum = fun (x: int) -> x; [sum(2)]", "[2]"),
 ];
 
 // The same with each function that is applied on the spot as a `let`.

@@ -2,7 +2,7 @@
 // and of the normal form.
 ghost use Rattle.nq_model.specs.Tables.{IsProperSchema};
 
-use crate::asked::{org, plain, read};
+use crate::asked::read;
 use canon::{sort_deep, write};
 use normalise::normalise;
 use nq_model::{List, Memory, Schema, Value};
@@ -12,6 +12,7 @@ use std::alloc::Global;
 use std::process::Abort;
 use std::str;
 use table_reader::read_table;
+use test_support::{org, plain};
 
 // The texts of the tables, in the order of the schema.
 const TABLES: [&str; 4] = [
@@ -30,7 +31,7 @@ const TWICE: [&str; 4] = [
 ];
 
 // A query, and what it means.
-const QUERIES: [(&str, &str); 9] = [
+const QUERIES: [(&str, &str); 32] = [
     ("[: (dept: text, name: text, salary: int)]", "{}"),
     ("[[1] ++ [1]]", "{{1, 1}}"),
     ("for (e <- table employees) [()]", "{(), (), ()}"),
@@ -68,6 +69,70 @@ const QUERIES: [(&str, &str); 9] = [
              && empty(for (t <- table tasks) where (t.employee == c.name) [t])) [c.name])))]",
         "{(d = 'Product', none = false), (d = 'Quality', none = false), (d = 'Research', none = true), (d = 'Sales', none = false)}",
     ),
+    // Counts and sums.
+    (
+        "nq 2;
+         for (d <- table departments) [(d = d.name,
+           n = count(for (e <- table employees) where (e.dept == d.name) [e]),
+           s = sum(for (e <- table employees) where (e.dept == d.name) [e.salary]))]",
+        "{(d = 'Product', n = 2, s = 20900), (d = 'Quality', n = 0, s = 0), (d = 'Research', n = 0, s = 0), (d = 'Sales', n = 1, s = 2000000)}",
+    ),
+    (
+        "nq 2; [sum([9223372036854775807] ++ [1])]",
+        "{-9223372036854775808}",
+    ),
+    ("nq 2; [count([: int])]", "{0}"),
+    ("let count = 3; [count]", "{3}"),
+    ("nq 2; [sum([1] ++ [2] ++ [3])]", "{6}"),
+    (
+        "nq 2; [count(table departments ++ table departments)]",
+        "{8}",
+    ),
+    (
+        "nq 2; for (d <- table departments)
+         where (count(for (e <- table employees) where (e.dept == d.name) [e]) > 1) [d.name]",
+        "{'Product'}",
+    ),
+    (
+        "nq 2; [empty(for (d <- table departments) where (count(table tasks) == 2) [sum([: int])])]",
+        "{true}",
+    ),
+    ("nq 2; [count([[1] ++ [2]] ++ [[: int]])]", "{2}"),
+    (
+        "nq 2; [sum(for (d <- table departments)
+           [count(for (e <- table employees) where (e.dept == d.name) [e])])]",
+        "{3}",
+    ),
+    (
+        "nq 2; for (e <- table employees) [sum(for (t <- table tasks) [e.salary])]",
+        "{3600, 80000, 8000000}",
+    ),
+    ("nq 2; [count(if true then [1] else [2] ++ [3])]", "{1}"),
+    (
+        "nq 2; [if count(table contacts) > 2 then sum(for (e <- table employees) [e.salary]) else 0]",
+        "{2020900}",
+    ),
+    (
+        "nq 2; let twice = fun (b: [int]) -> sum(b) + count(b); [twice([4] ++ [5])]",
+        "{11}",
+    ),
+    (
+        "nq 2; [sum(for (x <- [1] ++ [2]) for (e <- table employees) [x])]",
+        "{9}",
+    ),
+    ("nq 2; [sum(where (empty(table tasks)) [7])]", "{0}"),
+    ("nq 2; [-sum([5]) * 2]", "{-10}"),
+    (
+        "nq 2; for (d <- table departments) [(d = d.name,
+           es = for (e <- table employees) where (e.dept == d.name)
+             [(n = e.name, k = count(for (t <- table tasks) where (t.employee == e.name) [t]))])]",
+        "{(d = 'Product', es = {(k = 1, n = 'Alex'), (k = 1, n = 'Bert')}), (d = 'Quality', es = {}), (d = 'Research', es = {}), (d = 'Sales', es = {(k = 2, n = 'Erik')})}",
+    ),
+    ("nq 2; [1]", "{1}"),
+    ("nq 2; [(count = 1).count]", "{1}"),
+    ("let sum = fun (x: int) -> x; [sum(2)]", "{2}"),
+    ("let nq = 2; [nq]", "{2}"),
+    ("nq 2; let nq = 2; [nq]", "{2}"),
 ];
 
 // Equal rows stay apart.

@@ -1,5 +1,5 @@
-//! Worked schema texts, table texts, query texts, SQL texts and programs, with what they are read as: tests alone, over
-//! the calls that are checked elsewhere.
+//! Worked schema texts, table texts, query texts and programs, with what they are read as: tests alone, over the calls
+//! that are checked elsewhere.
 #![tactic(auto)]
 
 #[cfg(test)]
@@ -8,8 +8,6 @@ mod programs;
 mod queries;
 #[cfg(test)]
 mod schemas;
-#[cfg(test)]
-mod statements;
 #[cfg(test)]
 mod syntax;
 #[cfg(test)]

@@ -5,7 +5,7 @@ use std::process::Abort;
 use std::test::Fail;
 
 // A text, the depth at which it is read, and what comes of it.
-const TEXTS: [(&str, u64, &str); 44] = [
+const TEXTS: [(&str, u64, &str); 65] = [
     ("[9223372036854775808]", 200, "IntRange { place: 1 }"),
     ("[1 < 2 < 3]", 200, "Unexpected { place: 7 }"),
     ("[x]", 200, "Unbound { place: 1 }"),
@@ -58,6 +58,47 @@ const TEXTS: [(&str, u64, &str); 44] = [
         200,
         "Token { place: 0 }",
     ),
+    // In the first edition `count` and `sum` are names.
+    ("[count(table tasks)]", 200, "Unbound { place: 1 }"),
+    ("let sum = fun (x: int) -> x; [sum(2)]", 200, "spelled"),
+    ("let nq = 2; [nq]", 200, "spelled"),
+    ("nq", 200, "Unbound { place: 0 }"),
+    ("nq 2 [1]", 200, "Unexpected { place: 3 }"),
+    ("nq 3; [1]", 200, "Unexpected { place: 3 }"),
+    ("nq 02; [1]", 200, "Unexpected { place: 3 }"),
+    // In the second they are asked of bags; as labels they stay names.
+    ("nq 2; [count(table tasks)]", 200, "spelled"),
+    ("nq 2 ; # c\n [(count = sum([1])).count]", 200, "spelled"),
+    ("nq 2; (count([1]))", 200, "spelled"),
+    ("nq 2; let nq = 2; [nq]", 200, "spelled"),
+    (
+        "nq 2; let count = 3; [count]",
+        200,
+        "Unexpected { place: 10 }",
+    ),
+    (
+        "nq 2; for (sum <- [1]) [sum]",
+        200,
+        "Unexpected { place: 11 }",
+    ),
+    ("nq 2; [count()]", 200, "Unexpected { place: 13 }"),
+    ("nq 2;", 200, "Unexpected { place: 5 }"),
+    ("nq 2; nq 2; [1]", 200, "Unexpected { place: 9 }"),
+    // A header adds nothing to the depth, but no program is of depth 0.
+    ("nq 2; 1", 1, "spelled"),
+    ("nq 2; [1]", 1, "Deep { place: 7 }"),
+    ("nq 2; [1]", 0, "Deep { place: 0 }"),
+    ("nq 2", 0, "Deep { place: 0 }"),
+    ("nq 2; sum(1)", 2, "spelled"),
+];
+
+// What stands before and in so many brackets, and what comes of it at depth 200.
+const NESTED: [(&str, usize, &str, &str); 5] = [
+    ("", 199, "1", "spelled"),
+    ("", 200, "1", "Deep { place: 200 }"),
+    ("nq 2; ", 199, "1", "spelled"),
+    ("nq 2; ", 197, "count([1])", "spelled"),
+    ("nq 2; ", 198, "count([1])", "Deep { place: 211 }"),
 ];
 
 fn shown(alloc: Global, text: &[u8], depth: u64) -> Result<String, AllocError> {
@@ -67,13 +108,13 @@ fn shown(alloc: Global, text: &[u8], depth: u64) -> Result<String, AllocError> {
     }
 }
 
-// `[`, so many times, `1`, and as many `]`.
-fn brackets(alloc: Global, count: usize) -> Result<String, AllocError> {
-    let mut text = String::new(alloc);
+// A header or nothing, `[`, so many times, what stands inside, and as many `]`.
+fn brackets(alloc: Global, header: &str, count: usize, inside: &str) -> Result<String, AllocError> {
+    let mut text = String::from_str(alloc, header)?;
     for _ in 0..count {
         text.push_str("[")?;
     }
-    text.push_str("1")?;
+    text.push_str(inside)?;
     for _ in 0..count {
         text.push_str("]")?;
     }
@@ -86,13 +127,10 @@ fn reads_or_refuses(rt: HostRuntime) -> Result<(), Fail> {
     for (text, depth, want) in &TEXTS {
         assert_eq!(&rt; shown(alloc, text.as_bytes(), *depth)?.as_str(), *want);
     }
-    let least = brackets(alloc, 199)?;
-    assert_eq!(&rt; shown(alloc, least.as_bytes(), 200)?.as_str(), "spelled");
-    let more = brackets(alloc, 200)?;
-    assert_eq!(&rt;
-        shown(alloc, more.as_bytes(), 200)?.as_str(),
-        "Deep { place: 200 }"
-    );
+    for (header, count, inside, want) in &NESTED {
+        let text = brackets(alloc, header, *count, inside)?;
+        assert_eq!(&rt; shown(alloc, text.as_bytes(), 200)?.as_str(), *want);
+    }
     assert_eq!(&rt;
         shown(alloc, &[63, 32, 255], 200)?.as_str(),
         "NotUtf8 { place: 2 }"

@@ -1,5 +1,5 @@
 // The worked forms. Each comprehension has one generator, whose number is the comprehension's tag.
-use nq_ir::{Base, Body, Comp, Gen, Normal};
+use nq_ir::{Base, Body, Comp, Gen, Normal, Test};
 use nq_model::{Label, List, Memory, Ty, boxed};
 use std::alloc::Global;
 
@@ -16,16 +16,24 @@ pub enum Form {
     TwoBags,
     // A bag of bags of bags, of which the outer two have one element each.
     Deep,
+    // A record of a bag, a count and a sum.
+    Totals,
     // A record without fields.
     Empty,
 }
 
-fn comp(alloc: Global, tag: u64, body: Body) -> Result<Comp, Memory> {
+// One generator.
+fn one_gen(alloc: Global, number: u64) -> Result<List<Gen>, Memory> {
     let mut gens = List::new(alloc);
     gens.push(Gen {
-        number: tag,
+        number,
         table: Label::from_str(alloc, "t")?,
     })?;
+    Ok(gens)
+}
+
+fn comp(alloc: Global, tag: u64, body: Body) -> Result<Comp, Memory> {
+    let gens = one_gen(alloc, tag)?;
     let conds = List::new(alloc);
     Ok(Comp {
         tag,
@@ -84,6 +92,38 @@ fn both(first: Normal, second: Normal) -> Result<Normal, Memory> {
     Ok(Normal { element, parts })
 }
 
+// What a count or a sum goes over.
+fn over(alloc: Global, number: u64) -> Result<Test, Memory> {
+    Ok(Test {
+        gens: one_gen(alloc, number)?,
+        conds: List::new(alloc),
+    })
+}
+
+// Counts and sums have generators and no tag.
+fn totals(alloc: Global) -> Result<Normal, Memory> {
+    let count = Base::Count(over(alloc, 3)?);
+    let sum = Base::Sum {
+        over: over(alloc, 4)?,
+        value: boxed(alloc, Base::Int(7))?,
+    };
+    let mut bodies = List::new(alloc);
+    bodies.push((Label::from_str(alloc, "b")?, Body::Bag(ints(alloc, &[2])?)))?;
+    bodies.push((Label::from_str(alloc, "n")?, Body::Plain(count)))?;
+    bodies.push((Label::from_str(alloc, "s")?, Body::Plain(sum)))?;
+    let mut types = List::new(alloc);
+    let bag = Ty::Bag(boxed(alloc, Ty::Int)?);
+    types.push((Label::from_str(alloc, "b")?, bag))?;
+    types.push((Label::from_str(alloc, "n")?, Ty::Int))?;
+    types.push((Label::from_str(alloc, "s")?, Ty::Int))?;
+    let mut parts = List::new(alloc);
+    parts.push(comp(alloc, 1, Body::Rec(bodies))?)?;
+    Ok(Normal {
+        element: Ty::Rec(types),
+        parts,
+    })
+}
+
 pub fn made(alloc: Global, form: Form) -> Result<Normal, Memory> {
     match form {
         Form::TwoSides => both(
@@ -111,6 +151,7 @@ pub fn made(alloc: Global, form: Form) -> Result<Normal, Memory> {
             let inner = bags(alloc, vec![in alloc; (2, ints(alloc, &[3])?)]?)?;
             bags(alloc, vec![in alloc; (1, inner)]?)
         }
+        Form::Totals => totals(alloc),
         Form::Empty => records(alloc, 1, Vec::new(alloc)),
     }
 }

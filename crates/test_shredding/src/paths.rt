@@ -13,7 +13,7 @@ struct Case {
     lines: &'static [&'static str],
 }
 
-const CASES: [Case; 7] = [
+const CASES: [Case; 8] = [
     Case {
         form: Form::TwoSides,
         lines: &["/ 0()>1 0()>3 | | 0.1 0.3", "/[].b 1(x1)>2 | 1 | 1.2"],
@@ -55,6 +55,10 @@ const CASES: [Case; 7] = [
             "/[] 1(x1)>2 | 1 | 1.2",
             "/[][] 2(x1x2)>3 | 2 | 1.3",
         ],
+    },
+    Case {
+        form: Form::Totals,
+        lines: &["/ 0()>1 | | 0.1", "/[].b 1(x1)>2 | 1 | 1.2"],
     },
     Case {
         form: Form::Empty,

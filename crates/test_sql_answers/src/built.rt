@@ -1,10 +1,16 @@
 // SQL trees from short descriptions, at no place.
 use nq_model::{Binary, Label, List, Memory, Text, boxed};
-use sql_profile::{Expr, ExprNode, Item, ItemValue, Query, Select, Source, SqlText, With};
+use sql_profile::{Expr, ExprNode, Item, ItemValue, Picked, Query, Select, Source, SqlText, With};
 use std::alloc::Global;
 
 /// A source and a column of it.
 pub type Named = (&'static str, &'static str);
+
+/// What a scalar query ranges over: its tables with their aliases, and two columns that are equal, if any are to be.
+pub struct Over {
+    pub from: &'static [Named],
+    pub equal: Option<(Named, Named)>,
+}
 
 /// What an item is.
 pub enum Value {
@@ -13,6 +19,12 @@ pub enum Value {
     Column(Named),
     /// The number of a row in the order of these columns.
     Number(&'static [Named]),
+    /// How many combinations a scalar query keeps.
+    Count(Over),
+    /// The sum of a column over them.
+    Sum(Named, Over),
+    /// The sum of a number over them.
+    SumOf(i64, Over),
 }
 
 /// Which combinations are kept.
@@ -22,6 +34,8 @@ pub enum Keep {
     Equal(Named, Named),
     /// Those for which no row of the table has this column equal to that of another source.
     Without(Named, Named),
+    /// Those for which a scalar query keeps more than so many combinations.
+    MoreThan(i64, Over),
 }
 
 /// A SELECT: its items with their names, its tables with their aliases, and what it keeps.
@@ -54,6 +68,28 @@ fn equal(alloc: Global, left: Named, right: Named) -> Result<Expr, Memory> {
     }))
 }
 
+fn picked(alloc: Global, over: &Over) -> Result<Picked, Memory> {
+    Ok(Picked {
+        from: sources(alloc, over.from)?,
+        keep: match &over.equal {
+            Some((left, right)) => Some(equal(alloc, *left, *right)?),
+            None => None,
+        },
+    })
+}
+
+fn count(alloc: Global, over: &Over) -> Result<Expr, Memory> {
+    let over = boxed(alloc, picked(alloc, over)?)?;
+    Ok(at_no_place(ExprNode::Count(over)))
+}
+
+fn sum(alloc: Global, summed: Expr, over: &Over) -> Result<Expr, Memory> {
+    Ok(at_no_place(ExprNode::Sum {
+        over: boxed(alloc, picked(alloc, over)?)?,
+        value: boxed(alloc, summed)?,
+    }))
+}
+
 fn item_value(alloc: Global, value: &Value) -> Result<ItemValue, Memory> {
     match value {
         Value::Int(number) => Ok(ItemValue::Plain(at_no_place(ExprNode::Int(*number)))),
@@ -68,6 +104,12 @@ fn item_value(alloc: Global, value: &Value) -> Result<ItemValue, Memory> {
                 exprs.push(column(alloc, *key)?)?;
             }
             Ok(ItemValue::Number(exprs))
+        }
+        Value::Count(over) => Ok(ItemValue::Plain(count(alloc, over)?)),
+        Value::Sum(of, over) => Ok(ItemValue::Plain(sum(alloc, column(alloc, *of)?, over)?)),
+        Value::SumOf(number, over) => {
+            let summed = at_no_place(ExprNode::Int(*number));
+            Ok(ItemValue::Plain(sum(alloc, summed, over)?))
         }
     }
 }
@@ -116,6 +158,11 @@ fn test(alloc: Global, keep: &Keep) -> Result<Option<Expr>, Memory> {
             let partners = boxed(alloc, partners(alloc, *table, *other)?)?;
             Ok(Some(at_no_place(ExprNode::NotExists(partners))))
         }
+        Keep::MoreThan(number, over) => Ok(Some(at_no_place(ExprNode::Binary {
+            op: Binary::Gt,
+            left: boxed(alloc, count(alloc, over)?)?,
+            right: boxed(alloc, at_no_place(ExprNode::Int(*number)))?,
+        }))),
     }
 }
 

@@ -1,5 +1,5 @@
 // The rows that SQL trees give over tables, worked out by hand.
-use crate::built::{Chosen, Keep, Named, Value, text_of};
+use crate::built::{Chosen, Keep, Named, Over, Value, text_of};
 use crate::held::organisation;
 use crate::told::{line, listed};
 use nq_model::{Cell, List, Memory};
@@ -36,7 +36,13 @@ const ONE_OF_Z: Chosen = Chosen {
     keep: Keep::All,
 };
 
-const ROWS: [Row; 11] = [
+// The employees of a department.
+const STAFF: Over = Over {
+    from: &[("employees", "e")],
+    equal: Some((("e", "dept"), ("d", "name"))),
+};
+
+const ROWS: [Row; 17] = [
     // The departments that have no employee.
     Row {
         with: None,
@@ -237,6 +243,147 @@ const ROWS: [Row; 11] = [
             keep: Keep::None,
         }],
         rows: ["", "", ""],
+    },
+    // Each department with the number of its employees and the sum of what they earn.
+    Row {
+        with: None,
+        main: &[Chosen {
+            items: &[
+                ("d", Value::Column(("d", "name"))),
+                ("n", Value::Count(STAFF)),
+                ("s", Value::Sum(("e", "salary"), STAFF)),
+            ],
+            from: &[("departments", "d")],
+            keep: Keep::All,
+        }],
+        rows: [
+            "Product 2 20900 ;Quality 0 0 ;Research 0 0 ;Sales 1 2000000 ;",
+            "Product 2 20900 ;Quality 0 0 ;Research 0 0 ;Sales 1 2000000 ;",
+            "Sales 1 2000000 ;Research 0 0 ;Quality 0 0 ;Product 2 20900 ;",
+        ],
+    },
+    // The departments with more than one employee.
+    Row {
+        with: None,
+        main: &[Chosen {
+            items: &[("d", Value::Column(("d", "name")))],
+            from: &[("departments", "d")],
+            keep: Keep::MoreThan(1, STAFF),
+        }],
+        rows: ["Product ;", "Product ;", "Product ;"],
+    },
+    // All pairs of two tables, the one combination of no tables, and three numbers of 2^63 - 1, whose sum wraps.
+    Row {
+        with: None,
+        main: &[Chosen {
+            items: &[
+                (
+                    "a",
+                    Value::Count(Over {
+                        from: &[("employees", "e"), ("tasks", "t")],
+                        equal: None,
+                    }),
+                ),
+                (
+                    "b",
+                    Value::Count(Over {
+                        from: &[],
+                        equal: None,
+                    }),
+                ),
+                (
+                    "c",
+                    Value::SumOf(
+                        9223372036854775807,
+                        Over {
+                            from: &[("employees", "e")],
+                            equal: None,
+                        },
+                    ),
+                ),
+            ],
+            from: &[],
+            keep: Keep::All,
+        }],
+        rows: [
+            "12 1 9223372036854775805 ;",
+            "12 1 9223372036854775805 ;",
+            "12 1 9223372036854775805 ;",
+        ],
+    },
+    // The innermost alias counts.
+    Row {
+        with: None,
+        main: &[Chosen {
+            items: &[(
+                "s",
+                Value::Sum(
+                    ("x", "salary"),
+                    Over {
+                        from: &[("employees", "x")],
+                        equal: None,
+                    },
+                ),
+            )],
+            from: &[("t", "x")],
+            keep: Keep::All,
+        }],
+        rows: [
+            "2020900 ;2020900 ;",
+            "2020900 ;2020900 ;",
+            "2020900 ;2020900 ;",
+        ],
+    },
+    // A column of the row around is summed once for each of the four tasks.
+    Row {
+        with: None,
+        main: &[Chosen {
+            items: &[(
+                "s",
+                Value::Sum(
+                    ("x", "a"),
+                    Over {
+                        from: &[("tasks", "t")],
+                        equal: None,
+                    },
+                ),
+            )],
+            from: &[("t", "x")],
+            keep: Keep::All,
+        }],
+        rows: ["20 ;24 ;", "20 ;24 ;", "24 ;20 ;"],
+    },
+    // The sum of the counts of a WITH query.
+    Row {
+        with: Some((
+            "w",
+            Chosen {
+                items: &[(
+                    "k",
+                    Value::Count(Over {
+                        from: &[("tasks", "t")],
+                        equal: Some((("t", "employee"), ("e", "name"))),
+                    }),
+                )],
+                from: &[("employees", "e")],
+                keep: Keep::All,
+            },
+        )),
+        main: &[Chosen {
+            items: &[(
+                "s",
+                Value::Sum(
+                    ("w", "k"),
+                    Over {
+                        from: &[("w", "w")],
+                        equal: None,
+                    },
+                ),
+            )],
+            from: &[],
+            keep: Keep::All,
+        }],
+        rows: ["4 ;", "4 ;", "4 ;"],
     },
 ];
 

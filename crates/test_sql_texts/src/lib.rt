@@ -1,5 +1,5 @@
-//! Worked SQL texts with what is printed of them, the types of their columns, or their fault: tests alone, over the
-//! calls that are checked elsewhere.
+//! Worked SQL texts with what they are read as, what is printed of them, the types of their columns, or their fault:
+//! tests alone, over the calls that are checked elsewhere.
 #![tactic(auto)]
 
 #[cfg(test)]
@@ -8,5 +8,7 @@ mod printed;
 mod refused;
 #[cfg(test)]
 mod shown;
+#[cfg(test)]
+mod statements;
 #[cfg(test)]
 mod wide;

@@ -4,7 +4,7 @@ use std::process::Abort;
 use std::test::Fail;
 
 // A text, what is printed of it, and the types of its columns.
-const TEXTS: [(&str, &str, &str); 14] = [
+const TEXTS: [(&str, &str, &str); 20] = [
     (r#"SELECT -1 AS "n""#, r#"SELECT (- 1) AS "n""#, " Int"),
     (
         r#"sElEcT tRuE aS "n" -- and a "comment""#,
@@ -63,10 +63,43 @@ const TEXTS: [(&str, &str, &str); 14] = [
         r#"SELECT 1 AS "n" FROM "tasks" AS "x" WHERE (NOT EXISTS (SELECT 1 AS "n" FROM "employees" AS "x" WHERE (("x"."salary" = 1) AND (NOT EXISTS (SELECT 1 AS "n" WHERE (NOT EXISTS (SELECT "x"."salary" AS "n")))))))"#,
         " Int",
     ),
+    // Scalar queries, whose own parentheses are printed and those round them are not.
+    (
+        r#"SELECT (select count(*) where false) + 1 AS "n""#,
+        r#"SELECT ((SELECT COUNT(*) WHERE FALSE) + 1) AS "n""#,
+        " Int",
+    ),
+    (
+        r#"SELECT ((SELECT COUNT(*))) AS "n""#,
+        r#"SELECT (SELECT COUNT(*)) AS "n""#,
+        " Int",
+    ),
+    (
+        r#"SELECT (SELECT COALESCE(SUM("e"."salary" * 2 - 1), 0) FROM "employees" AS "e", "tasks" AS "t" WHERE "e"."name" = "t"."employee") > 1 AS "n""#,
+        r#"SELECT ((SELECT COALESCE(SUM((("e"."salary" * 2) - 1)), 0) FROM "employees" AS "e", "tasks" AS "t" WHERE ("e"."name" = "t"."employee")) > 1) AS "n""#,
+        " Bool",
+    ),
+    // The innermost alias counts: no row of the employees has a task.
+    (
+        r#"SELECT (SELECT COUNT(*) FROM "tasks" AS "x" WHERE "x"."task" = 'build') AS "n" FROM "employees" AS "x""#,
+        r#"SELECT (SELECT COUNT(*) FROM "tasks" AS "x" WHERE ("x"."task" = 'build')) AS "n" FROM "employees" AS "x""#,
+        " Int",
+    ),
+    // A count in a condition, in an order key, in a CASE and inside NOT EXISTS, and a sum of a count.
+    (
+        r#"SELECT ROW_NUMBER() OVER (ORDER BY (SELECT COUNT(*) FROM "employees" AS "e")) AS "n", CASE WHEN (SELECT COUNT(*)) = 1 THEN 'a' ELSE 'b' END AS "m" WHERE (SELECT COUNT(*)) > 1 AND NOT EXISTS (SELECT 1 AS "n" WHERE (SELECT COUNT(*)) = 1)"#,
+        r#"SELECT ROW_NUMBER() OVER (ORDER BY (SELECT COUNT(*) FROM "employees" AS "e")) AS "n", CASE WHEN ((SELECT COUNT(*)) = 1) THEN 'a' ELSE 'b' END AS "m" WHERE (((SELECT COUNT(*)) > 1) AND (NOT EXISTS (SELECT 1 AS "n" WHERE ((SELECT COUNT(*)) = 1))))"#,
+        " Int Text",
+    ),
+    (
+        r#"SELECT (SELECT COALESCE(SUM((SELECT COUNT(*) FROM "tasks" AS "t" WHERE "t"."employee" = "e"."name")), 0) FROM "employees" AS "e") AS "n""#,
+        r#"SELECT (SELECT COALESCE(SUM((SELECT COUNT(*) FROM "tasks" AS "t" WHERE ("t"."employee" = "e"."name"))), 0) FROM "employees" AS "e") AS "n""#,
+        " Int",
+    ),
 ];
 
 // The texts of worked queries, which are printed already, and the types of their columns.
-const PRINTED: [(&str, &str); 12] = [
+const PRINTED: [(&str, &str); 13] = [
     (
         r#"SELECT 0 AS "ot", 1 AS "on", "x1"."name" AS "c1", 1 AS "c2", ROW_NUMBER() OVER (ORDER BY "x1"."name") AS "c3" FROM "departments" AS "x1""#,
         " Int Int Text Int Int",
@@ -114,6 +147,10 @@ const PRINTED: [(&str, &str); 12] = [
     (
         r#"SELECT 0 AS "ot", 1 AS "on", "x1"."name" AS "c1", (NOT EXISTS (SELECT 1 AS "one" FROM "employees" AS "x2" WHERE ("x2"."dept" = "x1"."name") UNION ALL SELECT 1 AS "one" FROM "contacts" AS "x3" WHERE (("x3"."dept" = "x1"."name") AND (NOT EXISTS (SELECT 1 AS "one" FROM "tasks" AS "x4" WHERE ("x4"."employee" = "x3"."name")))))) AS "c2" FROM "departments" AS "x1""#,
         " Int Int Text Bool",
+    ),
+    (
+        r#"SELECT 0 AS "ot", 1 AS "on", "x1"."name" AS "c1", (SELECT COUNT(*) FROM "employees" AS "x2" WHERE ("x2"."dept" = "x1"."name")) AS "c2", (SELECT COALESCE(SUM("x3"."salary"), 0) FROM "employees" AS "x3" WHERE ("x3"."dept" = "x1"."name")) AS "c3" FROM "departments" AS "x1""#,
+        " Int Int Text Int Int",
     ),
 ];
 

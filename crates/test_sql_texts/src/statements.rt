@@ -5,7 +5,7 @@ use std::process::Abort;
 use std::test::Fail;
 
 // A text, the depth at which it is read, and what comes of it.
-const TEXTS: [(&str, u64, &str); 55] = [
+const TEXTS: [(&str, u64, &str); 56] = [
     ("SELECT -1 AS \"n\"", 0, "Deep { place: 0 }"),
     ("SELECT -1 AS \"n\"", 1, "Deep { place: 0 }"),
     ("SELECT -1 AS \"n\"", 2, "Deep { place: 7 }"),
@@ -24,8 +24,9 @@ const TEXTS: [(&str, u64, &str); 55] = [
     ("SELECT ROW_NUMBER() OVER () AS \"n\"", 2, "spelled"),
     ("SELECT 1 AS \"n\"", 2, "Deep { place: 7 }"),
     ("SELECT 1 AS \"n\"", 3, "spelled"),
-    ("SELECT (", 3, "Deep { place: 7 }"),
-    ("SELECT (", 4, "Unexpected { place: 8 }"),
+    ("SELECT (", 2, "Deep { place: 7 }"),
+    ("SELECT (", 3, "Unexpected { place: 8 }"),
+    ("SELECT ((", 3, "Deep { place: 8 }"),
     (
         "SELECT CASE WHEN TRUE THEN 1 ELSE 2 END AS \"n\"",
         3,
