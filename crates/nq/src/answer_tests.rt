@@ -30,7 +30,7 @@ const REFUSED: Row = Row {
     ..EARLY
 };
 
-const ROWS: [Row; 10] = [
+const ROWS: [Row; 38] = [
     EARLY,
     Row {
         sql: "SELECT \"d\".\"name\" AS \"n\" FROM \"departments\" AS \"d\" WHERE (NOT EXISTS (SELECT 1 AS \"one\" FROM \"employees\" AS \"e\" WHERE (\"e\".\"dept\" = \"d\".\"name\")))",
@@ -84,6 +84,147 @@ const ROWS: [Row; 10] = [
         note: "nq: table tasks refused: Header\n",
         ..REFUSED
     },
+    // Scalar queries: counts and sums.
+    Row {
+        sql: "SELECT (SELECT COUNT(*)) AS \"n\"",
+        out: "rows 1\n1\n",
+        ..EARLY
+    },
+    Row {
+        sql: "SELECT (SELECT COUNT(*) WHERE FALSE) AS \"n\"",
+        out: "rows 1\n0\n",
+        ..EARLY
+    },
+    Row {
+        sql: "SELECT (SELECT COUNT(*) FROM \"employees\" AS \"e\", \"tasks\" AS \"t\") AS \"n\"",
+        out: "rows 1\n12\n",
+        ..EARLY
+    },
+    Row {
+        sql: "SELECT \"d\".\"name\" AS \"d\", (SELECT COALESCE(SUM(\"e\".\"salary\"), 0) FROM \"employees\" AS \"e\" WHERE (\"e\".\"dept\" = \"d\".\"name\")) AS \"s\" FROM \"departments\" AS \"d\"",
+        out: "rows 4\n'Product'|20900\n'Quality'|0\n'Research'|0\n'Sales'|2000000\n",
+        ..EARLY
+    },
+    Row {
+        sql: "SELECT (SELECT COALESCE(SUM(9223372036854775807 + \"e\".\"salary\" * 0), 0) FROM \"employees\" AS \"e\") AS \"n\"",
+        out: "rows 1\n9223372036854775805\n",
+        ..EARLY
+    },
+    Row {
+        sql: "SELECT ((SELECT COUNT(*))) AS \"n\"",
+        out: "rows 1\n1\n",
+        ..EARLY
+    },
+    Row {
+        sql: "SELECT (select count(*)) + 1 AS \"n\"",
+        out: "rows 1\n2\n",
+        ..EARLY
+    },
+    Row {
+        sql: "SELECT \"d\".\"name\" AS \"n\" FROM \"departments\" AS \"d\" WHERE (SELECT COUNT(*) FROM \"employees\" AS \"e\" WHERE \"e\".\"dept\" = \"d\".\"name\") > 1",
+        out: "rows 1\n'Product'\n",
+        ..EARLY
+    },
+    Row {
+        sql: "SELECT \"d\".\"name\" AS \"d\", ROW_NUMBER() OVER (ORDER BY (SELECT COUNT(*) FROM \"employees\" AS \"e\" WHERE \"e\".\"dept\" = \"d\".\"name\"), \"d\".\"name\") AS \"n\" FROM \"departments\" AS \"d\"",
+        out: "rows 4\n'Product'|4\n'Quality'|1\n'Research'|2\n'Sales'|3\n",
+        ..EARLY
+    },
+    Row {
+        sql: "SELECT CASE WHEN (SELECT COUNT(*) FROM \"tasks\" AS \"t\") > 3 THEN 'many' ELSE 'few' END AS \"n\"",
+        out: "rows 1\n'many'\n",
+        ..EARLY
+    },
+    Row {
+        sql: "SELECT \"d\".\"name\" AS \"n\" FROM \"departments\" AS \"d\" WHERE NOT EXISTS (SELECT 1 AS \"one\" FROM \"employees\" AS \"e\" WHERE \"e\".\"dept\" = \"d\".\"name\" AND (SELECT COUNT(*) FROM \"tasks\" AS \"t\" WHERE \"t\".\"employee\" = \"e\".\"name\") < 2)",
+        out: "rows 3\n'Quality'\n'Research'\n'Sales'\n",
+        ..EARLY
+    },
+    Row {
+        sql: "WITH \"w\" AS (SELECT (SELECT COUNT(*) FROM \"tasks\" AS \"t\" WHERE \"t\".\"employee\" = \"e\".\"name\") AS \"n\" FROM \"employees\" AS \"e\") SELECT (SELECT COALESCE(SUM(\"w\".\"n\"), 0) FROM \"w\" AS \"w\") AS \"s\"",
+        out: "rows 1\n4\n",
+        ..EARLY
+    },
+    Row {
+        sql: "SELECT \"d\".\"name\" AS \"n\" FROM \"departments\" AS \"d\" WHERE (SELECT COUNT(*) FROM \"employees\" AS \"d\" WHERE \"d\".\"salary\" > 0) = 3",
+        out: "rows 4\n'Product'\n'Quality'\n'Research'\n'Sales'\n",
+        ..EARLY
+    },
+    Row {
+        sql: "SELECT (SELECT COALESCE(SUM(1), 00)) AS \"n\"",
+        note: "nq: sql refused: Unexpected at 32\n",
+        ..REFUSED
+    },
+    Row {
+        sql: "SELECT (SELECT COALESCE(SUM(1), 1)) AS \"n\"",
+        note: "nq: sql refused: Unexpected at 32\n",
+        ..REFUSED
+    },
+    Row {
+        sql: "SELECT (SELECT COUNT(1)) AS \"n\"",
+        note: "nq: sql refused: Unexpected at 21\n",
+        ..REFUSED
+    },
+    Row {
+        sql: "SELECT (SELECT SUM(1)) AS \"n\"",
+        note: "nq: sql refused: Unexpected at 15\n",
+        ..REFUSED
+    },
+    Row {
+        sql: "SELECT COUNT(*) AS \"n\"",
+        note: "nq: sql refused: Unexpected at 7\n",
+        ..REFUSED
+    },
+    Row {
+        sql: "SELECT (SELECT 1 AS \"n\") AS \"m\"",
+        note: "nq: sql refused: Unexpected at 15\n",
+        ..REFUSED
+    },
+    Row {
+        sql: "SELECT (SELECT COUNT(*) UNION ALL SELECT COUNT(*)) AS \"n\"",
+        note: "nq: sql refused: Unexpected at 24\n",
+        ..REFUSED
+    },
+    Row {
+        sql: "SELECT (SELECT COALESCE(SUM(1 + ), 0)) AS \"n\"",
+        note: "nq: sql refused: Unexpected at 32\n",
+        ..REFUSED
+    },
+    Row {
+        sql: "SELECT (SELECT COALESCE(SUM(TRUE), 0)) AS \"n\"",
+        note: "nq: sql refused: rule 10 at 28\n",
+        ..REFUSED
+    },
+    Row {
+        sql: "SELECT (SELECT COALESCE(SUM('a'), 0)) AS \"n\"",
+        note: "nq: sql refused: rule 10 at 28\n",
+        ..REFUSED
+    },
+    Row {
+        sql: "SELECT (SELECT COUNT(*) FROM \"nobody\" AS \"x\") AS \"n\"",
+        note: "nq: sql refused: rule 1 at 29\n",
+        ..REFUSED
+    },
+    Row {
+        sql: "SELECT (SELECT COUNT(*) FROM \"departments\" AS \"d\", \"departments\" AS \"d\") AS \"n\"",
+        note: "nq: sql refused: rule 2 at 51\n",
+        ..REFUSED
+    },
+    Row {
+        sql: "SELECT (SELECT COUNT(*) FROM \"tasks\" AS \"t\" WHERE 1) AS \"n\"",
+        note: "nq: sql refused: rule 6 at 50\n",
+        ..REFUSED
+    },
+    Row {
+        sql: "SELECT (SELECT COALESCE(SUM(\"y\".\"salary\"), 0) FROM \"employees\" AS \"e\") AS \"n\"",
+        note: "nq: sql refused: rule 3 at 28\n",
+        ..REFUSED
+    },
+    Row {
+        sql: "SELECT (SELECT COALESCE(SUM(TRUE), 0) WHERE 1) AS \"n\"",
+        note: "nq: sql refused: rule 6 at 44\n",
+        ..REFUSED
+    },
 ];
 
 // The inputs of a row, with so many spaces before its SQL text.
@@ -125,7 +266,7 @@ fn wanted(row: &Row) -> Wanted {
 fn writes_the_rows_of_each_text(rt: HostRuntime) -> Result<(), Fail> {
     let alloc = rt.alloc();
     for row in &ROWS {
-        for engine in [Engine::Plain, Engine::Crooked] {
+        for engine in [Engine::Plain, Engine::Crooked, Engine::Fast] {
             check_run(&rt, alloc, engine, inputs_of(alloc, row, 0)?, &wanted(row))?;
         }
     }

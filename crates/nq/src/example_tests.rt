@@ -330,6 +330,20 @@ for (p <- table products)
     for (m <- table lines) where (m.order == l.order && m.product != p.name) [m.product])]
 "#;
 
+const SHOP_TOTALS: &str = r#"nq 2;
+# Totals at two levels: what each order costs and how many lines it has, and what each customer ordered in all.
+let costs = fun (order: int) ->
+  sum(for (l <- table lines) where (l.order == order)
+      for (p <- table products) where (p.name == l.product) [l.pieces * p.price]);
+for (c <- table customers)
+[(customer = c.name,
+  number = count(for (o <- table orders) where (o.customer == c.id) [()]),
+  cents = sum(for (o <- table orders) where (o.customer == c.id) [costs(o.id)]),
+  orders = for (o <- table orders) where (o.customer == c.id)
+    [(day = o.day, cents = costs(o.id),
+      lines = count(for (l <- table lines) where (l.order == o.id) [()]))])]
+"#;
+
 const SHOP_UNPAID_SQL: &str = r#"SELECT "o"."id" AS "order", "c"."name" AS "customer"
 FROM "orders" AS "o", "customers" AS "c"
 WHERE "o"."customer" = "c"."id" AND NOT "o"."paid"
@@ -345,7 +359,7 @@ for (kind <- kinds)
 "#;
 
 // The runs in examples/shop.
-const SHOP: [Wanted; 17] = [
+const SHOP: [Wanted; 18] = [
     Wanted {
         words: &["run", "shop", "baskets", "data"],
         room: 2000,
@@ -399,6 +413,14 @@ const SHOP: [Wanted; 17] = [
         room: 2000,
         status: 0,
         out: r#"{(others = {}, product = 'stool'), (others = {'desk', 'lamp', 'lamp'}, product = 'pen'), (others = {'desk', 'pen', 'pen'}, product = 'lamp'), (others = {'lamp', 'pen'}, product = 'desk')}
+"#,
+        note: "",
+    },
+    Wanted {
+        words: &["run", "shop", "totals", "data"],
+        room: 2000,
+        status: 0,
+        out: r#"{(cents = 0, customer = 'Cy', number = 0, orders = {}), (cents = 31400, customer = 'Bo', number = 1, orders = {(cents = 31400, day = '2026-02-11', lines = 3)}), (cents = 37900, customer = 'Ann', number = 2, orders = {(cents = 13000, day = '2026-01-05', lines = 2), (cents = 24900, day = '2026-02-11', lines = 1)})}
 "#,
         note: "",
     },
@@ -550,6 +572,7 @@ fn files_of_shop(alloc: Global) -> Result<HeldInputs, Fail> {
     )?;
     put(alloc, &mut files, "shop", SHOP_SHOP.as_bytes())?;
     put(alloc, &mut files, "together", SHOP_TOGETHER.as_bytes())?;
+    put(alloc, &mut files, "totals", SHOP_TOTALS.as_bytes())?;
     put(alloc, &mut files, "unpaid.sql", SHOP_UNPAID_SQL.as_bytes())?;
     put(alloc, &mut files, "unsold", SHOP_UNSOLD.as_bytes())?;
     let long = padded(alloc, 1_048_577, "")?;

@@ -71,3 +71,5 @@ mod server_tests;
 mod sql_tests;
 #[cfg(test)]
 mod tests;
+#[cfg(test)]
+mod total_tests;

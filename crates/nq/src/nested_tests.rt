@@ -186,10 +186,20 @@ fn wanted(nested: &Nested) -> Wanted {
     }
 }
 
+/// Runs a query over a server.
+pub fn check_nested(
+    rt: &impl Abort,
+    alloc: Global,
+    engine: Engine,
+    nested: &Nested,
+) -> Result<(), Fail> {
+    let inputs = inputs_of(alloc, nested)?;
+    check_run(rt, alloc, engine, inputs, &wanted(nested))
+}
+
 fn check_each(rt: &impl Abort, alloc: Global, engine: Engine) -> Result<(), Fail> {
     for nested in &NESTED {
-        let inputs = inputs_of(alloc, nested)?;
-        check_run(rt, alloc, engine, inputs, &wanted(nested))?;
+        check_nested(rt, alloc, engine, nested)?;
     }
     Ok(())
 }

@@ -80,7 +80,8 @@ const SHOW: Row = Row {
     ..CHECK
 };
 
-const NORMAL: Row = Row {
+/// A query whose normal form is written.
+pub const NORMAL: Row = Row {
     words: &["show", "normal", "org", "q"],
     ..CHECK
 };
@@ -90,21 +91,23 @@ const PATHS: Row = Row {
     ..CHECK
 };
 
-const RUN: Row = Row {
+/// A query whose value is written.
+pub const RUN: Row = Row {
     words: &["run", "org", "q", "data"],
     query: "table departments",
     out: NAMES,
     ..CHECK
 };
 
-// A query that `check` refuses with a status and a note.
-const SYNTAX: Row = Row {
+/// A query text that `check` refuses.
+pub const SYNTAX: Row = Row {
     status: 4,
     out: "",
     ..CHECK
 };
 
-const TYPES: Row = Row {
+/// A query that `check` refuses for its types.
+pub const TYPES: Row = Row {
     status: 5,
     out: "",
     ..CHECK
@@ -358,6 +361,17 @@ pub fn inputs_of(alloc: Global, row: &Row, query: List<u8>) -> Result<HeldInputs
 
 /// Runs a row, whose query is this text.
 pub fn run_row(rt: &impl Abort, alloc: Global, row: &Row, query: List<u8>) -> Result<(), Fail> {
+    run_row_over(rt, alloc, Engine::Plain, row, query)
+}
+
+/// Runs a row, whose query is this text, over a server.
+pub fn run_row_over(
+    rt: &impl Abort,
+    alloc: Global,
+    engine: Engine,
+    row: &Row,
+    query: List<u8>,
+) -> Result<(), Fail> {
     let wanted = Wanted {
         words: row.words,
         room: row.room,
@@ -366,11 +380,11 @@ pub fn run_row(rt: &impl Abort, alloc: Global, row: &Row, query: List<u8>) -> Re
         note: row.note,
     };
     let inputs = inputs_of(alloc, row, query)?;
-    check_run(rt, alloc, Engine::Plain, inputs, &wanted)
+    check_run(rt, alloc, engine, inputs, &wanted)
 }
 
-// A text, so many opening brackets, another text, and as many closing ones.
-fn brackets(alloc: Global, first: &str, depth: usize, inner: &str) -> Result<List<u8>, Fail> {
+/// A text, so many opening brackets, another text, and as many closing ones.
+pub fn brackets(alloc: Global, first: &str, depth: usize, inner: &str) -> Result<List<u8>, Fail> {
     let mut bytes = padded(alloc, 0, first)?;
     for _ in 0..depth {
         bytes.push(b'[')?;

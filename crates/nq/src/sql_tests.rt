@@ -4,7 +4,8 @@ use crate::runs::{padded, written};
 use std::process::Abort;
 use std::test::Fail;
 
-const SQL: Row = Row {
+/// A query whose SQL texts are written.
+pub const SQL: Row = Row {
     words: &["show", "sql", "org", "q"],
     ..CHECK
 };
