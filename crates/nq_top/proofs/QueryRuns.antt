@@ -20,8 +20,8 @@ use Rattle.nq_top.specs.Plans.{AreReadFor, Question, query_plan, sql_plan}
 use Rattle.nq_top.specs.Reading.{PlainReading, Reading, type_read}
 use Rattle.nq_top.specs.declared.gathered.Gathered.{Gathered}
 use Rattle.nq_top.specs.declared.gathered.Gathered.TheVariants as gathered
-use Rattle.refusals.specs.declared.refusal.InputRefusal.{InputRefusal}
-use Rattle.refusals.specs.declared.refusal.InputRefusal.TheVariants as input
+use Rattle.command_line.specs.declared.refusal.InputRefusal.{InputRefusal}
+use Rattle.command_line.specs.declared.refusal.InputRefusal.TheVariants as input
 use Rattle.nq_top.proofs.Gathers.{reads_all, tells_nothing}
 use Rattle.nq_top.proofs.Plans.{servable, holds, sql_servable, sql_sound}
 use Rattle.nq_top.proofs.Showings.{ResultIs, TextsAre, TextsShred}

@@ -2,15 +2,15 @@
 use Rattle.std.proofs.Common.{◌≡◌, ◌<◌, ◌↔◌, ℕ, Bool, true, List, Option, Ok, Err, refl, sym, ap, ◌∙◌, subst, IfSome}
 use Rattle.nq_edge.specs.Edge.{Files}
 use Rattle.sql_profile.specs.Servers.{RoseBelow}
-use Rattle.refusals.specs.Noting.{Notes}
-use Rattle.refusals.specs.Refusals.{refused_status, status_of}
+use Rattle.command_line.specs.Noting.{Notes}
+use Rattle.command_line.specs.Refusals.{refused_status, status_of}
 use Rattle.nq_execute.specs.Serving.{ServerState}
 use Rattle.nq_top.specs.Running.{Answer, InputCount, OutputCount, ServerCount, PutsOnly, Keeps, AskedOnly, Blames, RoseAt, ServerRoseAt, PutsAt, KeepsAt, AskedAt, Comes}
-use Rattle.refusals.specs.declared.refusal.Refused.{Refused}
-use Rattle.refusals.specs.declared.refusal.Refused.TheVariants as refused
-use Rattle.refusals.specs.declared.refusal.InputRefusal.TheVariants as input
+use Rattle.command_line.specs.declared.refusal.Refused.{Refused}
+use Rattle.command_line.specs.declared.refusal.Refused.TheVariants as refused
+use Rattle.command_line.specs.declared.refusal.InputRefusal.TheVariants as input
 use Rattle.nq_execute.specs.declared.refusal.ServerRefusal.TheVariants as server
-use Rattle.refusals.specs.declared.refusal.Refusal.TheVariants as refusal
+use Rattle.command_line.specs.declared.refusal.Refusal.TheVariants as refusal
 
 -- what holds of the statuses of refused inputs
 at_refusal : (P : ℕ → Type 0) → P 2 → P 3 → P 4 → P 5 → P 6 → P 10 → P 12 → (r : Refused) → P (refused_status r)

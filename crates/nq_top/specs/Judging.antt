@@ -6,17 +6,17 @@ use Rattle.nq_model.specs.declared.table.Cell.{Cell}
 use Rattle.nq_model.specs.declared.table.Schema.{Schema}
 use Rattle.nq_model.specs.declared.table.TableShape.{TableShape}
 use Rattle.nq_edge.specs.Edge.{Files, bytes_at}
-use Rattle.show_texts.specs.Paths.{paths_text}
+use Rattle.command_line.specs.Paths.{paths_text}
 use Rattle.sql_profile.specs.declared.server.Loaded.{Loaded}
-use Rattle.command_words.specs.Commands.{Aim, run, check, show_types, show_normal, show_paths, show_sql, Command, help, version, of_query, answer, generated, command_of}
+use Rattle.command_line.specs.Commands.{Aim, run, check, show_types, show_normal, show_paths, show_sql, Command, help, version, of_query, answer, generated, command_of}
 use Rattle.nq_top.specs.Lines.{file_of, accepted_line, type_line}
-use Rattle.command_words.specs.Help.{help_text, version_text}
+use Rattle.command_line.specs.Help.{help_text, version_text}
 use Rattle.nq_execute.specs.Plans.{Plan}
 use Rattle.nq_top.specs.Plans.{Question, query_plan, sql_plan, generated_plan, generated_question}
 use Rattle.nq_top.specs.Reading.{PlainReading, Reading, SqlColumns, schema_read, term_read, type_read, rows_read, sql_read}
 use Rattle.nq_top.specs.Shown.{Shown, shown_form, form_line, shown_texts, shown_frames}
-use Rattle.refusals.specs.declared.refusal.Refused.{Refused}
-use Rattle.refusals.specs.declared.refusal.Refused.TheVariants.{Usage, TooLong}
+use Rattle.command_line.specs.declared.refusal.Refused.{Refused}
+use Rattle.command_line.specs.declared.refusal.Refused.TheVariants.{Usage, TooLong}
 
 -- The first refusal; or a name that is not held, whose fetch fails; or the text that is written; or the plan of a question,
 -- over the tables of the schema in its order.

@@ -14,7 +14,7 @@ use crate::tables::{TABLES_LIMIT, gather_tables};
 use nq_edge::Inputs;
 use nq_execute::{Finish, Plan};
 use nq_model::{ColumnType, List, Memory, Schema, Text};
-use refusals::{InputRefusal, Refused};
+use command_line::{InputRefusal, Refused};
 use sql_profile::Loaded;
 use std::alloc::Global;
 

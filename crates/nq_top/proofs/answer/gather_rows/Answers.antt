@@ -5,8 +5,8 @@ use Rattle.nq_execute.specs.Plans.{Finish, Plan, plan_view}
 use Rattle.nq_execute.specs.declared.plan.Plan.{Plan as Asked}
 use Rattle.nq_top.specs.Plans.{sql_plan}
 use Rattle.nq_top.specs.declared.gathered.Gathered.{Gathered}
-use Rattle.refusals.specs.declared.refusal.InputRefusal.{InputRefusal}
-use Rattle.refusals.specs.declared.refusal.InputRefusal.TheVariants as input
+use Rattle.command_line.specs.declared.refusal.InputRefusal.{InputRefusal}
+use Rattle.command_line.specs.declared.refusal.InputRefusal.TheVariants as input
 use Rattle.nq_top.proofs.QueryRuns.{RowsTold, rows_want, rows_servable, rows_go, rows_stop}
 use Rattle.nq_top.proofs.answer.gather_rows.Goals as goal
 

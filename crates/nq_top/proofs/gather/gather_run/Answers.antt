@@ -2,7 +2,7 @@ use Rattle.std.proofs.Common.{◌≡◌, Result, Err, sym, subst, rules}
 use Rattle.nq_model.specs.Terms.{placed}
 use Rattle.nq_model.specs.Types.{type_tree}
 use Rattle.nq_top.specs.declared.gathered.Gathered.{Gathered}
-use Rattle.refusals.specs.declared.refusal.InputRefusal.{InputRefusal}
+use Rattle.command_line.specs.declared.refusal.InputRefusal.{InputRefusal}
 use Rattle.nq_top.proofs.Showings.{typed_accepted}
 use Rattle.nq_top.proofs.QueryRuns.{RunTold, run_servable, run_goes, run_stops}
 use Rattle.nq_top.proofs.gather.gather_run.Goals as goal

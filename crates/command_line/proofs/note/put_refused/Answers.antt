@@ -1,0 +1,10 @@
+use Rattle.command_line.proofs.note.put_refused.Goals as goal
+
+pub returns-in-TooLong : goal.returns-in-TooLong
+returns-in-TooLong g c = rw c.in-TooLong.is (rw c.as_str.ensures.value at (rw c.as_bytes.ensures.value at c.put_too_long.ensures))
+
+pub returns-in-IllTyped : goal.returns-in-IllTyped
+returns-in-IllTyped g c = rw c.in-IllTyped.is c.put_ill_typed.ensures
+
+pub returns-in-IllScoped : goal.returns-in-IllScoped
+returns-in-IllScoped g c = rw c.in-IllScoped.is c.put_ill_scoped.ensures

@@ -1,0 +1,13 @@
+use Rattle.command_line.proofs.note.put_table.Goals as goal
+
+pub returns-in-NotUtf8 : goal.returns-in-NotUtf8
+returns-in-NotUtf8 g c = rw c.in-NotUtf8.is c.put_table_fault.ensures
+
+pub returns-in-BadInt : goal.returns-in-BadInt
+returns-in-BadInt g c = rw c.in-BadInt.is c.put_table_fault-in-BadInt.ensures
+
+pub returns-in-BadBool : goal.returns-in-BadBool
+returns-in-BadBool g c = rw c.in-BadBool.is c.put_table_fault-in-BadBool.ensures
+
+pub returns-in-TwiceKey : goal.returns-in-TwiceKey
+returns-in-TwiceKey g c = rw c.in-TwiceKey.is c.put_table_fault-in-TwiceKey.ensures

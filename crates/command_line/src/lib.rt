@@ -1,0 +1,19 @@
+//! The command line: the words of each command, the texts that `--help`, `--version` and `show` write, and why a command gives
+//! no text, with the status and the note line of each answer.
+#![tactic(auto)]
+
+mod frame;
+mod help;
+mod note;
+mod paths;
+mod refusal;
+mod status;
+mod words;
+
+pub use frame::frames;
+pub use help::{help_text, version_text};
+pub use note::put_note;
+pub use paths::paths_text;
+pub use refusal::{InputRefusal, Refusal, Refused};
+pub use status::status_of;
+pub use words::{Aim, Command, command_of};

@@ -1,0 +1,137 @@
+// The words of the command line.
+ghost use Rattle.std.specs.Prelude.{◌≡◌, IfSome, map, option_map, string_bytes};
+ghost use Rattle.command_line.specs.Commands.{one_word, two_words, three_words, shown, four_words, command_of};
+ghost use Rattle.command_line.specs.Words.{HasSize, aim_view, command_view};
+
+use generated_inputs::size_of;
+
+/// What is done with a query that is accepted.
+#[derive(Clone, Copy)]
+pub enum Aim<'a> {
+    /// Its value is written, over the table texts of the folder of this name.
+    Run(&'a str),
+    /// That it is accepted is written.
+    Check,
+    /// Its type is written.
+    ShowTypes,
+    /// Its normal form is written.
+    ShowNormal,
+    /// The paths of its type are written.
+    ShowPaths,
+    /// The SQL texts that shred it are written.
+    ShowSql,
+}
+
+/// What the words ask for.
+#[derive(Clone, Copy)]
+pub enum Command<'a> {
+    Help,
+    Version,
+    /// An aim, with the names of the schema and of the query.
+    OfQuery(Aim<'a>, &'a str, &'a str),
+    /// The names of the schema, of the SQL text and of the folder of the table texts.
+    Answer(&'a str, &'a str, &'a str),
+    /// The size of generated tables.
+    Generated(u64),
+}
+
+// The command of one word.
+fn one_word<'a>(word: &str) -> Option<Command<'a>>
+    ensures is { option_map command_view result ≡ one_word word.now }
+    ensures sized { IfSome result HasSize }
+{
+    if word == "--help" {
+        Some(Command::Help)
+    } else if word == "--version" {
+        Some(Command::Version)
+    } else {
+        None
+    }
+}
+
+// The command of two words.
+fn two_words<'a>(word: &str, size: &str) -> Option<Command<'a>>
+    ensures is { option_map command_view result ≡ two_words word.now size.now }
+    ensures sized { IfSome result HasSize }
+{
+    if word != "gen" {
+        return None;
+    }
+    match size_of(size) {
+        Some(size) => Some(Command::Generated(size)),
+        None => None,
+    }
+}
+
+// The command of three words.
+fn three_words<'a>(word: &str, schema: &'a str, query: &'a str) -> Option<Command<'a>>
+    ensures is { option_map command_view result ≡ three_words word.now schema.now query.now }
+    ensures sized { IfSome result HasSize }
+{
+    if word == "check" {
+        Some(Command::OfQuery(Aim::Check, schema, query))
+    } else {
+        None
+    }
+}
+
+// What is shown.
+fn shown<'a>(what: &str) -> Option<Aim<'a>>
+    ensures { option_map aim_view result ≡ shown what.now }
+{
+    if what == "types" {
+        Some(Aim::ShowTypes)
+    } else if what == "normal" {
+        Some(Aim::ShowNormal)
+    } else if what == "paths" {
+        Some(Aim::ShowPaths)
+    } else if what == "sql" {
+        Some(Aim::ShowSql)
+    } else {
+        None
+    }
+}
+
+// The command of four words.
+fn four_words<'a>(
+    word: &str,
+    second: &'a str,
+    third: &'a str,
+    fourth: &'a str,
+) -> Option<Command<'a>>
+    ensures is { option_map command_view result ≡ four_words word.now second.now third.now fourth.now }
+    ensures sized { IfSome result HasSize }
+{
+    if word == "run" {
+        Some(Command::OfQuery(Aim::Run(fourth), second, third))
+    } else if word == "answer" {
+        Some(Command::Answer(second, third, fourth))
+    } else if word == "show" {
+        match shown(second) {
+            Some(aim) => Some(Command::OfQuery(aim, third, fourth)),
+            None => None,
+        }
+    } else {
+        None
+    }
+}
+
+/// The command that words are, if they are one. It takes no memory.
+#[tactic(auto, unfolding(crate::specs::Commands::command_of))]
+pub fn command_of<'a>(words: &'a [String]) -> Option<Command<'a>>
+    ensures is { option_map command_view result ≡ command_of (map (λ word. string_bytes word) words.now) }
+    ensures sized { IfSome result HasSize }
+{
+    match words {
+        [word] => one_word(word.as_str()),
+        [word, size] => two_words(word.as_str(), size.as_str()),
+        [word, schema, query] => three_words(word.as_str(), schema.as_str(), query.as_str()),
+        [word, second, third, fourth] => four_words(
+            word.as_str(),
+            second.as_str(),
+            third.as_str(),
+            fourth.as_str(),
+        ),
+        _ => None,
+    }
+}

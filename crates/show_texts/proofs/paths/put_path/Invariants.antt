@@ -1,6 +1,0 @@
-use Rattle.std.proofs.Common.{◌≡◌, ◌++◌, drop}
-use Rattle.show_texts.specs.Paths.{steps_text}
-use Rattle.show_texts.proofs.paths.put_path.Given as goal
-
-abbrev pub invariant-loop-step : goal.invariant-loop-step
-invariant-loop-step l = l.text ++ steps_text (drop l.step-index l.steps) ≡ l.initial.text ++ steps_text l.steps
