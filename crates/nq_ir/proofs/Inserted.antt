@@ -1,5 +1,5 @@
 -- What the let form of a shredded form of a well-formed form is.
-use Rattle.std.proofs.Common.{◌≡◌, ◌≢◌, ℕ, zero, suc, ◌<◌, ◌≤◌, List, [], ◌∷◌, ◌++◌, map, refl, sym, ap, ap₂, ◌∙◌, subst, Bool, true, false, cond, nat_eq, arith, bytes_eq}
+use Rattle.std.proofs.Common.{◌≡◌, ◌≢◌, ℕ, zero, suc, ◌≤◌, List, [], ◌∷◌, map, refl, sym, ap, ◌∙◌, subst, Bool, true, false, cond, nat_eq, arith, bytes_eq}
 use Rattle.std.specs.List.{AllByRecursion as Each}
 use Rattle.nq_model.proofs.Canonical.{reordered_sorted}
 use Rattle.nq_model.proofs.Numberings.{each_map, each_reordered}
@@ -13,12 +13,12 @@ use Rattle.nq_ir.specs.Among.{Among, first, later}
 use Rattle.nq_ir.specs.Lets.{LetTree, PartTree, Inserts, by_parent, insert_lets, let_around, let_number, lets_after, lets_of, part_from, parts_on, strand_of}
 use Rattle.nq_ir.specs.Paths.{paths}
 use Rattle.nq_ir.specs.Shredded.{ShreddedTree, IsShreddedOf, IsRising, shredded}
-use Rattle.nq_ir.specs.Spots.{PlacedComp, StrandTree, by_tag, comps_at, comps_below, comps_in, levels, placed, shaped, strands_at}
+use Rattle.nq_ir.specs.Spots.{PlacedComp, StrandTree, comps_at, comps_below, comps_in, levels, placed, shaped, strands_at}
 use Rattle.nq_ir.specs.Trees.{Bodies, BodyTree, Comps, Conds, FormTree, bag_body, comp, no_body, no_comp, no_cond, plain_body, rec_body, with_body}
 use Rattle.nq_ir.specs.WellFormed.{IsNumber, IsWellFormed, bodies_tags, body_tags, comps_tags, comps_numbers}
 use Rattle.nq_ir.proofs.Allowed.{each_mapped, each_unmapped}
 use Rattle.nq_ir.proofs.Ascending.{sorted_rises}
-use Rattle.nq_ir.proofs.Distinct.{Distinct, among_map, distinct, each_among, each_join, each_left, each_right}
+use Rattle.nq_ir.proofs.Distinct.{Distinct, distinct, each_among, each_join, each_left, each_right}
 use Rattle.nq_ir.proofs.Fits.{typed_comps_fit}
 use Rattle.nq_ir.proofs.Insert.{Around, each_let, lets_known, parents_rise, strands_again}
 use Rattle.nq_ir.proofs.Levels.{levels_all, levels_apart}

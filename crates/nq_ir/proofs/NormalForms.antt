@@ -48,6 +48,21 @@ from_one xs k m e l =
     let n : length xs ≡ k = ap length e ∙ counted_length 1 k in
     subst (λ (z : List ℕ). Each (λ y. (1 ≤ y) × (y < m)) z) (sym e) (counted_within 1 k m (omega arith) (omega arith))
 
+-- a list that counts from 1 counts as far as it is long
+counts_on : (xs : List ℕ) (k : ℕ) → xs ≡ count_from 1 k → xs ≡ count_from 1 (length xs)
+counts_on xs k e = e ∙ ap (count_from 1) (sym (ap length e ∙ counted_length 1 k))
+
+-- its tags count from 1, and so do its generator numbers
+pub tags_count : (shapes : List TableShape) (a : TypeTree) (m : TermTree) → comps_tags (normal_form shapes a m).comps ≡ count_from 1 (length (comps_tags (normal_form shapes a m).comps))
+tags_count shapes a m =
+    let cs = raw_comps_in (raw_form shapes m []) in
+    counts_on (comps_tags (number_comps 1 1 [] a cs)) (tags_in_comps cs) (tags_in_order cs a)
+
+pub numbers_count : (shapes : List TableShape) (a : TypeTree) (m : TermTree) → comps_numbers (normal_form shapes a m).comps ≡ count_from 1 (length (comps_numbers (normal_form shapes a m).comps))
+numbers_count shapes a m =
+    let cs = raw_comps_in (raw_form shapes m []) in
+    counts_on (comps_numbers (number_comps 1 1 [] a cs)) (gens_in_comps cs) (numbers_in_order cs a)
+
 module _ (schema : Schema) (proper : IsProperSchema schema) where
   proper_shapes : Each IsProperShape schema.tables
   proper_shapes = recursion_from_All IsProperShape schema.tables proper.proper

@@ -1,21 +1,21 @@
 -- The pairs of a shredded form are the spots of its parents, each with each of its children.
-use Rattle.std.proofs.Common.{◌≡◌, ℕ, zero, suc, ◌<◌, List, [], ◌∷◌, ◌++◌, map, refl, sym, ap, ap₂, ◌∙◌, subst, subst₂, Bool, true, false, cond, filter, flat_map, nat_eq, arith, true≢false, append-nil, append_assoc, ⊎_elim}
+use Rattle.std.proofs.Common.{◌≡◌, ℕ, ◌<◌, List, [], ◌∷◌, ◌++◌, map, refl, sym, ap, ap₂, ◌∙◌, subst, subst₂, Bool, true, false, cond, filter, flat_map, nat_eq, arith, true≢false, append_assoc}
 use Rattle.std.specs.List.{AllByRecursion as Each}
 use Rattle.std.proofs.lemmas.Bool.Decides.{Decides-eqb}
 use Rattle.nq_model.proofs.Bags.{reordered_append, reordered_refl, reordered_swap, reordered_sym, reordered_trans, matched_flat_map}
-use Rattle.nq_model.specs.Bags.{Matched, Pick, Reordered, here, there}
+use Rattle.nq_model.specs.Bags.{Pick, Reordered, here, there}
 use Rattle.nq_ir.specs.declared.base.Gen.{Gen}
 use Rattle.nq_ir.specs.Among.{Among, first, later}
 use Rattle.nq_ir.specs.Lets.{LetTree, lets_of}
 use Rattle.nq_ir.specs.Meanings.{Env, Tables, kept}
 use Rattle.nq_ir.specs.Shredded.{IsRising}
-use Rattle.nq_ir.specs.Spots.{Child, Spot, StrandTree, children, children_of, outer_spots, shredded_rows, strand_rows, top_spot}
+use Rattle.nq_ir.specs.Spots.{Child, Spot, StrandTree, children, children_of, outer_spots, shredded_rows, strand_rows}
 use Rattle.nq_ir.specs.Trees.{Conds, no_cond}
 use Rattle.nq_ir.specs.Written.{PairsAreChildren, let_spots, parent_spots}
 use Rattle.nq_ir.proofs.Distinct.{Distinct, each_among}
 use Rattle.nq_ir.proofs.Equal.{nat_differ, nat_same}
 use Rattle.nq_ir.proofs.Insert.{Around, have_parents, lets_at, let_at, parents_rise}
-use Rattle.nq_ir.proofs.Nested.{flat_flat, flat_of_map, flat_same, map_flat}
+use Rattle.nq_ir.proofs.Nested.{flat_flat, map_flat}
 
 -- numbers that rise differ
 rising_apart : (ns : List ℕ) → IsRising ns → Distinct ns

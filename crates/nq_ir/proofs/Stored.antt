@@ -6,7 +6,7 @@ use Rattle.std.proofs.lemmas.Slice.Eq.{bytes_eq-Decides}
 use Rattle.std.proofs.lemmas.List.Elements.{recursion_from_All}
 use Rattle.nq_model.proofs.Numberings.{each_map}
 use Rattle.nq_model.specs.Cells.{RowFits, column_type_of}
-use Rattle.nq_model.specs.Databases.{FilledTable, filled, database}
+use Rattle.nq_model.specs.Databases.{database}
 use Rattle.nq_model.specs.Numberings.{TellsApart}
 use Rattle.nq_model.specs.Orders.{AreDistinct}
 use Rattle.nq_model.specs.SchemaTables.{AreTablesOf}

@@ -16,7 +16,6 @@ use Rattle.nq_model.specs.Types.{TypeTree, FieldTypes}
 use Rattle.nq_model.specs.Typing.{HasType, HaveTypes, shape_named}
 use Rattle.nq_model.specs.Values.{Nested, base, rec, fields_of, bag_of, Same, SameFields}
 use Rattle.nq_model.specs.declared.table.Cell.{Cell}
-use Rattle.nq_model.specs.declared.table.Cell.TheVariants as cell
 use Rattle.nq_model.specs.declared.table.Schema.{Schema}
 use Rattle.nq_model.specs.declared.table.TableShape.{TableShape}
 use Rattle.nq_model.proofs.Bags.{matched_append, matched_flat_map, matched_refl, matched_reordered}
@@ -28,7 +27,7 @@ use Rattle.nq_ir.specs.WellFormed.{columns_or_none, table_columns}
 use Rattle.nq_ir.proofs.Equal.{bytes_same, bytes_differ}
 use Rattle.nq_ir.proofs.RawMeanings.{raw_value, raw_meaning, raw_fields_meaning, raw_comps_meaning, Run, runs, runs_values, runs_length, append_means, each_comp_means}
 use Rattle.nq_ir.proofs.RawTypes.{under, RawBodyHas, RawCompsHave, EachHas, bodies_under, comps_have, raw_has, shape_found}
-use Rattle.nq_ir.proofs.RawChoices.{matched_unmap, matched_each, Related, related_up, related_at, cell_means, elements_mean, field_means, tests_mean, none_matched, where_means, put_value, put_listed, same_put, put_means, choose_means, aggregate_means}
+use Rattle.nq_ir.proofs.RawChoices.{matched_unmap, matched_each, Related, related_up, related_at, cell_means, elements_mean, field_means, where_means, put_value, put_listed, same_put, put_means, choose_means, aggregate_means}
 use Rattle.nq_ir.proofs.RawMeanings.{picks, raw_true}
 use Rattle.nq_ir.proofs.Distinct.{each_join}
 

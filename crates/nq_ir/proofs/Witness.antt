@@ -16,11 +16,9 @@ use Rattle.nq_model.specs.Databases.{database}
 use Rattle.nq_model.specs.SchemaTables.{AreTablesOf, IsSound}
 use Rattle.nq_model.specs.Tables.{IsProperName, IsProperSchema, IsProperShape}
 use Rattle.nq_model.specs.declared.table.Schema.{Schema}
-use Rattle.std.specs.List.{AllByRecursion as Each}
 use Rattle.nq_model.proofs.Bags.{reordered_refl}
-use Rattle.nq_model.specs.Bags.{Reordered, here, there}
+use Rattle.nq_model.specs.Bags.{here, there}
 use Rattle.nq_model.specs.NamedRows.{Row}
-use Rattle.nq_model.specs.Numberings.{Numbers, key_lt}
 use Rattle.nq_model.specs.declared.table.Cell.{Cell}
 use Rattle.nq_model.specs.declared.table.ColumnType.TheVariants as column_type
 use Rattle.nq_ir.specs.Lets.{AllGive, Deals, FlatRow, FormGives, LetRow, insert_lets}

@@ -1,24 +1,23 @@
 -- The rows of a let form write the pairs of its shredded form.
-use Rattle.std.proofs.Common.{◌≡◌, ℕ, zero, suc, ◌<◌, ◌≤◌, List, [], ◌∷◌, ◌++◌, map, refl, sym, ap, ap₂, ◌∙◌, subst, Bool, flat_map, get_or, length, arith, zip}
+use Rattle.std.proofs.Common.{◌≡◌, ℕ, suc, List, [], ◌∷◌, ◌++◌, map, refl, sym, ap, ◌∙◌, subst, flat_map, length, arith, zip}
 use Rattle.std.specs.List.{AllByRecursion as Each}
 use Rattle.std.specs.Cmp.Lexicographic.{slice_cmp}
 use Rattle.std.proofs.lemmas.Cmp.{lists_total}
-use Rattle.nq_model.proofs.Bags.{matched_append, matched_flat_map, matched_map, matched_trans, matched_reordered, reordered_matched, reordered_refl, reordered_sym, reordered_trans}
+use Rattle.nq_model.proofs.Bags.{matched_append, matched_flat_map, matched_trans, reordered_refl, reordered_sym, reordered_trans}
 use Rattle.nq_model.proofs.Canonical.{cell_order}
-use Rattle.nq_model.proofs.Numberings.{each_map, each_pick, each_two_reordered, key_ranks, length_map, numbers_fixed_by, reordered_map}
-use Rattle.nq_model.specs.Bags.{Matched, Pick, Reordered, here, there}
+use Rattle.nq_model.proofs.Numberings.{each_map, each_two_reordered, key_ranks, length_map, numbers_fixed_by, reordered_map}
+use Rattle.nq_model.specs.Bags.{Matched, Reordered, here}
 use Rattle.nq_model.specs.Cells.{cell_cmp}
 use Rattle.nq_model.specs.NamedRows.{Label}
-use Rattle.nq_model.specs.Numberings.{Numbers, Rises, TellsApart, key_lt, numbered}
+use Rattle.nq_model.specs.Numberings.{Numbers, TellsApart, key_lt, numbered}
 use Rattle.nq_model.specs.declared.table.Cell.{Cell}
 use Rattle.nq_ir.specs.declared.base.Gen.{Gen}
-use Rattle.nq_ir.specs.Among.{Among, first, later}
-use Rattle.nq_ir.specs.Lets.{Deals, FlatRow, FormGives, LetGives, LetRow, LetTree, PartGives, PartTree, PartsGive, Side, combos, head_of, key_of, let_of, let_rows, no_let, part_rows, strand_of, tail_of}
-use Rattle.nq_ir.specs.Meanings.{EachBoth, Env, Tables, kept, value}
+use Rattle.nq_ir.specs.Among.{Among}
+use Rattle.nq_ir.specs.Lets.{Deals, FlatRow, LetRow, PartGives, PartsGive, Side, combos, head_of, key_of, part_rows, tail_of}
+use Rattle.nq_ir.specs.Meanings.{Env, Tables, kept, value}
 use Rattle.nq_ir.specs.Spots.{Child, Spot, StrandTree, both, children_of, outer_spots, shape_leaves, shape_slots, shredded_rows, strand_rows}
 use Rattle.nq_ir.specs.Trees.{Conds}
 use Rattle.nq_ir.specs.Written.{Writes, WriteAll, numbered_spots}
-use Rattle.nq_ir.proofs.Allowed.{both_at}
 use Rattle.nq_ir.proofs.Legible.{among_reordered, combos_envs, each_among, matched_map_right}
 use Rattle.nq_ir.proofs.Nested.{each_mapped, map_of_map}
 use Rattle.nq_ir.proofs.Sorting.{sort_by, sort_reorders, sort_rises, sorted_is}

@@ -1,9 +1,8 @@
 -- The pairs and the rows of the forms at the paths of a well-formed form.
-use Rattle.std.proofs.Common.{◌≡◌, ℕ, zero, suc, ◌<◌, ◌≤◌, List, [], ◌∷◌, ◌++◌, map, refl, sym, ap, ◌∙◌, subst, get_or, length, arith}
+use Rattle.std.proofs.Common.{◌≡◌, ℕ, zero, suc, ◌≤◌, List, [], ◌∷◌, ◌++◌, map, refl, sym, ◌∙◌, subst, get_or, length, arith}
 use Rattle.std.specs.List.{AllByRecursion as Each}
 use Rattle.nq_model.proofs.Bags.{reordered_matched, reordered_refl}
-use Rattle.nq_model.proofs.Canonical.{reordered_sorted}
-use Rattle.nq_model.proofs.Numberings.{each_map, each_reordered}
+use Rattle.nq_model.proofs.Numberings.{each_reordered}
 use Rattle.nq_model.specs.Bags.{Reordered}
 use Rattle.nq_model.specs.Databases.{database}
 use Rattle.nq_model.specs.NamedRows.{Label}
@@ -16,7 +15,7 @@ use Rattle.nq_ir.specs.Lets.{FlatRow, FormGives, LetGives, LetRow, LetTree, Part
 use Rattle.nq_ir.specs.Meanings.{EachBoth, Tables, kept, rows_in}
 use Rattle.nq_ir.specs.Shredded.{IsShreddedOf, ShreddedTree, shredded}
 use Rattle.nq_ir.specs.Spots.{PlacedComp, StrandTree, both, shaped}
-use Rattle.nq_ir.specs.WellFormed.{column_names, comps_numbers, numbers}
+use Rattle.nq_ir.specs.WellFormed.{column_names, numbers}
 use Rattle.nq_ir.specs.Written.{PairsAreChildren, WriteAll, Writes, numbered_spots}
 use Rattle.nq_ir.proofs.Allowed.{both_at, each_two, each_unmapped}
 use Rattle.nq_ir.proofs.Distinct.{Distinct, distinct_sub, sub_left}

@@ -1,8 +1,9 @@
 -- The normal form of a plain term, with tags and generator numbers.
 --
 -- Tags count the comprehensions from 1 in pre-order: a comprehension, then those in its body, fields in label order,
--- then the next of the union; those of emptiness tests have none. Generators are numbered from 1 in the order of the
--- printed text, emptiness tests included: the generators of a comprehension, its conditions, its body, then the next.
+-- then the next of the union; those of tests, counts and sums have none. Generators are numbered from 1 in the order of
+-- the printed text, those of tests, counts and sums too: the generators of a comprehension, its conditions, its body,
+-- then the next.
 use Rattle.std.specs.Prelude.{ℕ, suc, ◌+◌, List, [], ◌∷◌, length, get_or}
 use Rattle.nq_model.specs.Terms.{TermTree}
 use Rattle.nq_model.specs.Types.{TypeTree, int, bool, text, rec, bag, fun, FieldTypes, none, field}

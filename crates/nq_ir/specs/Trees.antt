@@ -37,7 +37,7 @@ mutual
     no_cond : Conds
     and_cond : BaseTree → Conds → Conds
 
-  -- comprehensions of an emptiness test: generators and conditions
+  -- the comprehensions of an emptiness test, each with generators and conditions
   pub data Tests : Type 0 where
     no_test : Tests
     test : List Gen → Conds → Tests → Tests
@@ -73,7 +73,7 @@ abbrev pub conds_of : List BaseTree → Conds
 conds_of [] = no_cond
 conds_of (b ∷ bs) = and_cond b (conds_of bs)
 
--- one comprehension of a test
+-- one comprehension that is tested, counted or summed over
 pub record TestPart : Type 0 where
   pub gens : List Gen
   pub conds : Conds

@@ -122,7 +122,7 @@ abbrev mutual
 abbrev pub numbers : List Gen → List ℕ
 numbers gens = map (λ g. g.number) gens
 
--- the numbers of all generators inside, those of emptiness tests too, in the order of the printed text
+-- the numbers of all generators inside, those of tests, counts and sums too, in the order of the printed text
 abbrev mutual
   pub base_numbers : BaseTree → List ℕ
   base_numbers (literal c) = []

@@ -1,5 +1,5 @@
 -- The rows of a let form as the pairs of a shredded form, each spot written as a tag and a number.
-use Rattle.std.specs.Prelude.{◌≡◌, ℕ, List, [], ◌∷◌, ◌++◌, length, map, flat_map}
+use Rattle.std.specs.Prelude.{◌≡◌, List, [], ◌∷◌, ◌++◌, length, map, flat_map}
 use Rattle.std.specs.List.{AllByRecursion as Each}
 use Rattle.std.specs.Cmp.Lexicographic.{slice_cmp}
 use Rattle.nq_model.specs.Bags.{Matched, Reordered}
@@ -10,7 +10,7 @@ use Rattle.nq_model.specs.Orders.{sorted_by}
 use Rattle.nq_ir.specs.declared.base.Gen.{Gen}
 use Rattle.nq_ir.specs.Among.{Among}
 use Rattle.nq_ir.specs.Lets.{FlatRow, LetRow, LetTree, key_of, lets_of}
-use Rattle.nq_ir.specs.Meanings.{Tables, Env, kept, value}
+use Rattle.nq_ir.specs.Meanings.{Tables, kept, value}
 use Rattle.nq_ir.specs.Spots.{StrandTree, Spot, Child, both, children, shape_leaves, shape_slots, shredded_rows, top_spot}
 use Rattle.nq_ir.specs.Trees.{Conds}
 

@@ -1,4 +1,4 @@
-// Base terms of normal forms, generators, and emptiness tests.
+// Base terms of normal forms, generators, and comprehensions that are tested, counted or summed over.
 ghost use Rattle.std.specs.Prelude.{◌≡◌, IfOk, map};
 ghost use Rattle.nq_ir.specs.Trees.{base_tree, test_part};
 
@@ -61,8 +61,9 @@ pub enum Base {
     },
 }
 
-/// A comprehension of an emptiness test: its generators, outermost first, and its conditions. It has no
-/// tag and no body, since only the number of its elements counts.
+/// A comprehension that is tested, counted or summed over: its generators, outermost first, and its
+/// conditions. It has no tag and no body: a test and a count look at no element, and a sum has its value
+/// beside it.
 #[cycle(base)]
 #[derive(Drop)]
 pub struct Test {
