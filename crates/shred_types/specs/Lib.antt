@@ -1,3 +1,4 @@
 pub mod Columns
 pub mod Under
 pub mod Places
+pub mod Bags

@@ -1,7 +1,8 @@
 // The columns at a path.
-ghost use Rattle.std.specs.Prelude.{◌≡◌, ◌++◌, IfOk, OnOk, MatchOption};
+ghost use Rattle.std.specs.Prelude.{◌≡◌, ◌++◌, IfOk, OnOk, MatchOption, is_some};
 ghost use Rattle.nq_model.specs.Types.{type_tree, int, field_types_of, fields_view};
 ghost use Rattle.nq_ir.specs.Paths.{element_at, element_in};
+ghost use Rattle.shred_types.specs.Bags.{has_bag, has_bag_in};
 ghost use Rattle.shred_types.specs.Columns.{columns_at, element_columns, fields_columns};
 
 use nq_ir::{Path, Step};
@@ -25,7 +26,8 @@ pub fn columns_at(alloc: Global, of: &Ty, path: &Path) -> Result<List<ColumnType
 #[cycle(element)]
 #[tactic(auto, using(nq_model::proofs::Terms::type_of_record))]
 pub fn element_at<'a>(of: &'a Ty, steps: &[Step]) -> Option<&'a Ty>
-    ensures { MatchOption result (element_at (type_tree of.now) steps.now ≡ int) (λ element. type_tree element.now ≡ element_at (type_tree of.now) steps.now) }
+    ensures found { is_some result ≡ has_bag (type_tree of.now) steps.now }
+    ensures is { MatchOption result (element_at (type_tree of.now) steps.now ≡ int) (λ element. type_tree element.now ≡ element_at (type_tree of.now) steps.now) }
 {
     match (steps.split_first(), of) {
         (None, Ty::Bag(element)) => Some(element),
@@ -41,7 +43,8 @@ pub fn element_at<'a>(of: &'a Ty, steps: &[Step]) -> Option<&'a Ty>
 #[cycle(element)]
 #[tactic(auto, using(nq_model::proofs::Terms::type_of_record))]
 fn element_in<'a>(fields: &'a [(Label, Ty)], label: &str, steps: &[Step]) -> Option<&'a Ty>
-    ensures { MatchOption result (element_in (field_types_of (fields_view fields.now)) label.now steps.now ≡ int) (λ element. type_tree element.now ≡ element_in (field_types_of (fields_view fields.now)) label.now steps.now) }
+    ensures found { is_some result ≡ has_bag_in (field_types_of (fields_view fields.now)) label.now steps.now }
+    ensures is { MatchOption result (element_in (field_types_of (fields_view fields.now)) label.now steps.now ≡ int) (λ element. type_tree element.now ≡ element_in (field_types_of (fields_view fields.now)) label.now steps.now) }
 {
     for field in fields {
         if label == field.0.as_str() {
