@@ -5,5 +5,8 @@ pub mod Stitched
 pub mod Grouping
 pub mod Ready
 pub mod Walking
+pub mod Linked
+pub mod Homes
 pub mod Examples
+mod LinkedExamples
 mod Witness

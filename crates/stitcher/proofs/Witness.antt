@@ -1,9 +1,8 @@
 -- Answers with ties, numbered at the top in one way and below in the other, that tag and number read.
-use Rattle.std.proofs.Common.{◌≡◌, ℕ, zero, suc, List, [], ◌∷◌, refl, codes}
+use Rattle.std.proofs.Common.{zero, suc, List, [], ◌∷◌, refl, codes}
 use Rattle.nq_model.specs.Types.{TypeTree, bag}
 use Rattle.nq_ir.proofs.Examples.{with_names}
 use Rattle.nq_ir.proofs.Witness.{all_given, department_rows, employee_rows, held, of_schema, org_schema, proper, tables, well_formed}
-use Rattle.nq_ir.specs.Lets.{FlatRow}
 use Rattle.nq_ir.specs.Parts.{element_types}
 use Rattle.stitcher.specs.FlatNumbers.{AreLaidOut, flat_numbers}
 use Rattle.stitcher.specs.Schemes.{AnswerRows, Reads}

@@ -3,3 +3,4 @@ pub mod FlatNumbers
 pub mod Groups
 pub mod Walks
 pub mod Stitching
+pub mod Linked

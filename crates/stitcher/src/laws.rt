@@ -1,9 +1,9 @@
 // Laws of stitching, each on a function that does nothing.
-ghost use Rattle.std.specs.Prelude.{List};
+ghost use Rattle.std.specs.Prelude.{◌↔◌, List};
 ghost use Rattle.nq_model.specs.Databases.{database};
 ghost use Rattle.nq_model.specs.SchemaTables.{AreTablesOf};
 ghost use Rattle.nq_model.specs.Tables.{IsProperSchema};
-ghost use Rattle.nq_model.specs.Types.{bag};
+ghost use Rattle.nq_model.specs.Types.{TypeTree, bag};
 ghost use Rattle.nq_model.specs.Values.{Same};
 ghost use Rattle.nq_model.specs.declared.table.Schema.{Schema};
 ghost use Rattle.nq_model.specs.declared.table.Cell.{Cell};
@@ -14,6 +14,7 @@ ghost use Rattle.nq_ir.specs.Parts.{element_types};
 ghost use Rattle.nq_ir.specs.WellFormed.{IsWellFormed, column_names};
 ghost use Rattle.stitcher.specs.Schemes.{AnswerRows, Reads, stitched};
 ghost use Rattle.stitcher.specs.FlatNumbers.{flat_numbers, AreLaidOut};
+ghost use Rattle.stitcher.specs.Linked.{IsLinked, HasLinks, homes};
 
 use crate::scheme::IndexScheme;
 
@@ -38,4 +39,11 @@ pub fn flat_laws()
         → AllGive (column_names schema.tables) (rows_in (database schema.tables tables)) form rows
         → AreLaidOut (element_types (bag form.element)) rows ans
         → Same (stitched (flat_numbers (element_types (bag form.element))) form.element ans) (form_meaning (rows_in (database schema.tables tables)) form) }
+{}
+
+/// Answers are linked, which is to say without fault, exactly where each row stands in a bag that a row of the
+/// enclosing answer gives, and no two rows of an answer give one inner bag by the same index.
+pub fn linked_law()
+    ensures { (type : TypeTree) (ans : List AnswerRows)
+        → IsLinked type ans ↔ HasLinks (flat_numbers (element_types type)) (homes type) ans }
 {}

@@ -11,6 +11,6 @@ mod spans;
 mod walk;
 
 pub use flat::FlatNumbers;
-pub use laws::{flat_laws, reading_law};
+pub use laws::{flat_laws, linked_law, reading_law};
 pub use nested::stitch;
 pub use scheme::IndexScheme;
