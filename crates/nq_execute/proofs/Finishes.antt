@@ -12,7 +12,7 @@ use Rattle.stitcher.specs.FlatNumbers.{flat_numbers}
 use Rattle.stitcher.specs.Schemes.{Scheme, element_of}
 use Rattle.stitcher.specs.Stitching.{rows_of, AreAnswersOf}
 use Rattle.nq_execute.proofs.Asks.{both_length}
-use Rattle.nq_execute.specs.Plans.{ArePathsOf, IsOne, first_text}
+use Rattle.nq_execute.specs.Plans.{Indexes, numbers, columns_by, ArePathsOf, IsOne, first_text}
 use Rattle.canon.specs.RowTexts.{rows_text}
 use Rattle.nq_execute.specs.Serving.{Fit}
 
@@ -36,8 +36,12 @@ answers_of_type type scheme answers is fit =
     })
 
 -- answers of the columns at the paths of a type
-pub fit_paths : (type : TypeTree) (columns : List (List ColumnType)) (answers : List Answer) → ArePathsOf type columns → Fit columns answers → Fit (map answer_columns (element_types type)) answers
-fit_paths type columns answers paths fit = subst (λ (cs : List (List ColumnType)). Fit cs answers) paths.at_paths fit
+pub fit_paths : (type : TypeTree) (indexes : Indexes) (columns : List (List ColumnType)) (answers : List Answer) → ArePathsOf type indexes columns → Fit columns answers → Fit (columns_by indexes type) answers
+fit_paths type indexes columns answers paths fit = subst (λ (cs : List (List ColumnType)). Fit cs answers) paths.at_paths fit
+
+-- the indexes are numbers
+pub by_numbers : (type : TypeTree) (indexes : Indexes) (answers : List Answer) → Fit (columns_by indexes type) answers → Fit (map answer_columns (element_types type)) answers
+by_numbers type numbers answers fit = fit
 
 -- the rows of one answer
 pub one_answer : (columns : List (List ColumnType)) (answers : List Answer) (answer : Answer) (own : List ColumnType) → IsOne columns → Fit columns answers

@@ -20,7 +20,7 @@ use Rattle.stitcher.specs.FlatNumbers.{flat_numbers}
 use Rattle.stitcher.specs.Schemes.{AnswerRows, answers as source, stitched}
 use Rattle.stitcher.specs.Stitching.{rows_of}
 use Rattle.nq_execute.specs.FlatBags.{are_base, field_labels, is_top, HasFlatFields}
-use Rattle.nq_execute.specs.Plans.{value_text}
+use Rattle.nq_execute.specs.Plans.{value_text, numbers, text}
 use Rattle.nq_execute.specs.Serving.{Fit}
 
 -- a record whose fields all have base types has no inner bags
@@ -123,7 +123,7 @@ module _ (fs : FieldTypes) (flat : are_base fs ≡ true) (rows : AnswerRows) whe
 
 -- the text of a bag of records of base values is that of the rows of its one answer
 pub flat_finished : (type : TypeTree) (fields : FieldTypes) (answers : List Answer) (answer : Answer) (bytes : List ℕ) → HasFlatFields type fields → Fit (map answer_columns (element_types type)) answers → answer ≡ get_or answers 0 answer
-    → bytes ≡ canonical_text (rows_value (field_labels fields) 2 (filter is_top answer.rows)) → bytes ≡ value_text type (rows_of answers)
+    → bytes ≡ canonical_text (rows_value (field_labels fields) 2 (filter is_top answer.rows)) → bytes ≡ value_text type numbers text (rows_of answers)
 unfolding value_text
 flat_finished type fields answers answer bytes flat fit is written =
     let P : TypeTree → Type 0 = λ t. Fit (map answer_columns (element_types t)) answers in

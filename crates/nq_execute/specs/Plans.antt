@@ -19,12 +19,24 @@ use Rattle.nq_execute.specs.Summaries.{summary_of}
 use Rattle.canon.specs.RowTexts.{rows_text}
 use Rattle.nq_execute.specs.declared.plan.Finish.{Finish as Finishes}
 use Rattle.nq_execute.specs.declared.plan.Finish.TheVariants as code
+use Rattle.nq_execute.specs.declared.plan.Indexes.{Indexes as IndexKinds}
+use Rattle.nq_execute.specs.declared.plan.Indexes.TheVariants as index
+use Rattle.nq_execute.specs.declared.plan.Writing.{Writing as Writings}
+use Rattle.nq_execute.specs.declared.plan.Writing.TheVariants as way
 use Rattle.nq_execute.specs.declared.plan.Plan.{Plan as Asked}
 
--- what is written of answers: the value of this type to which they stitch, or its summary; or the rows of the one answer
+-- how the rows of answers name the bags that they stand in and hold: by tag and number
+pub data Indexes : Type 0 where
+  numbers : Indexes
+
+-- what is written of a value: its canonical text, or its summary
+pub data Writing : Type 0 where
+  text : Writing
+  summary : Writing
+
+-- what is written of answers: the value of this type to which they stitch by these indexes; or the rows of the one answer
 pub data Finish : Type 0 where
-  value : TypeTree → Finish
-  summary : TypeTree → Finish
+  value : TypeTree → Indexes → Writing → Finish
   rows : Finish
 
 -- the tables that a server is loaded with, the texts that it is then asked, in order, each with the types of its
@@ -35,25 +47,37 @@ pub record Plan : Type 0 where
   pub columns : List (List ColumnType)
   pub finish : Finish
 
+abbrev pub indexes_view : IndexKinds → Indexes
+indexes_view index.Numbers = numbers
+
+abbrev pub writing_view : Writings → Writing
+writing_view way.Text = text
+writing_view way.Summary = summary
+
 abbrev pub finish_view : Finishes → Finish
-finish_view (code.Value of) = value (type_tree of)
-finish_view (code.Summary of) = summary (type_tree of)
+finish_view (code.Value of indexes writing) = value (type_tree of) (indexes_view indexes) (writing_view writing)
 finish_view code.Rows = rows
 
 -- the plan of the program
 abbrev pub plan_view : Asked → Plan
 plan_view asked = record { tables = asked.tables; texts = asked.texts; columns = asked.columns; finish = finish_view asked.finish }
 
--- the value of answers, one to each text: what they stitch to by tag and number
-abbrev pub answered_value : TypeTree → List AnswerRows → Nested
-answered_value type answers = stitched (flat_numbers (element_types type)) (element_type type) answers
+-- the value of answers, one to each text: what they stitch to
+abbrev pub value_by : Indexes → TypeTree → List AnswerRows → Nested
+value_by numbers type answers = stitched (flat_numbers (element_types type)) (element_type type) answers
 
--- its canonical text, and its summary
-unfoldable pub value_text : TypeTree → List AnswerRows → List ℕ
-value_text type answers = canonical_text (answered_value type answers)
+-- the columns of the answers
+abbrev pub columns_by : Indexes → TypeTree → List (List ColumnType)
+columns_by numbers type = map answer_columns (element_types type)
 
-unfoldable pub summary_text : TypeTree → List AnswerRows → List ℕ
-summary_text type answers = summary_of type (answered_value type answers)
+-- what is written of a value of a type
+abbrev pub text_by : Writing → TypeTree → Nested → List ℕ
+text_by text type v = canonical_text v
+text_by summary type v = summary_of type v
+
+-- and of the value of answers
+unfoldable pub value_text : TypeTree → Indexes → Writing → List AnswerRows → List ℕ
+value_text type indexes writing answers = text_by writing type (value_by indexes type answers)
 
 -- the rows of the first answer
 abbrev pub first_text : List AnswerRows → List ℕ
@@ -62,8 +86,7 @@ first_text (answer ∷ answers) = rows_text answer
 
 -- what is written of answers
 abbrev pub finished : Finish → List AnswerRows → List ℕ
-finished (value type) answers = value_text type answers
-finished (summary type) answers = summary_text type answers
+finished (value type indexes writing) answers = value_text type indexes writing answers
 finished rows answers = first_text answers
 
 -- over these tables the text may be asked, and its columns have these types
@@ -72,9 +95,9 @@ pub record AsksFor (held : List Loaded) (types : List ColumnType) (text : List �
   pub typed : types_of asked.columns ≡ types
 
 -- the columns are those of the paths of a bag type
-pub record ArePathsOf (type : TypeTree) (columns : List (List ColumnType)) : Type 0 where
+pub record ArePathsOf (type : TypeTree) (indexes : Indexes) (columns : List (List ColumnType)) : Type 0 where
   pub of_bag : type ≡ bag (element_type type)
-  pub at_paths : columns ≡ map answer_columns (element_types type)
+  pub at_paths : columns ≡ columns_by indexes type
 
 -- there is one text
 pub record IsOne (columns : List (List ColumnType)) : Type 0 where
@@ -83,8 +106,7 @@ pub record IsOne (columns : List (List ColumnType)) : Type 0 where
 
 -- answers of these columns are such as the finish asks for: one for each path of a bag type; or one
 abbrev pub CanFinish : Finish → List (List ColumnType) → Type 0
-CanFinish (value type) columns = ArePathsOf type columns
-CanFinish (summary type) columns = ArePathsOf type columns
+CanFinish (value type indexes writing) columns = ArePathsOf type indexes columns
 CanFinish rows columns = IsOne columns
 
 -- the tables may be loaded, each text may be asked over them, and their answers may be finished

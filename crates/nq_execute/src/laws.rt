@@ -1,11 +1,12 @@
-// A law of summaries, on a function that does nothing.
+// A law of what is written of values, on a function that does nothing.
 ghost use Rattle.std.specs.Prelude.{◌≡◌};
 ghost use Rattle.nq_model.specs.Types.{TypeTree};
 ghost use Rattle.nq_model.specs.Values.{Nested, Same};
-ghost use Rattle.nq_execute.specs.Summaries.{summary_of};
+ghost use Rattle.nq_execute.specs.Plans.{Writing, text_by};
 
-/// Values that are the same nested multiset have one summary.
-#[tactic(auto, using(crate::proofs::Summaries::summary_same))]
-pub fn summary_laws()
-    ensures same { (type : TypeTree) (v w : Nested) → Same v w → summary_of type v ≡ summary_of type w }
+/// One text is written of values that are the same nested multiset, in each way of writing.
+#[tactic(auto, using(crate::proofs::Writings::text_same))]
+pub fn writing_laws()
+    ensures same { (writing : Writing) (type : TypeTree) (v w : Nested) → Same v w
+        → text_by writing type v ≡ text_by writing type w }
 {}

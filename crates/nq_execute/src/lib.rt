@@ -12,7 +12,7 @@ mod refusal;
 mod serving;
 mod summary;
 
-pub use laws::summary_laws;
-pub use plan::{Finish, Plan};
+pub use laws::writing_laws;
+pub use plan::{Finish, Indexes, Plan, Writing};
 pub use refusal::ServerRefusal;
 pub use serving::serve;
