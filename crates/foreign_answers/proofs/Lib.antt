@@ -1,0 +1,6 @@
+pub mod TagColumns
+pub mod HomesMore
+pub mod Entering
+pub mod Steps
+pub mod Whole
+pub mod Reading
