@@ -15,6 +15,7 @@ use Rattle.nq_ir.specs.WellFormed.{IsWellFormed}
 use Rattle.nq_ir.specs.declared.path.Step.{Step}
 use Rattle.nq_ir.specs.declared.shredded.Shredded.{Shredded}
 use Rattle.shred_types.specs.Columns.{columns_at, answer_columns}
+use Rattle.nq_compile.specs.Links.{AnswersLink}
 use Rattle.nq_compile.specs.Reading.{TagAndNumberRead}
 use Rattle.nq_compile.specs.Shreds.{Shreds, form_means}
 use Rattle.sql_profile.specs.Printed.{printed}
@@ -22,7 +23,7 @@ use Rattle.sql_profile.specs.Texts.{Spells}
 use Rattle.sql_profile.specs.Tokens.{First}
 use Rattle.sql_profile.specs.Trees.{PlacedSql, SqlTree, bare}
 use Rattle.nq_compile.specs.Texts.{tree_of, text_of, texts_of, SpellsItself}
-use Rattle.nq_compile.proofs.Shredding.{texts_read, texts_shred}
+use Rattle.nq_compile.proofs.Shredding.{texts_read, texts_shred, texts_link}
 
 -- forms whose trees are these
 abbrev AreAt : FormTree → List (List Step) → List Shredded → Type 0
@@ -79,6 +80,10 @@ spell_at schema form forms e spell =
 pub forms_read : (schema : Schema) (form : FormTree) → IsProperSchema schema → IsWellFormed schema.tables form → (forms : List Shredded) → AreAt form (paths (bag form.element)) forms →
     All (λ f. SpellsItself schema (shredded_tree f)) forms → TagAndNumberRead schema form (texts_of schema form)
 forms_read schema form proper well forms e spell = texts_read schema proper form well (spell_at schema form forms e spell)
+
+pub forms_link : (schema : Schema) (form : FormTree) → IsProperSchema schema → IsWellFormed schema.tables form → (forms : List Shredded) → AreAt form (paths (bag form.element)) forms →
+    All (λ f. SpellsItself schema (shredded_tree f)) forms → AnswersLink schema (bag form.element) (texts_of schema form)
+forms_link schema form proper well forms e spell = texts_link schema proper form well (spell_at schema form forms e spell)
 
 pub forms_shred : (schema : Schema) (form : FormTree) → IsProperSchema schema → IsWellFormed schema.tables form → (forms : List Shredded) → AreAt form (paths (bag form.element)) forms →
     All (λ f. SpellsItself schema (shredded_tree f)) forms → Shreds schema form.element (texts_of schema form) (form_means form)

@@ -1,3 +1,5 @@
+pub mod Spots
+pub mod Linking
 pub mod Shredding
 pub mod Forms
 pub mod Queries

@@ -34,11 +34,14 @@ use Rattle.flatten.proofs.Allowed.{allowed_rows}
 use Rattle.flatten.proofs.Spellable.{tree_spellable}
 use Rattle.flatten.proofs.ScopeTree.{tree_scoped, types_named}
 use Rattle.stitcher.specs.FlatNumbers.{flat_numbers, AreLaidOut}
+use Rattle.stitcher.specs.Linked.{IsLinked}
 use Rattle.stitcher.specs.Schemes.{AnswerRows, Reads, stitched}
 use Rattle.stitcher.proofs.Stitched.{read_is_mean, flat_reads}
+use Rattle.nq_compile.specs.Links.{AnswersLink}
 use Rattle.nq_compile.specs.Reading.{TagAndNumberRead}
 use Rattle.nq_compile.specs.Shreds.{IsScopedText, Shreds, form_means}
 use Rattle.nq_compile.specs.Texts.{tree_of, text_of, texts_of, SpellsItself}
+use Rattle.nq_compile.proofs.Linking.{lets_linked}
 
 -- SQL allows to the text of a shredded form what it allows to its tree
 tree_allows : (schema : Schema) (s : ShreddedTree) (held : List Loaded) (rows : List (List Cell)) → SpellsItself schema s → TextAllows First held (text_of schema s) rows → TreeAllows held (tree_of schema s) rows
@@ -127,18 +130,34 @@ module _ (schema : Schema) (proper_schema : IsProperSchema schema) (form : FormT
           laid = laid_more (element_at (bag form.element) p) (map (element_at (bag form.element)) ps) here.0 rest.rows answer answers here.2 rest.laid;
         }
 
+    -- those of all texts
+    whole_rows : (answers : List AnswerRows) → Spell (paths (bag form.element)) → Allow (texts_of schema form) answers → HoldsRows (paths (bag form.element)) answers
+    whole_rows answers spell allows = texts_give (paths (bag form.element)) answers (λ path among. among) spell allows
+
+    whole_laid : (answers : List AnswerRows) (spell : Spell (paths (bag form.element))) (allows : Allow (texts_of schema form) answers) → AreLaidOut (element_types (bag form.element)) (whole_rows answers spell allows).rows answers
+    whole_laid answers spell allows =
+        let all = whole_rows answers spell allows in
+        let P : List TypeTree → Type 0 = λ types. AreLaidOut types all.rows answers in
+        subst P (elements_are form.element (proper form.element well.labels_rise)) all.laid
+
     answers_read : (answers : List AnswerRows) → Spell (paths (bag form.element)) → Allow (texts_of schema form) answers →
         Reads (flat_numbers (element_types (bag form.element))) answers form (rows_in (database schema.tables tables))
     answers_read answers spell allows =
-        let all = texts_give (paths (bag form.element)) answers (λ path among. among) spell allows in
-        let elements = elements_are form.element (proper form.element well.labels_rise) in
-        let P : List TypeTree → Type 0 = λ types. AreLaidOut types all.rows answers in
-        let laid : AreLaidOut (element_types (bag form.element)) all.rows answers = subst P elements all.laid in
-        flat_reads schema form tables all.rows answers proper_schema well stored all.give laid
+        let all = whole_rows answers spell allows in
+        flat_reads schema form tables all.rows answers proper_schema well stored all.give (whole_laid answers spell allows)
+
+    answers_linked : (answers : List AnswerRows) → Spell (paths (bag form.element)) → Allow (texts_of schema form) answers → IsLinked (bag form.element) answers
+    answers_linked answers spell allows =
+        let all = whole_rows answers spell allows in
+        lets_linked schema form (rows_in (database schema.tables tables)) all.rows answers proper_schema well all.give (whole_laid answers spell allows)
 
   -- tag and number read the answers to the texts
   pub texts_read : Spell (paths (bag form.element)) → TagAndNumberRead schema form (texts_of schema form)
   texts_read spell tables stored answers allows = answers_read tables stored answers spell allows
+
+  -- the answers to the texts are linked
+  pub texts_link : Spell (paths (bag form.element)) → AnswersLink schema (bag form.element) (texts_of schema form)
+  texts_link spell tables stored answers allows = answers_linked tables stored answers spell allows
 
   -- the texts shred the form
   pub texts_shred : Spell (paths (bag form.element)) → Shreds schema form.element (texts_of schema form) (form_means form)

@@ -1,3 +1,4 @@
 pub mod Shreds
 pub mod Reading
+pub mod Links
 pub mod Texts

@@ -9,6 +9,7 @@ ghost use Rattle.nq_ir.specs.Trees.{form_tree};
 ghost use Rattle.nq_ir.specs.WellFormed.{IsWellFormed};
 ghost use Rattle.shred_types.specs.Columns.{columns_at, answer_columns};
 ghost use Rattle.shred_types.specs.Under.{steps_of};
+ghost use Rattle.nq_compile.specs.Links.{AnswersLink};
 ghost use Rattle.nq_compile.specs.Reading.{TagAndNumberRead};
 ghost use Rattle.nq_compile.specs.Shreds.{Shreds, form_means};
 ghost use Rattle.nq_compile.specs.Texts.{text_of, texts_of, SpellsItself};
@@ -27,8 +28,8 @@ use std::alloc::Global;
 const NUMBERS: u64 = 9_223_372_036_854_775_807;
 
 /// The SQL texts of a normal form, one for each path of its type. They shred the form: over all tables of the schema,
-/// whatever answers SQL allows to them, tag and number read those, and so stitching them gives the form's meaning. The
-/// only error is that memory wants.
+/// whatever answers SQL allows to them, those are linked, and tag and number read them, so stitching them gives the
+/// form's meaning. The only error is that memory wants.
 pub fn compile_normal(alloc: Global, schema: &Schema, normal: &Normal) -> Result<Compiled, Memory>
     requires proper { IsProperSchema schema.now }
     requires well_formed { IsWellFormed schema.now.tables (form_tree normal.now) }
@@ -39,6 +40,7 @@ pub fn compile_normal(alloc: Global, schema: &Schema, normal: &Normal) -> Result
     ensures texts { IfOk result (λ compiled. compiled.texts ≡ texts_of schema.now (form_tree normal.now)) }
     ensures read { IfOk result (λ compiled. TagAndNumberRead schema.now (form_tree normal.now) compiled.texts) }
     ensures shreds { IfOk result (λ compiled. Shreds schema.now (form_tree normal.now).element compiled.texts (form_means (form_tree normal.now))) }
+    ensures linked { IfOk result (λ compiled. AnswersLink schema.now (type_tree compiled.result) compiled.texts) }
 {
     let result = result_type(alloc, normal)?;
     let paths = paths(alloc, &result)?;

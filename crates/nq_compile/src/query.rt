@@ -11,6 +11,7 @@ ghost use Rattle.nq_ir.specs.NormalForms.{normal_form};
 ghost use Rattle.nq_ir.specs.Paths.{paths};
 ghost use Rattle.shred_types.specs.Columns.{columns_at};
 ghost use Rattle.shred_types.specs.Under.{steps_of};
+ghost use Rattle.nq_compile.specs.Links.{AnswersLink};
 ghost use Rattle.nq_compile.specs.Reading.{TagAndNumberRead};
 ghost use Rattle.nq_compile.specs.Shreds.{Shreds};
 ghost use Rattle.nq_compile.specs.Texts.{texts_of};
@@ -23,8 +24,9 @@ use std::alloc::Global;
 use unfold::unfold;
 
 /// The SQL texts of an accepted query, one for each path of its type. They shred the query: over all tables of the
-/// schema, whatever answers SQL allows to them, in any order and with ties numbered in any way, stitching those by
-/// tag and number gives the nested multiset that the query means. The only error is that memory wants.
+/// schema, whatever answers SQL allows to them, in any order and with ties numbered in any way, those are linked, and
+/// stitching them by tag and number gives the nested multiset that the query means. The only error is that memory
+/// wants.
 ///
 /// After Cheney, Lindley and Wadler, "Query Shredding", SIGMOD 2014.
 pub fn compile(alloc: Global, schema: &Schema, term: Term) -> Result<Compiled, Memory>
@@ -40,6 +42,7 @@ pub fn compile(alloc: Global, schema: &Schema, term: Term) -> Result<Compiled, M
         → Unfolds (placed term) plain → TagAndNumberRead schema.now (normal_form schema.now.tables element (bare plain)) compiled.texts) }
     ensures shreds { IfOk result (λ compiled. (element : TypeTree) → IsAccepted schema.now (term_tree term) (bag element)
         → Shreds schema.now element compiled.texts (λ tables value. Means tables (placed term) value)) }
+    ensures linked { IfOk result (λ compiled. AnswersLink schema.now (type_tree compiled.result) compiled.texts) }
 {
     let plain = unfold(alloc, schema, term)?;
     let normal = normalise(alloc, schema, &plain)?;

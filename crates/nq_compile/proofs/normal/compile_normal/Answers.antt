@@ -4,9 +4,10 @@ use Rattle.nq_ir.specs.Paths.{paths}
 use Rattle.nq_ir.specs.declared.path.Step.{Step}
 use Rattle.nq_ir.specs.Trees.{FormTree, form_tree}
 use Rattle.shred_types.specs.Columns.{columns_at}
+use Rattle.nq_compile.specs.Links.{AnswersLink}
 use Rattle.nq_compile.specs.Reading.{TagAndNumberRead}
 use Rattle.nq_compile.specs.Shreds.{Shreds, form_means}
-use Rattle.nq_compile.proofs.Forms.{all_shredded, columns_same, texts_same, forms_read, forms_shred}
+use Rattle.nq_compile.proofs.Forms.{all_shredded, columns_same, texts_same, forms_read, forms_link, forms_shred}
 use Rattle.nq_compile.proofs.normal.compile_normal.Goals as goal
 
 pub texts_of-requires-clause-forms : goal.texts_of-requires-clause-forms
@@ -41,3 +42,13 @@ returns-clause-shreds c =
     let texts = c.in_ok-texts.ensures.are ∙ texts_same schema form c.in_ok-forms.forms at in
     let P : List (List ℕ) → Type 0 = λ ts. Shreds schema form.element ts (form_means form) in
     subst P (sym texts) (forms_shred schema form c.requires.proper c.requires.well_formed c.in_ok-forms.forms at c.in_ok-texts.ensures.spell)
+
+pub returns-clause-linked : goal.returns-clause-linked
+returns-clause-linked c =
+    let schema = c.args.schema.now in
+    let form : FormTree = form_tree c.args.normal.now in
+    let at = c.in_ok-forms.ensures schema c.requires.well_formed in
+    let texts = c.in_ok-texts.ensures.are ∙ texts_same schema form c.in_ok-forms.forms at in
+    let P : List (List ℕ) → Type 0 = λ ts. AnswersLink schema (bag form.element) ts in
+    let Q : TypeTree → Type 0 = λ t. AnswersLink schema t c.in_ok-texts.texts in
+    subst Q (sym c.in_ok-result.ensures) (subst P (sym texts) (forms_link schema form c.requires.proper c.requires.well_formed c.in_ok-forms.forms at c.in_ok-texts.ensures.spell))
