@@ -1,5 +1,5 @@
 -- Laws of texts that are asked one after the other.
-use Rattle.std.proofs.Common.{◌≡◌, ◌<◌, ◌≤◌, ◌+◌, ℕ, suc, Bool, true, List, [], ◌∷◌, ◌++◌, length, take, get_or, Option, Some, None, Result, Ok, Err, refl, sym, ap, ap₂, ◌∙◌, subst, arith, add-one, append_assoc, append-nil, length-append, All}
+use Rattle.std.proofs.Common.{◌≡◌, ◌<◌, ◌≤◌, ◌+◌, ℕ, suc, Bool, true, List, [], ◌∷◌, ◌++◌, length, take, get_or, Option, Some, None, Result, Ok, Err, inr, refl, sym, ap, ap₂, ◌∙◌, subst, arith, add-one, append_assoc, append-nil, length-append, All}
 use Rattle.std.specs.List.{zip}
 use Rattle.std.specs.Option.{is_some}
 use Rattle.std.proofs.lemmas.List.{get_or_default}
@@ -19,7 +19,7 @@ use Rattle.sql_profile.proofs.AskedAnswers.{asked_fits}
 use Rattle.sql_profile.proofs.Misfits.{fits_without_misfit}
 use Rattle.nq_execute.specs.Asking.{AskTells, HaveFittingRows, AnswersText, MisfitsText, TextRefused, plan_over}
 use Rattle.nq_execute.specs.Plans.{Finish, Plan, AsksFor}
-use Rattle.nq_execute.specs.Serving.{RefusalCounts, ServerCounts, HasAnswered, RefusalServes, with_asks}
+use Rattle.nq_execute.specs.Serving.{RefusalCounts, ServerCounts, HasAnswered, RefusalServes, server_state, with_asks}
 use Rattle.nq_execute.specs.declared.refusal.ServerRefusal.{ServerRefusal}
 use Rattle.nq_execute.specs.declared.refusal.ServerRefusal.TheVariants as server
 
@@ -101,17 +101,22 @@ module _ (plan : Plan) (old mid new : Option Asks) (honest : Bool) (answers : Li
     allowed = λ h. both_more (λ text answer. TextAllows First plan.tables text answer.rows) plan.texts answers text answer below text_is (before.allowed h) (more.allowed h);
   }
 
+  -- no answer more
+  answered_still : new ≡ mid → HasAnswered plan old new honest answers
+  answered_still same = let P : Option Asks → Type 0 = λ asks. HasAnswered plan old asks honest answers in subst P (sym same) before
+
   -- why there is no further answer
   pub answer_refused : (held now : List Loaded) (number : ℕ) (r : ServerRefusal) → now ≡ plan.tables → number ≡ suc (length answers) → TextRefused types text number mid new honest r
-      → RefusalServes plan (record { loaded = held; asks = old }) (record { loaded = now; asks = new }) honest r
-  answer_refused held now number server.Memory holds numbered refused = tt
+      → RefusalServes plan (server_state held old) (server_state now new) honest r
+  answer_refused held now number server.Memory holds numbered refused =
+      inr (record { answers = answers; there = omega (arith, below); holds = holds; answered = answered_still refused })
   answer_refused held now number (server.TableFailed name) holds numbered refused = absurd refused
   answer_refused held now number (server.TextFailed failed) holds numbered refused = record {
     answers = answers;
     numbered = refused.0 ∙ numbered;
     there = below;
     holds = holds;
-    answered = let P : Option Asks → Type 0 = λ asks. HasAnswered plan old asks honest answers in subst P (sym refused.1) before;
+    answered = answered_still refused.1;
   }
   answer_refused held now number (server.BadAnswer failed row column) holds numbered refused = record {
     answers = answers;
@@ -178,8 +183,15 @@ module _ (texts : List (List ℕ)) (columns : List (List ColumnType)) (held now 
       subst Q (sym is) own
 
   -- an answer to each text
-  pub all_asked : length texts ≤ at → at ≤ length texts → (finish : Finish) → AskTells (plan_over held texts columns finish) (record { loaded = held; asks = old }) (record { loaded = now; asks = mid }) honest (Ok answers)
+  pub all_asked : length texts ≤ at → at ≤ length texts → (finish : Finish) → AskTells (plan_over held texts columns finish) (server_state held old) (server_state now mid) honest (Ok answers)
   all_asked low high finish = (so_far.as_many ∙ omega arith, so_far.answered finish)
+
+  -- an answer to each of the first texts, where memory ran out
+  pub some_asked : (result : Result (List Answer) ServerRefusal) → result ≡ Err server.Memory → at ≤ length texts
+      → (finish : Finish) → AskTells (plan_over held texts columns finish) (server_state held old) (server_state now mid) honest result
+  some_asked result is high finish =
+      let Q : Result (List Answer) ServerRefusal → Type 0 = λ given. AskTells (plan_over held texts columns finish) (server_state held old) (server_state now mid) honest given in
+      subst Q (sym is) (inr (record { answers = answers; there = omega (arith, so_far.as_many, high); holds = so_far.tables; answered = so_far.answered finish }))
 
   module _ (text : List ℕ) (types : List ColumnType) (below : at < length texts) (types_are : types ≡ get_or columns at types) (text_is : text ≡ get_or texts at text) where
     here : (P : ℕ → Type 0) → P at → P (length answers)
@@ -216,10 +228,10 @@ module _ (texts : List (List ℕ)) (columns : List (List ColumnType)) (held now 
 
     -- why there is no further answer
     pub asked_in_vain : (later : List Loaded) (new : Option Asks) (r : ServerRefusal) (result : Result (List Answer) ServerRefusal) → result ≡ Err r → later ≡ now → TextRefused types text (at + 1) mid new honest_now r
-        → (finish : Finish) → AskTells (plan_over held texts columns finish) (record { loaded = held; asks = old }) (record { loaded = later; asks = new }) honest result
+        → (finish : Finish) → AskTells (plan_over held texts columns finish) (server_state held old) (server_state later new) honest result
     asked_in_vain later new r result is tables refused finish =
         let P : Bool → Type 0 = λ h. TextRefused types text (at + 1) mid new h r in
-        let Q : Result (List Answer) ServerRefusal → Type 0 = λ given. AskTells (plan_over held texts columns finish) (record { loaded = held; asks = old }) (record { loaded = later; asks = new }) honest given in
+        let Q : Result (List Answer) ServerRefusal → Type 0 = λ given. AskTells (plan_over held texts columns finish) (server_state held old) (server_state later new) honest given in
         let columned = both_length (AsksFor held) columns texts each in
         subst Q (sym is) (answer_refused (plan_over held texts columns finish) old mid new honest answers text types
         (here (λ (k : ℕ). k < length texts) below) columned (here (λ (k : ℕ). text ≡ get_or texts k text) text_is) (here (λ (k : ℕ). types ≡ get_or columns k types) types_are)

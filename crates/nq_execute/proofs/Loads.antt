@@ -8,7 +8,7 @@ use Rattle.nq_model.specs.Orders.{AreDistinct}
 use Rattle.nq_model.specs.Tables.{names_of, types_of}
 use Rattle.sql_profile.specs.Servers.{table_names}
 use Rattle.sql_profile.specs.declared.server.Loaded.{Loaded}
-use Rattle.nq_execute.specs.Loading.{CanLoad, LoadTells}
+use Rattle.nq_execute.specs.Loading.{CanLoad, LoadTells, LoadedSome}
 use Rattle.nq_execute.specs.declared.refusal.ServerRefusal.{ServerRefusal}
 use Rattle.nq_execute.specs.declared.refusal.ServerRefusal.TheVariants as server
 
@@ -52,11 +52,16 @@ can_load_rows held table later can =
 pub load_after : {T : Type 0} (held new : List Loaded) (table : Loaded) (later : List Loaded) (result : Result T ServerRefusal)
     → LoadTells (held ++ table ∷ []) new later result → LoadTells held new (table ∷ later) result
 load_after held new table later (Ok x) tells = tells ∙ append_assoc held (table ∷ []) later
-load_after held new table later (Err server.Memory) tells = tt
+load_after held new table later (Err server.Memory) tells =
+    record { front = table ∷ tells.front; later = tells.later; all = ap (λ (ts : List Loaded). table ∷ ts) tells.all; holds = tells.holds ∙ append_assoc held (table ∷ []) tells.front }
 load_after held new table later (Err (server.TableFailed name)) tells =
     record { front = table ∷ tells.front; table = tells.table; later = tells.later; all = ap (λ (ts : List Loaded). table ∷ ts) tells.all; named = tells.named; holds = tells.holds ∙ append_assoc held (table ∷ []) tells.front }
 load_after held new table later (Err (server.TextFailed text)) tells = tells
 load_after held new table later (Err (server.BadAnswer text row column)) tells = tells
+
+-- none was loaded
+pub none_loaded : (held new tables : List Loaded) → new ≡ held → LoadedSome held new tables
+none_loaded held new tables same = record { front = []; later = tables; all = refl; holds = same ∙ sym (append-nil held) }
 
 -- a load that failed
 pub load_failed : (held new : List Loaded) (table : Loaded) (later : List Loaded) (name : List ℕ) → new ≡ held → name ≡ table.name
@@ -68,4 +73,4 @@ load_failed held new table later name same named =
 pub reversed_rest : {A : Type 0} (old new : List A) (x : A) → old ≡ new ++ x ∷ [] → reverse old ≡ x ∷ reverse new
 reversed_rest old new x is = ap reverse is ∙ reverse-append new (x ∷ [])
 
-pub ruleset load_rules = (load_after, load_failed, can_load_columns, can_load_rows, fresh, reversed_rest)
+pub ruleset load_rules = (load_after, none_loaded, load_failed, can_load_columns, can_load_rows, fresh, reversed_rest)

@@ -1,5 +1,5 @@
 -- How what serving a plan says follows from loading its tables and asking its texts.
-use Rattle.std.proofs.Common.{◌≡◌, ℕ, Bool, List, [], ◌∷◌, ◌++◌, length, Option, Result, Ok, Err, sym, ap, ap₂, ◌∙◌, subst, arith}
+use Rattle.std.proofs.Common.{◌≡◌, ℕ, Bool, List, [], ◌∷◌, ◌++◌, length, Option, Result, Ok, Err, inl, inr, sym, ap, ap₂, ◌∙◌, subst, arith}
 use Rattle.std.proofs.lemmas.List.{take_all}
 use Rattle.std.specs.List.{zip}
 use Rattle.nq_model.specs.declared.table.ColumnType.{ColumnType}
@@ -9,26 +9,10 @@ use Rattle.sql_profile.specs.declared.server.Loaded.{Loaded}
 use Rattle.stitcher.specs.Stitching.{rows_of}
 use Rattle.nq_execute.proofs.Asks.{both_length}
 use Rattle.nq_execute.specs.Asking.{AskTells, plan_over}
-use Rattle.nq_execute.specs.Loading.{LoadFails}
 use Rattle.nq_execute.specs.Plans.{Plan, AsksFor, CanFinish, IsServable, finished}
-use Rattle.nq_execute.specs.Serving.{ServerState, Fit, HasAnswered, RefusalServes, ServesText, ServeTells, with_asks}
+use Rattle.nq_execute.specs.Serving.{ServerState, Fit, HasAnswered, RefusalServes, ServesText, ServeTells, server_state, with_asks}
 use Rattle.nq_execute.specs.declared.refusal.ServerRefusal.{ServerRefusal}
 use Rattle.nq_execute.specs.declared.refusal.ServerRefusal.TheVariants as server
-
--- a load that did not succeed
-pub load_refused : (plan : Plan) (held loaded : List Loaded) (old_asks asks : Option Asks) (honest : Bool) (r : ServerRefusal) → held ≡ [] → LoadFails held loaded plan.tables r → asks ≡ old_asks
-    → RefusalServes plan (record { loaded = held; asks = old_asks }) (record { loaded = loaded; asks = asks }) honest r
-load_refused plan held loaded old_asks asks honest server.Memory empty fails untold = tt
-load_refused plan held loaded old_asks asks honest (server.TableFailed name) empty fails untold =
-    record {
-      table = fails.table;
-      later = fails.later;
-      all = fails.all ∙ ap (λ (ts : List Loaded). ts ++ fails.table ∷ fails.later) (sym (fails.holds ∙ ap (λ (ts : List Loaded). ts ++ fails.front) empty));
-      named = fails.named;
-      untold = untold;
-    }
-load_refused plan held loaded old_asks asks honest (server.TextFailed text) empty fails untold = absurd fails
-load_refused plan held loaded old_asks asks honest (server.BadAnswer text row column) empty fails untold = absurd fails
 
 -- the tables of a plan, loaded into a server that held none
 pub all_loaded : (held new tables : List Loaded) → held ≡ [] → new ≡ held ++ tables → new ≡ tables
@@ -44,7 +28,11 @@ finishable plan own servable is = subst (λ (cs : List (List ColumnType)). CanFi
 
 -- why there is no text, told from before the tables were loaded
 refused_before : (plan : Plan) (old before new : ServerState) (honest : Bool) (r : ServerRefusal) → before.asks ≡ old.asks → RefusalServes plan before new honest r → RefusalServes plan old new honest r
-refused_before plan old before new honest server.Memory same refused = tt
+refused_before plan old before new honest server.Memory same (inl some) =
+    inl (record { later = some.later; all = some.all; untold = some.untold ∙ same })
+refused_before plan old before new honest server.Memory same (inr some) =
+    let P : Option Asks → Type 0 = λ asks. HasAnswered plan asks new.asks honest some.answers in
+    inr (record { answers = some.answers; there = some.there; holds = some.holds; answered = subst P same some.answered })
 refused_before plan old before new honest (server.TableFailed name) same refused =
     record { table = refused.table; later = refused.later; all = refused.all; named = refused.named; untold = refused.untold ∙ same }
 refused_before plan old before new honest (server.TextFailed text) same refused =
@@ -67,13 +55,13 @@ refused_before plan old before new honest (server.BadAnswer text row column) sam
 module _ (plan : Plan) (held mid new : List Loaded) (old before after : Option Asks) (honest asked : Bool) (texts : List (List ℕ)) (columns : List (List ColumnType))
     (holds : mid ≡ plan.tables) (untold : before ≡ old) (honesty : asked ≡ honest) (texts_are : texts ≡ plan.texts) (columns_are : columns ≡ plan.columns) where
   abbrev Before : ServerState
-  Before = record { loaded = mid; asks = before }
+  Before = server_state mid before
 
   abbrev After : ServerState
-  After = record { loaded = new; asks = after }
+  After = server_state new after
 
   abbrev Old : ServerState
-  Old = record { loaded = held; asks = old }
+  Old = server_state held old
 
   -- told of the plan, from before the tables were loaded
   of_plan : (result : Result (List Answer) ServerRefusal) → AskTells (plan_over mid texts columns plan.finish) Before After asked result → AskTells plan Before After honest result
@@ -96,9 +84,22 @@ module _ (plan : Plan) (held mid new : List Loaded) (old before after : Option A
       let P : List (List ColumnType) → Type 0 = λ cs. Fit cs answers in
       subst P (take_all (length answers) plan.columns (omega (arith, told.0, columned)) ∙ sym is) told.1.fit
 
+  -- the texts were answered
+  answered_all : (answers : List Answer) → AskTells (plan_over mid texts columns plan.finish) Before After asked (Ok answers) → HasAnswered plan old after honest answers
+  answered_all answers tells =
+      let P : Option Asks → Type 0 = λ asks. HasAnswered plan asks after honest answers in
+      subst P untold (of_plan (Ok answers) tells).1
+
+  -- no text is written of the answers, where memory ran out
+  pub text_unwritten : (answers : List Answer) (result : Result (List ℕ) ServerRefusal) → result ≡ Err server.Memory → new ≡ mid → AskTells (plan_over mid texts columns plan.finish) Before After asked (Ok answers)
+      → ServeTells plan Old After honest result
+  text_unwritten answers result is kept tells =
+      let P : Result (List ℕ) ServerRefusal → Type 0 = λ given. ServeTells plan Old After honest given in
+      let own = of_plan (Ok answers) tells in
+      subst P (sym is) (inr (record { answers = answers; there = omega (arith, own.0); holds = kept ∙ holds; answered = answered_all answers tells }))
+
   -- the text of the answers
   pub text_serves : (answers : List Answer) (text : List ℕ) → new ≡ mid → AskTells (plan_over mid texts columns plan.finish) Before After asked (Ok answers) → text ≡ finished plan.finish (rows_of answers) → ServesText plan Old After honest text
   text_serves answers text kept tells is =
       let own = of_plan (Ok answers) tells in
-      let P : Option Asks → Type 0 = λ asks. HasAnswered plan asks after honest answers in
-      record { answers = answers; all = own.0; holds = kept ∙ holds; answered = subst P untold own.1; is = is }
+      record { answers = answers; all = own.0; holds = kept ∙ holds; answered = answered_all answers tells; is = is }

@@ -15,6 +15,7 @@ use Rattle.nq_model.specs.declared.value.Value.TheVariants as code
 use Rattle.nq_model.proofs.Bags.{matched_flat_map, matched_length}
 use Rattle.nq_model.proofs.Canonical.{canonical_same}
 use Rattle.nq_model.proofs.Sameness.{elements_back, matched_same}
+use Rattle.nq_model.proofs.Trees.{nested_bag, nested_record}
 use Rattle.nq_ir.specs.Paths.{paths}
 use Rattle.nq_ir.specs.declared.path.Step.{Step}
 use Rattle.nq_ir.specs.declared.path.Step.TheVariants.{Down, Field}
@@ -88,7 +89,7 @@ pub none_in_text : (path : List Step) (t : List ℕ) → elements_at path (neste
 none_in_text path t =
     ap (elements_at path) (ap nested (sym (code.rolls-Text t)) ∙ fold-roll-Value Nested value_layer (Value-F.Text t)) ∙ base_holds_none path (cell.Text t)
 
-pub ruleset base_rules = (none_in_int, none_in_bool, none_in_text)
+pub ruleset value_rules = (none_in_int, none_in_bool, none_in_text, nested_record, nested_bag)
 
 -- none at a path where no field has a label
 pub none_under : (label : List ℕ) (path : List Step) (fields : List (List ℕ × Value)) (k : ℕ) → length fields ≤ k

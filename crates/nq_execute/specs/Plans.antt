@@ -34,13 +34,14 @@ pub data Writing : Type 0 where
   text : Writing
   summary : Writing
 
--- what is written of answers: the value of this type to which they stitch by these indexes; or the rows of the one answer
+-- what is written of answers: the value of this type to which they stitch by these indexes; or the
+-- rows of the one answer
 pub data Finish : Type 0 where
   value : TypeTree → Indexes → Writing → Finish
   rows : Finish
 
--- the tables that a server is loaded with, the texts that it is then asked, in order, each with the types of its
--- columns, and what is written of the answers
+-- the tables that a server is loaded with, the texts that it is then asked, in order, each with the
+-- types of its columns, and what is written of the answers
 pub record Plan : Type 0 where
   pub tables : List Loaded
   pub texts : List (List ℕ)
@@ -55,16 +56,23 @@ writing_view way.Text = text
 writing_view way.Summary = summary
 
 abbrev pub finish_view : Finishes → Finish
-finish_view (code.Value of indexes writing) = value (type_tree of) (indexes_view indexes) (writing_view writing)
+finish_view (code.Value of indexes writing) =
+    value (type_tree of) (indexes_view indexes) (writing_view writing)
 finish_view code.Rows = rows
 
 -- the plan of the program
 abbrev pub plan_view : Asked → Plan
-plan_view asked = record { tables = asked.tables; texts = asked.texts; columns = asked.columns; finish = finish_view asked.finish }
+plan_view asked = record {
+  tables = asked.tables;
+  texts = asked.texts;
+  columns = asked.columns;
+  finish = finish_view asked.finish;
+}
 
 -- the value of answers, one to each text: what they stitch to
 abbrev pub value_by : Indexes → TypeTree → List AnswerRows → Nested
-value_by numbers type answers = stitched (flat_numbers (element_types type)) (element_type type) answers
+value_by numbers type answers =
+    stitched (flat_numbers (element_types type)) (element_type type) answers
 
 -- the columns of the answers
 abbrev pub columns_by : Indexes → TypeTree → List (List ColumnType)
@@ -95,7 +103,8 @@ pub record AsksFor (held : List Loaded) (types : List ColumnType) (text : List �
   pub typed : types_of asked.columns ≡ types
 
 -- the columns are those of the paths of a bag type
-pub record ArePathsOf (type : TypeTree) (indexes : Indexes) (columns : List (List ColumnType)) : Type 0 where
+pub record ArePathsOf (type : TypeTree) (indexes : Indexes)
+    (columns : List (List ColumnType)) : Type 0 where
   pub of_bag : type ≡ bag (element_type type)
   pub at_paths : columns ≡ columns_by indexes type
 

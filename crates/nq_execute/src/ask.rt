@@ -3,7 +3,7 @@ ghost use Rattle.std.specs.Prelude.{◌≡◌, ◌+◌, IfOk, is_some, length};
 ghost use Rattle.nq_ir.specs.Meanings.{EachBoth};
 ghost use Rattle.nq_execute.specs.Asking.{AskTells, HaveFittingRows, TextTells, plan_over};
 ghost use Rattle.nq_execute.specs.Plans.{AsksFor, Finish};
-ghost use Rattle.nq_execute.specs.Serving.{ServerCounts};
+ghost use Rattle.nq_execute.specs.Serving.{ServerCounts, server_state};
 
 use crate::refusal::ServerRefusal;
 use nq_model::{ColumnType, List};
@@ -21,12 +21,14 @@ fn ask_one(
 ) -> Result<Answer, ServerRefusal>
     requires rows { HaveFittingRows (loaded server.old) }
     requires askable { AsksFor (loaded server.old) types.now text.now }
-    ensures counts { ServerCounts (bound server.old) (failures server.old) (failures server.new) result }
+    ensures counts { ServerCounts (bound server.old)
+        (failures server.old) (failures server.new) result }
     ensures tables_stay { loaded server.new ≡ loaded server.old }
     ensures honesty_stays { honest server.new ≡ honest server.old }
     ensures bound_stays { bound server.new ≡ bound server.old }
     ensures telling { is_some (asks server.new) ≡ is_some (asks server.old) }
-    ensures tells { TextTells (loaded server.old) types.now text.now number (asks server.old) (asks server.new) (honest server.old) result }
+    ensures tells { TextTells (loaded server.old) types.now text.now number
+        (asks server.old) (asks server.new) (honest server.old) result }
 {
     let answer = match ask_text(alloc, server, text) {
         Ok(answer) => answer,
@@ -52,14 +54,16 @@ pub fn ask_all(
 ) -> Result<List<Answer>, ServerRefusal>
     requires rows { HaveFittingRows (loaded server.old) }
     requires askable { EachBoth (AsksFor (loaded server.old)) columns.now texts.now }
-    ensures counts { ServerCounts (bound server.old) (failures server.old) (failures server.new) result }
+    ensures counts { ServerCounts (bound server.old)
+        (failures server.old) (failures server.new) result }
     ensures tables_stay { loaded server.new ≡ loaded server.old }
     ensures honesty_stays { honest server.new ≡ honest server.old }
     ensures bound_stays { bound server.new ≡ bound server.old }
     ensures telling { is_some (asks server.new) ≡ is_some (asks server.old) }
-    ensures tells { (finish : Finish) → AskTells (plan_over (loaded server.old) texts.now columns.now finish)
-        (record { loaded = loaded server.old; asks = asks server.old }) (record { loaded = loaded server.new; asks = asks server.new })
-        (honest server.old) result }
+    ensures tells { (finish : Finish) →
+        AskTells (plan_over (loaded server.old) texts.now columns.now finish)
+        (server_state (loaded server.old) (asks server.old))
+        (server_state (loaded server.new) (asks server.new)) (honest server.old) result }
 {
     let mut answers = List::with_capacity(alloc, texts.len())?;
     for at in 0..texts.len() {

@@ -25,7 +25,8 @@ fn value_by(
 ) -> Result<Value, Memory>
     requires bag { type_tree of.now ≡ bag (element_type (type_tree of.now)) }
     requires fit { Fit (columns_by (indexes_view indexes.now) (type_tree of.now)) answers }
-    ensures { IfOk result (λ value. nested value ≡ value_by (indexes_view indexes.now) (type_tree of.now) (rows_of answers)) }
+    ensures { IfOk result (λ value.
+        nested value ≡ value_by (indexes_view indexes.now) (type_tree of.now) (rows_of answers)) }
 {
     match indexes {
         Indexes::Numbers => {
@@ -37,7 +38,8 @@ fn value_by(
 
 // What is written of a value.
 fn text_by(alloc: Global, of: &Ty, writing: &Writing, value: Value) -> Result<List<u8>, Memory>
-    ensures { IfOk result (λ text. text ≡ text_by (writing_view writing.now) (type_tree of.now) (nested value)) }
+    ensures { IfOk result (λ text.
+        text ≡ text_by (writing_view writing.now) (type_tree of.now) (nested value)) }
 {
     match writing {
         Writing::Text => {
@@ -59,14 +61,15 @@ fn stitched_text(
 ) -> Result<List<u8>, Memory>
     requires bag { type_tree of.now ≡ bag (element_type (type_tree of.now)) }
     requires fit { Fit (columns_by (indexes_view indexes.now) (type_tree of.now)) answers }
-    ensures { IfOk result (λ text. text ≡ value_text (type_tree of.now) (indexes_view indexes.now) (writing_view writing.now) (rows_of answers)) }
+    ensures { IfOk result (λ text. text ≡ value_text (type_tree of.now)
+        (indexes_view indexes.now) (writing_view writing.now) (rows_of answers)) }
 {
     let value = value_by(alloc, of, indexes, answers)?;
     text_by(alloc, of, writing, value)
 }
 
-// What is written of the value. The canonical text of a bag of records of base values is written from the rows of its
-// one answer.
+// What is written of the value. The canonical text of a bag of records of base values is written
+// from the rows of its one answer.
 #[tactic(auto, using(crate::proofs::FlatBags::flat_rules))]
 fn value_text(
     alloc: Global,
@@ -77,7 +80,8 @@ fn value_text(
 ) -> Result<List<u8>, Memory>
     requires bag { type_tree of.now ≡ bag (element_type (type_tree of.now)) }
     requires fit { Fit (columns_by (indexes_view indexes.now) (type_tree of.now)) answers }
-    ensures { IfOk result (λ text. text ≡ value_text (type_tree of.now) (indexes_view indexes.now) (writing_view writing.now) (rows_of answers)) }
+    ensures { IfOk result (λ text. text ≡ value_text (type_tree of.now)
+        (indexes_view indexes.now) (writing_view writing.now) (rows_of answers)) }
 {
     match (indexes, writing, flat_fields(of)) {
         (Indexes::Numbers, Writing::Text, Some(fields)) => {

@@ -36,7 +36,8 @@ fn are_base(fields: &[(Label, Ty)]) -> bool
 // The fields of a record type, if all have base types.
 #[tactic(auto, using(nq_model::proofs::Terms::type_of_record))]
 fn base_fields(of: &Ty) -> Option<&[(Label, Ty)]>
-    ensures { MatchOption result (is_flat_record (type_tree of.now) ≡ false) (λ fields. HasBaseFields (type_tree of.now) (field_types_of (fields_view fields.now))) }
+    ensures { MatchOption result (is_flat_record (type_tree of.now) ≡ false)
+        (λ fields. HasBaseFields (type_tree of.now) (field_types_of (fields_view fields.now))) }
 {
     match of {
         Ty::Rec(fields) => {
@@ -51,7 +52,8 @@ fn base_fields(of: &Ty) -> Option<&[(Label, Ty)]>
 
 /// The fields of the records in a bag, if all have base types.
 pub fn flat_fields(of: &Ty) -> Option<&[(Label, Ty)]>
-    ensures { MatchOption result (is_flat (type_tree of.now) ≡ false) (λ fields. HasFlatFields (type_tree of.now) (field_types_of (fields_view fields.now))) }
+    ensures { MatchOption result (is_flat (type_tree of.now) ≡ false)
+        (λ fields. HasFlatFields (type_tree of.now) (field_types_of (fields_view fields.now))) }
 {
     match of {
         Ty::Bag(element) => base_fields(element),
@@ -61,7 +63,8 @@ pub fn flat_fields(of: &Ty) -> Option<&[(Label, Ty)]>
 
 // The labels of fields.
 fn labels_of(alloc: Global, fields: &[(Label, Ty)]) -> Result<List<Label>, Memory>
-    ensures { IfOk result (λ labels. labels ≡ field_labels (field_types_of (fields_view fields.now))) }
+    ensures { IfOk result (λ labels.
+        labels ≡ field_labels (field_types_of (fields_view fields.now))) }
 {
     let mut labels = List::with_capacity(alloc, fields.len())?;
     for field in fields {
@@ -106,11 +109,12 @@ fn top_places(alloc: Global, rows: &Rows) -> Result<Vec<u32>, Memory>
     Ok(places)
 }
 
-/// The canonical text of the bag of records that rows stand for, of which these are the fields: the cells of each row of
-/// the top behind its outer index, beside the labels. No value of the bag is built.
+/// The canonical text of the bag of records that rows stand for, of which these are the fields: the
+/// cells of each row of the top behind its outer index, beside the labels. No value of the bag is
+/// built.
 pub fn flat_text(alloc: Global, fields: &[(Label, Ty)], rows: &Rows) -> Result<List<u8>, Memory>
-    ensures { IfOk result (λ text. text
-        ≡ canonical_text (rows_value (field_labels (field_types_of (fields_view fields.now))) 2 (filter is_top rows.now))) }
+    ensures { IfOk result (λ text. text ≡ canonical_text (rows_value
+        (field_labels (field_types_of (fields_view fields.now))) 2 (filter is_top rows.now))) }
 {
     let labels = labels_of(alloc, fields)?;
     let places = top_places(alloc, rows)?;

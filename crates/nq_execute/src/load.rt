@@ -11,7 +11,8 @@ use std::alloc::Global;
 // Takes off the last table, which is the next to be loaded.
 #[tactic(auto, using(crate::proofs::Loads::reversed_rest))]
 fn take_next(rest: &mut Vec<Loaded>) -> Option<Loaded>
-    ensures { MatchOption result (reverse rest.old.items ≡ []) (λ table. reverse rest.old.items ≡ table ∷ reverse rest.new.items) }
+    ensures { MatchOption result (reverse rest.old.items ≡ [])
+        (λ table. reverse rest.old.items ≡ table ∷ reverse rest.new.items) }
 {
     rest.pop()
 }
@@ -25,13 +26,15 @@ fn load_one(
     rest: &[Loaded],
 ) -> Result<(), ServerRefusal>
     requires { CanLoad (loaded server.old) (table ∷ reverse rest.now) }
-    ensures counts { ServerCounts (bound server.old) (failures server.old) (failures server.new) result }
+    ensures counts { ServerCounts (bound server.old)
+        (failures server.old) (failures server.new) result }
     ensures asks_stay { asks server.new ≡ asks server.old }
     ensures honesty_stays { honest server.new ≡ honest server.old }
     ensures bound_stays { bound server.new ≡ bound server.old }
     ensures ok { OnOk result (loaded server.new ≡ loaded server.old ++ table ∷ []) }
     ensures can { OnOk result (CanLoad (loaded server.new) (reverse rest.now)) }
-    ensures err { IfErr result (LoadFails (loaded server.old) (loaded server.new) (table ∷ reverse rest.now)) }
+    ensures err { IfErr result
+        (LoadFails (loaded server.old) (loaded server.new) (table ∷ reverse rest.now)) }
 {
     let name = table.name.copy(alloc)?;
     match load_table(alloc, server, table) {
@@ -49,7 +52,8 @@ fn load_reversed(
     mut rest: Vec<Loaded>,
 ) -> Result<(), ServerRefusal>
     requires { CanLoad (loaded server.old) (reverse rest.items) }
-    ensures counts { ServerCounts (bound server.old) (failures server.old) (failures server.new) result }
+    ensures counts { ServerCounts (bound server.old)
+        (failures server.old) (failures server.new) result }
     ensures asks_stay { asks server.new ≡ asks server.old }
     ensures honesty_stays { honest server.new ≡ honest server.old }
     ensures bound_stays { bound server.new ≡ bound server.old }
@@ -69,7 +73,8 @@ pub fn load_tables(
     tables: List<Loaded>,
 ) -> Result<(), ServerRefusal>
     requires { CanLoad (loaded server.old) tables }
-    ensures counts { ServerCounts (bound server.old) (failures server.old) (failures server.new) result }
+    ensures counts { ServerCounts (bound server.old)
+        (failures server.old) (failures server.new) result }
     ensures asks_stay { asks server.new ≡ asks server.old }
     ensures honesty_stays { honest server.new ≡ honest server.old }
     ensures bound_stays { bound server.new ≡ bound server.old }

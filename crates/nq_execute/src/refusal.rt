@@ -9,7 +9,8 @@ pub enum ServerRefusal {
     TableFailed(Label),
     /// The text of this number, counted from 1, was not answered.
     TextFailed(u64),
-    /// The answer to the text of this number does not fit, first at this row and column, all counted from 1.
+    /// The answer to the text of this number does not fit, first at this row and column, all
+    /// counted from 1.
     BadAnswer { text: u64, row: u64, column: u64 },
 }
 

@@ -1,4 +1,4 @@
-// The summary of a value: how many elements it has at each level, and how long its canonical text is.
+// The summary of a value: how many elements it has at each level, and how long its text is.
 ghost use Rattle.std.specs.Prelude.{◌≡◌, ◌++◌, IfOk, OnOk, codes, flat_map, length, map, string_bytes};
 ghost use Rattle.std.specs.Fmt.{decimal};
 ghost use Rattle.nq_model.specs.Canonical.{canonical_text};
@@ -16,7 +16,7 @@ use std::alloc::Global;
 
 // How many elements the bags have to which a path leads from a value, all together.
 #[cycle(count)]
-#[tactic(auto, using(crate::proofs::Summaries::base_rules, nq_model::proofs::Trees::nested_record, nq_model::proofs::Trees::nested_bag))]
+#[tactic(auto, using(crate::proofs::Summaries::value_rules))]
 fn count_at(path: &[Step], value: &Value) -> Result<u64, Memory>
     ensures { IfOk result (λ count. count ≡ length (elements_at path.now (nested value.now))) }
 {
@@ -30,7 +30,8 @@ fn count_at(path: &[Step], value: &Value) -> Result<u64, Memory>
 // The same from a record.
 #[cycle(count)]
 fn count_in_record(path: &[Step], fields: &[(Label, Value)]) -> Result<u64, Memory>
-    ensures { IfOk result (λ count. count ≡ length (elements_at path.now (rec_of (fields_view fields.now)))) }
+    ensures { IfOk result (λ count.
+        count ≡ length (elements_at path.now (rec_of (fields_view fields.now)))) }
 {
     match path.split_first() {
         None | Some((Step::Down, _)) => Ok(0),
@@ -42,7 +43,8 @@ fn count_in_record(path: &[Step], fields: &[(Label, Value)]) -> Result<u64, Memo
 #[cycle(count)]
 #[tactic(auto, using(crate::proofs::Summaries::bag_rules))]
 fn count_in_bag(path: &[Step], elements: &[Value]) -> Result<u64, Memory>
-    ensures { IfOk result (λ count. count ≡ length (elements_at path.now (bag_of (map nested elements.now)))) }
+    ensures { IfOk result (λ count.
+        count ≡ length (elements_at path.now (bag_of (map nested elements.now)))) }
 {
     match path.split_first() {
         None => Ok(elements.len() as u64),
@@ -54,7 +56,8 @@ fn count_in_bag(path: &[Step], elements: &[Value]) -> Result<u64, Memory>
 // The same from each of these elements.
 #[cycle(count)]
 fn count_inside(path: &[Step], elements: &[Value]) -> Result<u64, Memory>
-    ensures { IfOk result (λ count. count ≡ length (flat_map (elements_at path.now) (map nested elements.now))) }
+    ensures { IfOk result (λ count.
+        count ≡ length (flat_map (elements_at path.now) (map nested elements.now))) }
 {
     let mut count: u64 = 0;
     for element in elements {
@@ -67,7 +70,8 @@ fn count_inside(path: &[Step], elements: &[Value]) -> Result<u64, Memory>
 // The same from the field with a label.
 #[cycle(count)]
 fn count_under(label: &str, path: &[Step], fields: &[(Label, Value)]) -> Result<u64, Memory>
-    ensures { IfOk result (λ count. count ≡ length (elements_at path.now (value_under label.now (fields_of (fields_view fields.now))))) }
+    ensures { IfOk result (λ count. count ≡ length
+        (elements_at path.now (value_under label.now (fields_of (fields_view fields.now))))) }
 {
     for field in fields {
         if field.0.as_str() == label {
@@ -79,7 +83,8 @@ fn count_under(label: &str, path: &[Step], fields: &[(Label, Value)]) -> Result<
 
 // Puts the line of a level.
 fn put_level(text: &mut String, level: u64, count: u64) -> Result<(), Memory>
-    ensures { OnOk result (string_bytes text.new ≡ string_bytes text.old ++ level_line level count) }
+    ensures { OnOk result
+        (string_bytes text.new ≡ string_bytes text.old ++ level_line level count) }
 {
     write!(text, "level {level} {count}\n")?;
     Ok(())
@@ -87,7 +92,8 @@ fn put_level(text: &mut String, level: u64, count: u64) -> Result<(), Memory>
 
 // Puts a line for each path.
 fn put_levels(text: &mut String, paths: &[Path], value: &Value) -> Result<(), Memory>
-    ensures { OnOk result (string_bytes text.new ≡ string_bytes text.old ++ level_lines 1 (steps_of paths.now) (nested value.now)) }
+    ensures { OnOk result (string_bytes text.new
+        ≡ string_bytes text.old ++ level_lines 1 (steps_of paths.now) (nested value.now)) }
 {
     for (at, path) in paths.iter().enumerate() {
         let count = count_at(path.steps.as_slice(), value)?;
