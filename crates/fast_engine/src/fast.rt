@@ -3,13 +3,14 @@ ghost use Rattle.std.specs.Prelude.{◌≡◌, [], true, None};
 ghost use Rattle.std.proofs.Common.{lit≤};
 
 use nq_model::List;
-use plain_engine::answer_text;
+use sql_answer::answer_text;
 use sql_eval::{Arrangement, Joining};
 use sql_profile::{Answer, Loaded, ServerFault, SqlServer};
 use std::alloc::Global;
 
-/// A server that joins tables by hash tables on the equalities of WHERE, inside NOT EXISTS too. It is honest, never
-/// fails, and does not tell its asks. Rows come, and ties are numbered, in the order of nested loops.
+/// A server that joins tables by hash tables on the equalities of WHERE, inside NOT EXISTS too. It
+/// is honest, never fails, and does not tell its asks. Rows come, and ties are numbered, in the
+/// order of nested loops.
 #[derive(Drop)]
 pub struct FastServer {
     tables: List<Loaded>,

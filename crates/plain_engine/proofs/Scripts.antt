@@ -3,6 +3,7 @@ use Rattle.std.proofs.Common.{◌≡◌, ℕ, zero, suc, ◌+◌, ◌-◌, ◌^�
 use Rattle.std.proofs.lemmas.Bool.{le-leb}
 use Rattle.std.proofs.lemmas.Option.{slice_get_cases}
 use Rattle.sql_profile.specs.Servers.{RoseBelow}
+use Rattle.plain_engine.proofs.Counting.{listed_rise_at, listed_within}
 
 same_some : {A : Type 0} (x y : A) → Some x ≡ Some y → x ≡ y
 same_some x y e = cc
@@ -38,3 +39,6 @@ rose_once bound before now room h is = record { rose = go (le_or before (2 ^ 64 
     go : (before < 2 ^ 64 - 1) ⊎ (before ≡ 2 ^ 64 - 1) → (before < now) ⊎ ((before ≡ 2 ^ 64 - 1) × (now ≡ 2 ^ 64 - 1))
     go (inl less) = inl (omega (arith, less, is))
     go (inr same) = inr (same, omega (arith, same, is))
+
+-- a count of failures after a call that has a listed number
+pub ruleset failure_rules = (listed_rise_at, listed_within, rose_once)

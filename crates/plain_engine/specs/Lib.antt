@@ -1,4 +1,3 @@
-pub mod Asked
 pub mod Counting
 pub mod Failing
 pub mod Scripted

@@ -2,15 +2,15 @@
 ghost use Rattle.std.specs.Prelude.{◌≡◌, [], true, None};
 ghost use Rattle.std.proofs.Common.{lit≤};
 
-use crate::answering::answer_text;
 use nq_model::List;
+use sql_answer::answer_text;
 use sql_eval::{Arrangement, Joining};
 use sql_profile::{Answer, Loaded, ServerFault, SqlServer};
 use std::alloc::Global;
 
-/// A server whose answers SQL allows too, in another arrangement than those of the plain one: in each SELECT ties
-/// are numbered, and rows come, in reverse. The SELECTs of a UNION ALL stay in their order. It is honest, never
-/// fails, and does not tell its asks.
+/// A server whose answers SQL allows too, in another arrangement than those of the plain one: in
+/// each SELECT ties are numbered, and rows come, in reverse. The SELECTs of a UNION ALL stay in
+/// their order. It is honest, never fails, and does not tell its asks.
 #[derive(Drop)]
 pub struct CrookedServer {
     tables: List<Loaded>,

@@ -8,15 +8,16 @@ ghost use Rattle.sql_profile.specs.Servers.{CountsFault, RoseBelow, table_names}
 ghost use Rattle.sql_profile.specs.Texts.{IsAskable, TextAllows};
 ghost use Rattle.sql_profile.specs.Tokens.{First};
 
-use crate::answering::answer_text;
 use failing_calls::is_next_listed;
 use nq_model::List;
+use sql_answer::answer_text;
 use sql_eval::{Arrangement, Joining};
 use sql_profile::{Answer, Loaded, ServerFault, SqlServer};
 use std::alloc::Global;
 
-/// A server like the plain one, but that its calls with listed numbers fail. Loads and asks are counted together,
-/// from 1. A call that finds too little memory, or that comes after call 2^64 - 1, takes no number.
+/// A server like the plain one, but that its calls with listed numbers fail. Loads and asks are
+/// counted together, from 1. A call that finds too little memory, or that comes after call 2^64 -
+/// 1, takes no number.
 #[derive(Drop)]
 pub struct FailingServer {
     tables: List<Loaded>,
@@ -30,8 +31,8 @@ pub struct FailingServer {
 impl FailingServer {
     ghost use Rattle.plain_engine.specs.Failing.{calls_of, failing_of, fails_next};
 
-    /// A server that holds no table, and whose calls with these numbers fail; no other call fails. It is honest,
-    /// fails at most once for each number, and does not tell its asks.
+    /// A server that holds no table, and whose calls with these numbers fail; no other call fails.
+    /// It is honest, fails at most once for each number, and does not tell its asks.
     pub fn new(alloc: Global, failing: List<u64>) -> FailingServer
         ensures holds_none { ⟦<FailingServer as SqlServer>⟧.loaded result ≡ [] }
         ensures is_honest { ⟦<FailingServer as SqlServer>⟧.honest result ≡ true }
@@ -68,7 +69,7 @@ impl FailingServer {
     }
 
     // Counts a call that fails.
-    #[tactic(auto, using(crate::proofs::Counting::listed_rise_at, crate::proofs::Counting::listed_within, crate::proofs::Scripts::rose_once))]
+    #[tactic(auto, using(crate::proofs::Scripts::failure_rules))]
     fn count_failure(&mut self)
         requires { fails_next self.old ≡ true }
         ensures tables { self.new.tables ≡ self.old.tables }
@@ -103,7 +104,8 @@ impl SqlServer for FailingServer {
         requires fits { All (RowFits (types_of table.columns)) table.rows }
         ensures ok { OnOk result (held_tables self.new ≡ held_tables self.old ++ table ∷ []) }
         ensures err { OnErr result (held_tables self.new ≡ held_tables self.old) }
-        ensures counts { CountsFault (length (failing_of self.old)) (failures_of self.old) (failures_of self.new) result }
+        ensures counts { CountsFault (length (failing_of self.old))
+            (failures_of self.old) (failures_of self.new) result }
 
         // Which calls fail, so that a test can tell.
         ensures failed { FailsWhere is_failure (fails_next self.old) result }
@@ -121,8 +123,10 @@ impl SqlServer for FailingServer {
 
     fn ask(&mut self, alloc: Global, text: &[u8]) -> Result<Answer, ServerFault>
         requires { IsAskable First (held_tables self.old) text.now }
-        ensures allowed { IfOk result (λ answer. TextAllows First (held_tables self.old) text.now answer.rows) }
-        ensures counts { CountsFault (length (failing_of self.old)) (failures_of self.old) (failures_of self.new) result }
+        ensures allowed { IfOk result (λ answer.
+            TextAllows First (held_tables self.old) text.now answer.rows) }
+        ensures counts { CountsFault (length (failing_of self.old))
+            (failures_of self.old) (failures_of self.new) result }
         ensures tables_stay { held_tables self.new ≡ held_tables self.old }
 
         // Which calls fail, so that a test can tell.

@@ -1,13 +1,11 @@
 //! Servers that answer SQL texts over the tables that they were loaded with.
 #![tactic(auto)]
 
-mod answering;
 mod crooked;
 mod failing;
 mod plain;
 mod scripted;
 
-pub use answering::answer_text;
 pub use crooked::CrookedServer;
 pub use failing::FailingServer;
 pub use plain::PlainServer;

@@ -2,14 +2,14 @@
 ghost use Rattle.std.specs.Prelude.{◌≡◌, [], true, None};
 ghost use Rattle.std.proofs.Common.{lit≤};
 
-use crate::answering::answer_text;
 use nq_model::List;
+use sql_answer::answer_text;
 use sql_eval::{Arrangement, Joining};
 use sql_profile::{Answer, Loaded, ServerFault, SqlServer};
 use std::alloc::Global;
 
-/// A server by nested loops. It is honest, never fails, and does not tell its asks. Rows come, and ties are
-/// numbered, in the order in which the combinations arise.
+/// A server by nested loops. It is honest, never fails, and does not tell its asks. Rows come, and
+/// ties are numbered, in the order in which the combinations arise.
 #[derive(Drop)]
 pub struct PlainServer {
     tables: List<Loaded>,

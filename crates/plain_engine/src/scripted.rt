@@ -18,7 +18,8 @@ use std::alloc::Global;
 pub struct ScriptedServer {
     tables: List<Loaded>,
     script: List<Answer>,
-    // The texts that were answered, in order: the first with the first answer of the script, and so on.
+    // The texts that were answered, in order: the first with the first answer of the script, and so
+    // on.
     asked: List<List<u8>>,
     failures: u64,
     ghost within: { length asked ≤ length script },
@@ -28,8 +29,9 @@ pub struct ScriptedServer {
 impl ScriptedServer {
     ghost use Rattle.plain_engine.specs.Scripted.{script_of, answered};
 
-    /// A server that holds no table. Its ask after so many that succeeded gives the answer of the script behind so
-    /// many; where there is none, the ask fails. No load fails. It is not honest, and tells its asks.
+    /// A server that holds no table. Its ask after so many that succeeded gives the answer of the
+    /// script behind so many; where there is none, the ask fails. No load fails. It is not honest,
+    /// and tells its asks.
     pub fn new(alloc: Global, answers: List<Answer>) -> ScriptedServer
         ensures holds_none { ⟦<ScriptedServer as SqlServer>⟧.loaded result ≡ [] }
         ensures is_not_honest { ⟦<ScriptedServer as SqlServer>⟧.honest result ≡ false }
@@ -84,13 +86,16 @@ impl SqlServer for ScriptedServer {
     fn ask(&mut self, alloc: Global, text: &[u8]) -> Result<Answer, ServerFault>
         requires { IsAskable First (held_tables self.old) text.now }
         ensures counts { CountsFault (2 ^ 64) (failures_of self.old) (failures_of self.new) result }
-        ensures told { IfOk result (λ answer. asks_of self.new ≡ asks_of self.old ++ (text.now, answer) ∷ []) }
+        ensures told { IfOk result (λ answer.
+            asks_of self.new ≡ asks_of self.old ++ (text.now, answer) ∷ []) }
         ensures untold { OnErr result (asks_of self.new ≡ asks_of self.old) }
         ensures tables_stay { held_tables self.new ≡ held_tables self.old }
 
         // It gives the next answer, and fails where there is none.
-        ensures gives { IfOk result (λ answer. slice_get (script_of self.old) (answered self.old) ≡ Some answer) }
-        ensures failed { FailsWhere is_failure (nat_le (length (script_of self.old)) (answered self.old)) result }
+        ensures gives { IfOk result (λ answer.
+            slice_get (script_of self.old) (answered self.old) ≡ Some answer) }
+        ensures failed { FailsWhere is_failure
+            (nat_le (length (script_of self.old)) (answered self.old)) result }
         ensures one_more { OnOk result (answered self.new ≡ answered self.old + 1) }
         ensures no_more { OnErr result (answered self.new ≡ answered self.old) }
         ensures script { script_of self.new ≡ script_of self.old }

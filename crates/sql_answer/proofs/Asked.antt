@@ -1,6 +1,6 @@
 -- A text that spells a tree has no fault, so that of its reading only want of memory is left.
 use Rattle.std.proofs.Common.{◌≡◌, ℕ, List, length, Err, refl}
-use Rattle.plain_engine.specs.Asked.{IsSpelled}
+use Rattle.sql_answer.specs.Asked.{IsSpelled}
 use Rattle.sql_profile.specs.Texts.{Fault}
 use Rattle.sql_profile.specs.Tokens.{First}
 use Rattle.sql_profile.proofs.TextLaws.{spelled_faultless}

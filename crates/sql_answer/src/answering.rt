@@ -1,6 +1,6 @@
 // The answer to a text over held tables.
 ghost use Rattle.std.specs.Prelude.{IfOk, length};
-ghost use Rattle.plain_engine.specs.Asked.{IsSpelled};
+ghost use Rattle.sql_answer.specs.Asked.{IsSpelled};
 ghost use Rattle.sql_profile.specs.Texts.{IsAskable, Spells, TextAllows};
 ghost use Rattle.sql_profile.specs.Tokens.{First};
 ghost use Rattle.sql_profile.specs.Trees.{placed};
@@ -25,7 +25,8 @@ fn tree_of(alloc: Global, text: &[u8]) -> Result<SqlText, Memory>
     }
 }
 
-/// The answer to a text that may be asked over the held tables. The only error is that memory wants.
+/// The answer to a text that may be asked over the held tables: rows that SQL allows to it. Fails
+/// only if memory runs out.
 pub fn answer_text(
     alloc: Global,
     held: &[Loaded],
