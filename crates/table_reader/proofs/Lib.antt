@@ -2,11 +2,7 @@ pub mod Parses
 pub mod CellFacts
 pub mod RowFacts
 pub mod SpellingFacts
-pub mod KeyFacts
 pub mod ReadFacts
-pub mod TwinFacts
-pub mod CodeMapFacts
-pub mod IndexFacts
 pub mod TableFacts
 pub mod FitFacts
 pub mod RecordFacts

@@ -1,40 +1,28 @@
 -- What the records of a text give, and its first fault.
-use Rattle.std.proofs.Common.{◌≡◌, ◌≢◌, ◌+◌, ℕ, zero, suc, Bool, true, false, if◌then◌else◌, Option, Some, None, Result, Ok, Err, List, [], ◌∷◌, ◌++◌, length, map, take, drop, refl, sym, ap, subst, inl, inr, ◌⊎◌, ◌∙◌, arith, true≢false, append-nil, append_assoc}
+use Rattle.std.proofs.Common.{◌≡◌, ◌+◌, ℕ, zero, suc, Bool, true, false, if◌then◌else◌, Option, Some, None, Result, Ok, Err, List, [], ◌∷◌, ◌++◌, length, take, drop, refl, sym, ap, subst, inl, inr, ◌⊎◌, ◌∙◌, arith, true≢false, append-nil, append_assoc}
 use Rattle.std.specs.List.{AllZip}
 use Rattle.std.specs.Result.{result_ok}
 use Rattle.std.specs.Cmp.Lexicographic.{pointwise_decides, bytes_decides}
-use Rattle.std.proofs.lemmas.List.{map-append, length-take}
+use Rattle.std.proofs.lemmas.List.{length-take}
 use Rattle.std.proofs.lemmas.Option.{slice_get_within}
 use Rattle.std.proofs.lemmas.Slice.Zip.{AllZip-long}
 use Rattle.std.proofs.Math.Seq.{take-append_seam}
 use Rattle.nq_model.specs.Tables.{names_of, types_of}
 use Rattle.nq_model.specs.declared.table.Cell.{Cell}
 use Rattle.nq_model.specs.declared.table.TableShape.{TableShape}
-use Rattle.nq_model.specs.SchemaTables.{key_of, KeysDiffer}
+use Rattle.nq_model.specs.SchemaTables.{KeysDiffer}
 use Rattle.table_reader.specs.declared.TableFault.{TableFault}
 use Rattle.table_reader.specs.declared.TableFault.TheVariants as fault
 use Rattle.table_reader.specs.Records.{Record}
 use Rattle.table_reader.specs.Spelling.{row_at}
-use Rattle.table_reader.specs.Keys.{twin_of}
+use Rattle.row_keys.specs.Keys.{twin_of, IsFirstTwin}
 use Rattle.table_reader.specs.Tables.{unless_twin, next_row, rows_after, is_header, rows_under}
-use Rattle.table_reader.specs.Faults.{SpellsRow, GivesRows, IsFirstFault, IsFirstTwin, HasFault}
+use Rattle.table_reader.specs.Faults.{SpellsRow, GivesRows, IsFirstFault, HasFault}
 use Rattle.table_reader.proofs.ReadFacts.{rows_after-append}
 use Rattle.table_reader.proofs.SpellingFacts.{split_at, get_seam, then_ok, then_err, row_spelled, spelled_row, IsWrongRow, row_wrong, wrong_row}
-use Rattle.table_reader.proofs.TwinFacts.{distinct_more, distinct_apart, each_mapped, mapped_each, no_twin, twin_none, twin_first, first_twin}
+use Rattle.row_keys.proofs.TwinFacts.{keys_more, keys_before, twin_first, first_twin}
 
 module _ (shape : TableShape) where
-  -- one row more, whose key cells no row before it has
-  keys_more : (rows : List (List Cell)) (row : List Cell) → KeysDiffer shape rows → twin_of shape row rows ≡ None → KeysDiffer shape (rows ++ row ∷ [])
-  keys_more rows row differ none keyed =
-      rw (map-append (key_of shape) rows (row ∷ [])) (distinct_more (map (key_of shape) rows) (key_of shape row) (differ keyed)
-      (each_mapped (key_of shape) (λ k. k ≢ key_of shape row) rows (no_twin shape row rows none keyed)))
-
-  -- among rows with different key cells, those before a row
-  keys_before : (rows : List (List Cell)) (row : List Cell) (more : List (List Cell)) → KeysDiffer shape (rows ++ row ∷ more) → twin_of shape row rows ≡ None
-  keys_before rows row more differ =
-      twin_none shape row rows (λ keyed. mapped_each (key_of shape) (λ k. k ≢ key_of shape row) rows
-      (distinct_apart (map (key_of shape) rows) (key_of shape row) (map (key_of shape) more) (rw (map-append (key_of shape) rows (row ∷ more)) at (differ keyed))))
-
   -- the next row, and that no row before it has its key
   next_given : (rows : List (List Cell)) (fields : Record) (row : List Cell) → next_row shape rows fields ≡ Ok row
       → SpellsRow (types_of shape.columns) fields row × (twin_of shape row rows ≡ None)
@@ -108,7 +96,7 @@ module _ (shape : TableShape) where
   after_given earlier (fields ∷ body) rows differ e =
       let one = then_ok (next_row shape earlier fields) _ rows e in
       let given = next_given earlier fields one.0 one.1 in
-      let (more, is, each, differs) = after_given (earlier ++ one.0 ∷ []) body rows (keys_more earlier one.0 differ given.1) one.2 in
+      let (more, is, each, differs) = after_given (earlier ++ one.0 ∷ []) body rows (keys_more shape earlier one.0 differ given.1) one.2 in
       (one.0 ∷ more, is ∙ append_assoc earlier (one.0 ∷ []) more, (given.0, each), differs)
 
   given_after : (earlier : List (List Cell)) (body : List Record) (more : List (List Cell)) → AllZip (SpellsRow (types_of shape.columns)) body more
@@ -119,7 +107,7 @@ module _ (shape : TableShape) where
   given_after earlier (fields ∷ body) (row ∷ more) (spelled, each) differ =
       let e : (earlier ++ row ∷ []) ++ more ≡ earlier ++ row ∷ more = append_assoc earlier (row ∷ []) more in
       let later = given_after (earlier ++ row ∷ []) body more each (rw e differ) in
-      rw (given_next earlier fields row spelled (keys_before earlier row more differ)) (later ∙ ap Ok e)
+      rw (given_next earlier fields row spelled (keys_before shape earlier row more differ)) (later ∙ ap Ok e)
 
   -- records that give rows, and then one at fault
   record BadAfter (earlier : List (List Cell)) (body : List Record) (e : TableFault) : Type 0 where

@@ -1,13 +1,14 @@
 -- When a table text gives rows, and when it has a fault, in the words of tables.
-use Rattle.std.specs.Prelude.{◌≡◌, ◌≢◌, ◌≤◌, ◌-◌, ℕ, true, false, List, [], length, zip, take, drop, Some, None, slice_get}
-use Rattle.std.specs.List.{AllZip, AllByRecursion as Each}
+use Rattle.std.specs.Prelude.{◌≡◌, ◌≢◌, ◌≤◌, ◌-◌, ℕ, true, false, List, length, zip, take, drop, Some, None, slice_get}
+use Rattle.std.specs.List.{AllZip}
 use Rattle.std.specs.Str.{is_utf8}
-use Rattle.nq_model.specs.SchemaTables.{key_of, KeysDiffer}
+use Rattle.nq_model.specs.SchemaTables.{KeysDiffer}
 use Rattle.nq_model.specs.Tables.{names_of, types_of}
 use Rattle.nq_model.specs.declared.table.Cell.{Cell}
 use Rattle.nq_model.specs.declared.table.ColumnType.{ColumnType}
 use Rattle.nq_model.specs.declared.table.ColumnType.TheVariants as column
 use Rattle.nq_model.specs.declared.table.TableShape.{TableShape}
+use Rattle.row_keys.specs.Keys.{IsFirstTwin}
 use Rattle.table_reader.specs.declared.TableFault.{TableFault}
 use Rattle.table_reader.specs.declared.TableFault.TheVariants as fault
 use Rattle.table_reader.specs.Records.{Record}
@@ -47,15 +48,6 @@ pub record IsFirstBadCell (types : List ColumnType) (fields : Record) (at : ℕ)
   pub field : List ℕ
   pub here : slice_get (zip types fields) (at - 1) ≡ Some (type, field)
   pub wrong : Wrong type field
-
--- of these rows, that of a number is the first that has the key cells of a row
-pub record IsFirstTwin (shape : TableShape) (rows : List (List Cell)) (row : List Cell) (number : ℕ) : Type 0 where
-  pub keyed : shape.key ≢ []
-  pub counted : 1 ≤ number
-  pub twin : List Cell
-  pub here : slice_get rows (number - 1) ≡ Some twin
-  pub same : key_of shape twin ≡ key_of shape row
-  pub first : Each (λ other. key_of shape other ≢ key_of shape row) (take (number - 1) rows)
 
 -- the cell at a row and a column is the first fault of a text
 abbrev pub HasBadCell : TableShape → List Record → ℕ → ℕ → (ColumnType → List ℕ → Type 0) → Type 0

@@ -1,10 +1,5 @@
 pub mod Records
 pub mod Spelling
-pub mod Keys
-pub mod Codes
-pub mod Slots
-pub mod CodeMaps
-pub mod FirstRows
 pub mod Tables
 pub mod Faults
 pub mod Progress

@@ -10,7 +10,7 @@ use Rattle.table_reader.specs.declared.TableFault.{TableFault}
 use Rattle.table_reader.specs.declared.TableFault.TheVariants as fault
 use Rattle.table_reader.specs.Records.{Record, records_of}
 use Rattle.table_reader.specs.Spelling.{and_then, row_at}
-use Rattle.table_reader.specs.Keys.{twin_of}
+use Rattle.row_keys.specs.Keys.{twin_of}
 
 -- a row whose key no earlier row has
 abbrev pub unless_twin : ℕ → List Cell → Option ℕ → Result (List Cell) TableFault

@@ -2,9 +2,6 @@
 #![tactic(auto)]
 
 mod cells;
-mod code_map;
-mod codes;
-mod keys;
 mod laws;
 mod read;
 mod records;

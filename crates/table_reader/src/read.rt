@@ -1,10 +1,9 @@
 // The rows of a table text.
-ghost use Rattle.std.specs.Prelude.{◌≡◌, ◌≢◌, ◌+◌, ℕ, List, [], ◌∷◌, ◌++◌, length, map, IfOk, IfErr, None};
+ghost use Rattle.std.specs.Prelude.{◌≡◌, ◌≢◌, ◌+◌, ℕ, List, [], ◌∷◌, ◌++◌, length, map, IfOk, IfErr};
 ghost use Rattle.csv.specs.Records.{fields_of};
 ghost use Rattle.nq_model.specs.CellRefs.{cell_seen};
 ghost use Rattle.nq_model.specs.SchemaTables.{IsTableOf};
-ghost use Rattle.table_reader.specs.FirstRows.{KeepsIndex};
-ghost use Rattle.table_reader.specs.Keys.{twin_of};
+ghost use Rattle.row_keys.specs.FirstRows.{KeepsIndex};
 ghost use Rattle.table_reader.specs.Records.{HasRead};
 ghost use Rattle.table_reader.specs.Progress.{ReadsHeader};
 ghost use Rattle.table_reader.specs.Tables.{is_header, next_row, table_of};
@@ -12,10 +11,10 @@ ghost use Rattle.table_reader.specs.declared.TableFault.TheVariants as fault;
 
 use crate::TableFault;
 use crate::cells::read_row;
-use crate::keys::KeyIndex;
 use crate::records::{field_at, read_next, reader_of};
 use csv::{ByteRecord, Reader};
 use nq_model::{CellRef, Memory, TableShape};
+use row_keys::{KeyIndex, earlier_twin};
 use rows::{Rows, Table};
 use std::alloc::Global;
 
@@ -33,26 +32,6 @@ fn is_header(shape: &TableShape, fields: &ByteRecord) -> bool
         }
     }
     true
-}
-
-// The number of the first of these rows that has the key of a row, where the table has a key. If none has it,
-// the index then knows the row too.
-#[tactic(auto, unfolding(crate::specs::Keys::twin_of))]
-fn earlier_twin(
-    alloc: Global,
-    shape: &TableShape,
-    rows: &Rows,
-    index: &mut KeyIndex,
-    row: &[CellRef<'_>],
-) -> Result<Option<u64>, Memory>
-    ensures twin { IfOk result (λ found. KeepsIndex shape.now rows.now index.old → twin_of shape.now (map cell_seen row.now) rows.now ≡ found) }
-    ensures keeps { IfOk result (λ found. KeepsIndex shape.now rows.now index.old → found ≡ None
-        → KeepsIndex shape.now (rows.now ++ map cell_seen row.now ∷ []) index.new) }
-{
-    if shape.key.is_empty() {
-        return Ok(None);
-    }
-    index.enter(alloc, rows, row)
 }
 
 // The row that a record spells after earlier ones, which the index then knows too. Its texts are lent from

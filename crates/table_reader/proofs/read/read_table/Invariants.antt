@@ -1,5 +1,5 @@
 use Rattle.std.proofs.Common.{◌≡◌, ◌+◌, length}
-use Rattle.table_reader.specs.FirstRows.{KeepsIndex}
+use Rattle.row_keys.specs.FirstRows.{KeepsIndex}
 use Rattle.table_reader.specs.Progress.{HasRows}
 use Rattle.table_reader.proofs.read.read_table.Given as goal
 

@@ -1,13 +1,14 @@
 // Keys, and the first row of each.
-ghost use Rattle.std.specs.Prelude.{◌≡◌, ◌+◌, [], map, IfOk, option_copied, option_map, slice_index_or};
+ghost use Rattle.std.specs.Prelude.{◌≡◌, ◌+◌, ◌++◌, ◌∷◌, [], map, None, IfOk, option_copied, option_map, slice_index_or};
 ghost use Rattle.std.specs.Option.{unwrap_or};
 ghost use Rattle.nq_model.specs.CellRefs.{cell_seen};
 ghost use Rattle.nq_model.specs.NamedRows.{no_cell};
 ghost use Rattle.nq_model.specs.declared.table.TableShape.{TableShape};
-ghost use Rattle.table_reader.specs.Codes.{cell_code, key_code};
-ghost use Rattle.table_reader.specs.FirstRows.{cell_at, cell_of_key, cells_at, key_places, place_of, Enters, Indexes};
+ghost use Rattle.row_keys.specs.Codes.{cell_code, key_code};
+ghost use Rattle.row_keys.specs.FirstRows.{cell_at, cell_of_key, cells_at, key_places, place_of, Enters, Indexes, KeepsIndex};
+ghost use Rattle.row_keys.specs.Keys.{twin_of};
 
-use crate::code_map::{CodeMap, slots_for};
+use crate::code_map::{CodeMap, slots_for, slots_for_rows};
 use crate::codes::cell_code;
 use nq_model::{CellRef, ColumnType, Label, Memory, TableShape};
 use rows::Rows;
@@ -22,10 +23,10 @@ pub(crate) enum KeyCell {
     Text(String),
 }
 
-// The first row of each key, counted from 0. A key that is found by its code takes some 30 bytes, and a
-// copy of its cells more than 100, so a key is copied only where an earlier one has its code.
+/// The first row of each key, counted from 0. A key that is found by its code takes some 30 bytes, and a
+/// copy of its cells more than 100, so a key is copied only where an earlier one has its code.
 #[derive(Drop)]
-pub(crate) struct KeyIndex {
+pub struct KeyIndex {
     columns: Vec<Option<usize>>,
     first_rows: CodeMap,
     others: BTreeMap<Vec<KeyCell>, u32>,
@@ -99,17 +100,27 @@ fn number_of(place: u32) -> u64
 }
 
 impl KeyIndex {
-    // An index of no row, with slots for the keys of a table text.
+    /// An index of no row, with slots for the keys of a table text. Fails only if memory runs out.
+    pub fn new(alloc: Global, shape: &TableShape, text: &[u8]) -> Result<KeyIndex, Memory>
+        ensures { IfOk result (Indexes shape.now []) }
+    {
+        KeyIndex::with_slots(alloc, shape, slots_for(text))
+    }
+
+    /// An index of no row, with slots for the keys of about so many rows. Fails only if memory runs out.
+    pub fn for_rows(alloc: Global, shape: &TableShape, count: usize) -> Result<KeyIndex, Memory>
+        ensures { IfOk result (Indexes shape.now []) }
+    {
+        KeyIndex::with_slots(alloc, shape, slots_for_rows(count))
+    }
+
+    // An index of no row, with so many slots if the table has a key.
     #[tactic(auto, using(crate::proofs::IndexFacts::indexes_none))]
-    pub(crate) fn new(alloc: Global, shape: &TableShape, text: &[u8]) -> Result<KeyIndex, Memory>
+    fn with_slots(alloc: Global, shape: &TableShape, slots: usize) -> Result<KeyIndex, Memory>
         ensures { IfOk result (Indexes shape.now []) }
     {
         let columns = key_places(alloc, shape)?;
-        let count = if columns.is_empty() {
-            0
-        } else {
-            slots_for(text)
-        };
+        let count = if columns.is_empty() { 0 } else { slots };
         Ok(KeyIndex {
             columns,
             first_rows: CodeMap::new(alloc, count)?,
@@ -142,7 +153,7 @@ impl KeyIndex {
 
     // Enters a row after those before it. Tells the number of the first row that has its key instead, if
     // there is one.
-    pub(crate) fn enter(
+    fn enter(
         &mut self,
         alloc: Global,
         rows: &Rows,
@@ -166,4 +177,24 @@ impl KeyIndex {
         let earlier = self.others.insert(key, place)?;
         Ok(earlier.map(number_of))
     }
+}
+
+/// The number of the first of these rows that has the key of a row, where the table has a key. If none has it,
+/// the index then knows the row too. Fails only if memory runs out.
+#[tactic(auto, unfolding(crate::specs::Keys::twin_of))]
+pub fn earlier_twin(
+    alloc: Global,
+    shape: &TableShape,
+    rows: &Rows,
+    index: &mut KeyIndex,
+    row: &[CellRef<'_>],
+) -> Result<Option<u64>, Memory>
+    ensures twin { IfOk result (λ found. KeepsIndex shape.now rows.now index.old → twin_of shape.now (map cell_seen row.now) rows.now ≡ found) }
+    ensures keeps { IfOk result (λ found. KeepsIndex shape.now rows.now index.old → found ≡ None
+        → KeepsIndex shape.now (rows.now ++ map cell_seen row.now ∷ []) index.new) }
+{
+    if shape.key.is_empty() {
+        return Ok(None);
+    }
+    index.enter(alloc, rows, row)
 }

@@ -8,13 +8,13 @@ use Rattle.std.proofs.lemmas.Option.{get_or_from_slice_get, slice_get_within}
 use Rattle.nq_model.specs.declared.table.Cell.{Cell}
 use Rattle.nq_model.specs.declared.table.TableShape.{TableShape}
 use Rattle.nq_model.specs.SchemaTables.{key_of}
-use Rattle.table_reader.specs.Codes.{key_code}
-use Rattle.table_reader.specs.CodeMaps.{place_under}
-use Rattle.table_reader.specs.Keys.{first_with}
-use Rattle.table_reader.specs.FirstRows.{cell_of_key, cells_of_key, key_places, place_with, place_coded, other_than, cells_at, Indexes, Enters}
-use Rattle.table_reader.specs.declared.keys.KeyIndex.{KeyIndex}
-use Rattle.table_reader.proofs.KeyFacts.{Key, key_cmp, cells_eq, cells_Decides, found, found_at, found_entered, position_later, position-append, places_key}
-use Rattle.table_reader.proofs.TwinFacts.{IsFirstAt, position_first, first_position, position_none, none_position, each_weaker}
+use Rattle.row_keys.specs.Codes.{key_code}
+use Rattle.row_keys.specs.CodeMaps.{place_under}
+use Rattle.row_keys.specs.Keys.{first_with}
+use Rattle.row_keys.specs.FirstRows.{cell_of_key, cells_of_key, key_places, place_with, place_coded, other_than, cells_at, Indexes, Enters}
+use Rattle.row_keys.specs.declared.keys.KeyIndex.{KeyIndex}
+use Rattle.row_keys.proofs.KeyFacts.{Key, key_cmp, cells_eq, cells_Decides, found, found_at, found_entered, position_later, position-append, places_key}
+use Rattle.row_keys.proofs.TwinFacts.{IsFirstAt, position_first, first_position, position_none, none_position, each_weaker}
 
 nothing_more : {A : Type 0} (o : Option A) → o ≡ option_or o None
 nothing_more None = refl

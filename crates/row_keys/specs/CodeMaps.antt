@@ -2,8 +2,8 @@
 use Rattle.std.specs.Prelude.{ℕ, Option}
 use Rattle.std.specs.BTreeMap.{get}
 use Rattle.std.specs.Ordering.{nat_cmp}
-use Rattle.table_reader.specs.declared.code_map.CodeMap.{CodeMap}
-use Rattle.table_reader.specs.Slots.{slot_under, place_by}
+use Rattle.row_keys.specs.declared.code_map.CodeMap.{CodeMap}
+use Rattle.row_keys.specs.Slots.{slot_under, place_by}
 
 -- the place under a code
 abbrev pub place_under : CodeMap → ℕ → Option ℕ

@@ -3,7 +3,7 @@
 // follow one another mostly have neighbouring codes, and an ordered table fills the index in order.
 ghost use Rattle.std.specs.Prelude.{◌≡◌};
 ghost use Rattle.nq_model.specs.CellRefs.{cell_seen};
-ghost use Rattle.table_reader.specs.Codes.{cell_code, code_with, int_code, text_code};
+ghost use Rattle.row_keys.specs.Codes.{cell_code, code_with, int_code, text_code};
 
 use nq_model::CellRef;
 

@@ -2,10 +2,10 @@ use Rattle.std.proofs.Common.{ap, ◌∙◌, None, arith, ◌<◌, length, map}
 use Rattle.std.specs.Option.{unwrap_or}
 use Rattle.nq_model.specs.CellRefs.{cell_seen}
 use Rattle.nq_model.specs.NamedRows.{no_cell}
-use Rattle.table_reader.specs.Codes.{cell_code}
-use Rattle.table_reader.specs.FirstRows.{cell_at}
-use Rattle.table_reader.proofs.KeyFacts.{code_more}
-use Rattle.table_reader.proofs.keys.KeyIndex.code_of.Goals as goal
+use Rattle.row_keys.specs.Codes.{cell_code}
+use Rattle.row_keys.specs.FirstRows.{cell_at}
+use Rattle.row_keys.proofs.KeyFacts.{code_more}
+use Rattle.row_keys.proofs.keys.KeyIndex.code_of.Goals as goal
 
 pub loop-place-preserved : goal.loop-place-preserved
 loop-place-preserved c =

@@ -1,13 +1,13 @@
 // A map from codes to the places of rows. Most codes stand in a slot of their own and are found at once. A
 // code whose slot is taken stands in an ordered map, so that no choice of keys makes the look-ups slow.
 ghost use Rattle.std.specs.Prelude.{◌≡◌, ◌<◌, ◌==◌, ℕ, cond, length, slice_get, IfOk, IsTrue, OnOk, None, Some};
-ghost use Rattle.table_reader.specs.Slots.{is_empty, slot_of, IsSound};
+ghost use Rattle.row_keys.specs.Slots.{is_empty, slot_of, IsSound};
 
 use nq_model::Memory;
 use std::alloc::Global;
 use std::collections::BTreeMap;
 
-const SLOTS_PER_LINE: usize = 3;
+const SLOTS_PER_ROW: usize = 3;
 
 const BYTES_PER_SLOT: usize = 4;
 
@@ -30,12 +30,16 @@ pub(crate) struct CodeMap {
 // for so many bytes, so that lines without a row take little.
 pub(crate) fn slots_for(text: &[u8]) -> usize {
     let lines = text.iter().filter(|byte| **byte == b'\n').count();
-    let wanted = lines.saturating_mul(SLOTS_PER_LINE);
-    wanted.min(text.len() / BYTES_PER_SLOT)
+    slots_for_rows(lines).min(text.len() / BYTES_PER_SLOT)
+}
+
+// How many slots the codes of the keys of so many rows get.
+pub(crate) fn slots_for_rows(count: usize) -> usize {
+    count.saturating_mul(SLOTS_PER_ROW)
 }
 
 impl CodeMap {
-    ghost use Rattle.table_reader.specs.CodeMaps.{place_under};
+    ghost use Rattle.row_keys.specs.CodeMaps.{place_under};
 
     // No place under any code, with so many slots.
     pub(crate) fn new(alloc: Global, count: usize) -> Result<CodeMap, Memory>

@@ -2,7 +2,7 @@
 use Rattle.std.specs.Prelude.{◌≡◌, ◌==◌, ◌%◌, ◌-◌, ℕ, Bool, true, false, max, List, length, Option, Some, None, slice_get, if◌then◌else◌}
 use Rattle.std.specs.BTreeMap.{get, BTreeMap}
 use Rattle.std.specs.Ordering.{nat_cmp}
-use Rattle.table_reader.specs.declared.code_map.Slot.{Slot}
+use Rattle.row_keys.specs.declared.code_map.Slot.{Slot}
 
 -- the slot in which a code belongs, of so many
 abbrev pub slot_of : ℕ → ℕ → ℕ

@@ -1,13 +1,13 @@
 -- The first row that has the key cells of another.
 use Rattle.std.proofs.Common.{◌≡◌, ◌≢◌, ◌≤◌, ◌+◌, ◌-◌, ℕ, zero, suc, Bool, true, false, cond, Some, None, List, [], ◌∷◌, ◌++◌, map, take, slice_get, refl, sym, ap, ◌∙◌, arith, add-zero, true≢false}
 use Rattle.std.specs.List.{AllByRecursion as Each, position_from}
+use Rattle.std.proofs.lemmas.List.{map-append}
 use Rattle.nq_model.specs.Orders.{AreDistinct}
 use Rattle.nq_model.specs.declared.table.Cell.{Cell}
 use Rattle.nq_model.specs.declared.table.TableShape.{TableShape}
-use Rattle.nq_model.specs.SchemaTables.{key_of}
-use Rattle.table_reader.specs.Keys.{first_with, if_keyed, twin_of}
-use Rattle.table_reader.specs.Faults.{IsFirstTwin}
-use Rattle.table_reader.proofs.KeyFacts.{cells_eq, cells_Decides}
+use Rattle.nq_model.specs.SchemaTables.{key_of, KeysDiffer}
+use Rattle.row_keys.specs.Keys.{first_with, if_keyed, twin_of, IsFirstTwin}
+use Rattle.row_keys.proofs.KeyFacts.{cells_eq, cells_Decides}
 
 module _ {X : Type 0} (t : X → Bool) where
   -- the first place at which a test passes, in its own words
@@ -148,3 +148,15 @@ module _ (shape : TableShape) where
             passes = (cells_Decides (key_of shape row) (key_of shape twin.twin)).1 (sym twin.same);
             before = each_weaker (Differs row) _ (differing row) (take (m - 1) rows) twin.first;
           }) ∙ ap Some number
+
+  -- one row more, whose key cells no row before it has
+  pub keys_more : (rows : List (List Cell)) (row : List Cell) → KeysDiffer shape rows → twin_of shape row rows ≡ None → KeysDiffer shape (rows ++ row ∷ [])
+  keys_more rows row differ none keyed =
+      rw (map-append (key_of shape) rows (row ∷ [])) (distinct_more (map (key_of shape) rows) (key_of shape row) (differ keyed)
+      (each_mapped (key_of shape) (λ k. k ≢ key_of shape row) rows (no_twin row rows none keyed)))
+
+  -- among rows with different key cells, those before a row
+  pub keys_before : (rows : List (List Cell)) (row : List Cell) (more : List (List Cell)) → KeysDiffer shape (rows ++ row ∷ more) → twin_of shape row rows ≡ None
+  keys_before rows row more differ =
+      twin_none row rows (λ keyed. mapped_each (key_of shape) (λ k. k ≢ key_of shape row) rows
+      (distinct_apart (map (key_of shape) rows) (key_of shape row) (map (key_of shape) more) (rw (map-append (key_of shape) rows (row ∷ more)) at (differ keyed))))

@@ -14,12 +14,12 @@ use Rattle.nq_model.specs.Tables.{Columns}
 use Rattle.nq_model.specs.declared.table.Cell.{Cell}
 use Rattle.nq_model.specs.declared.table.Cell.TheVariants as cell
 use Rattle.nq_model.specs.declared.table.TableShape.{TableShape}
-use Rattle.table_reader.specs.declared.keys.KeyIndex.{KeyIndex}
-use Rattle.table_reader.specs.declared.keys.KeyCell.{KeyCell}
-use Rattle.table_reader.specs.declared.keys.KeyCell.TheVariants as key_cell
-use Rattle.table_reader.specs.Codes.{key_code}
-use Rattle.table_reader.specs.CodeMaps.{place_under}
-use Rattle.table_reader.specs.Keys.{first_with}
+use Rattle.row_keys.specs.declared.keys.KeyIndex.{KeyIndex}
+use Rattle.row_keys.specs.declared.keys.KeyCell.{KeyCell}
+use Rattle.row_keys.specs.declared.keys.KeyCell.TheVariants as key_cell
+use Rattle.row_keys.specs.Codes.{key_code}
+use Rattle.row_keys.specs.CodeMaps.{place_under}
+use Rattle.row_keys.specs.Keys.{first_with}
 
 -- the cell that a cell of a key is a copy of
 abbrev pub cell_of_key : KeyCell → Cell

@@ -1,11 +1,11 @@
 use Rattle.std.proofs.Common.{◌≡◌, length, map, option_map, None, Some, true, false, arith, refl, sym, ◌∙◌, ◌+◌, [], get_or}
 use Rattle.std.proofs.lemmas.Grind.{common_steps}
 use Rattle.nq_model.specs.CellRefs.{cell_seen}
-use Rattle.table_reader.specs.CodeMaps.{place_under}
-use Rattle.table_reader.specs.FirstRows.{cell_of_key, cells_of_key, cells_at}
-use Rattle.table_reader.proofs.KeyFacts.{cells_eq, keys_same}
-use Rattle.table_reader.proofs.IndexFacts.{entered_first, told_first, entered_other}
-use Rattle.table_reader.proofs.keys.KeyIndex.enter.Goals as goal
+use Rattle.row_keys.specs.CodeMaps.{place_under}
+use Rattle.row_keys.specs.FirstRows.{cell_of_key, cells_of_key, cells_at}
+use Rattle.row_keys.proofs.KeyFacts.{cells_eq, keys_same}
+use Rattle.row_keys.proofs.IndexFacts.{entered_first, told_first, entered_other}
+use Rattle.row_keys.proofs.keys.KeyIndex.enter.Goals as goal
 
 pub returns-in_default : goal.returns-in_default
 returns-in_default c =

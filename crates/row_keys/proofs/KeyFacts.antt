@@ -22,12 +22,12 @@ use Rattle.nq_model.specs.Tables.{Columns, names_of}
 use Rattle.nq_model.specs.declared.table.Cell.{Cell}
 use Rattle.nq_model.specs.declared.table.TableShape.{TableShape}
 use Rattle.nq_model.proofs.Sameness.{cell_Decides}
-use Rattle.table_reader.specs.Codes.{cell_code, key_code}
-use Rattle.table_reader.specs.FirstRows.{cell_of_key, cells_of_key, place_of, key_places, cell_at, cells_at}
-use Rattle.table_reader.specs.declared.keys.KeyCell.{KeyCell}
-use Rattle.table_reader.specs.declared.keys.KeyCell.TheVariants as key_cell
-use Rattle.table_reader.specs.contracts.keys.KeyCellOrd.TheImpl.{ghosts}
-use Rattle.table_reader.specs.contracts.keys.KeyCellPartialEq.TheImpl.{ghosts as equality}
+use Rattle.row_keys.specs.Codes.{cell_code, key_code}
+use Rattle.row_keys.specs.FirstRows.{cell_of_key, cells_of_key, place_of, key_places, cell_at, cells_at}
+use Rattle.row_keys.specs.declared.keys.KeyCell.{KeyCell}
+use Rattle.row_keys.specs.declared.keys.KeyCell.TheVariants as key_cell
+use Rattle.row_keys.specs.contracts.keys.KeyCellOrd.TheImpl.{ghosts}
+use Rattle.row_keys.specs.contracts.keys.KeyCellPartialEq.TheImpl.{ghosts as equality}
 
 -- the code of no cell
 pub code_none : 0 ≡ key_code []

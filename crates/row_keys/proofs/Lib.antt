@@ -1,0 +1,4 @@
+pub mod KeyFacts
+pub mod TwinFacts
+pub mod CodeMapFacts
+pub mod IndexFacts
