@@ -67,28 +67,7 @@ take_long zero xs h = refl
 take_long (suc k) [] h = absurd (omega (arith, h))
 take_long (suc k) (x ∷ xs) h = ap suc (take_long k xs (omega (arith, h)))
 
-take_whole : {X : Type 0} (k : ℕ) (xs : List X) → length xs ≤ k → take k xs ≡ xs
-take_whole {X = X} zero [] h = refl
-take_whole {X = X} zero (x ∷ xs) h = absurd (omega (arith, h))
-take_whole {X = X} (suc k) [] h = refl
-take_whole {X = X} (suc k) (x ∷ xs) h = ap (λ (l : List X). x ∷ l) (take_whole k xs (omega (arith, h)))
-
 module _ {I X : Type 0} (eq : I → I → Bool) (laws : IsEquivalence eq) (S : Scheme I) (same : (i j : I) → S.is i j ≡ eq i j) (ans : List AnswerRows) (q : ℕ) where
-  -- none are given before the first row
-  pub nothing_given : (firsts : IndexMap (ℕ × I) ℕ X) → ((s : ℕ) (i : I) → first_given eq firsts s i ≡ None) → Gives eq S q (λ s. take 0 (get_or ans q [])) firsts
-  nothing_given firsts h s i b = h s i
-
-  -- a row begins, and ends
-  pub row_begins : (k : ℕ) (firsts : IndexMap (ℕ × I) ℕ X) → Gives eq S q (λ s. take k (get_or ans q [])) firsts → Gives eq S q (λ s. take (reached k 0 s) (get_or ans q [])) firsts
-  row_begins k firsts g s i b = g s i b ∙ ap (λ (u : Bool). giver S q s (take (cond u (suc k) k) (get_or ans q [])) i) (sym (lt_false s 0 (omega arith)))
-
-  pub row_ends : (k t : ℕ) (firsts : IndexMap (ℕ × I) ℕ X) → slots (element_of S.elements q) ≤ t → Gives eq S q (λ s. take (reached k t s) (get_or ans q [])) firsts → Gives eq S q (λ s. take (suc k) (get_or ans q [])) firsts
-  row_ends k t firsts h g s i b = g s i b ∙ ap (λ (u : Bool). giver S q s (take (cond u (suc k) k) (get_or ans q [])) i) (lt_true s t (omega (arith, b, h)))
-
-  -- all rows have given their indexes
-  pub all_given : (k : ℕ) (firsts : IndexMap (ℕ × I) ℕ X) → length (get_or ans q []) ≤ k → Gives eq S q (λ s. take k (get_or ans q [])) firsts → Gives eq S q (λ s. (get_or ans q [])) firsts
-  all_given k firsts h g s i b = g s i b ∙ ap (λ (l : AnswerRows). giver S q s l i) (take_whole k (get_or ans q []) h)
-
   module _ (k t : ℕ) (own : I) (old : IndexMap (ℕ × I) ℕ X) (here : k < length (get_or ans q [])) (slot : t < slots (element_of S.elements q)) (is : own ≡ S.inner q t (row_at ans q k)) (before : Gives eq S q (λ s. take (reached k t s) (get_or ans q [])) old) where
     -- what is told of the index of a row
     pub told_first : first_given eq old t own ≡ giver S q t (take k (get_or ans q [])) (S.inner q t (row_at ans q k))

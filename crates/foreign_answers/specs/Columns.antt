@@ -1,4 +1,4 @@
--- Columns of which the parts of an element are told, part by part.
+-- The columns of the tags of inner bags in an element, part by part.
 use Rattle.std.specs.Prelude.{ℕ, ◌+◌, List, ◌++◌, length}
 use Rattle.nq_model.specs.Types.{TypeTree, FieldTypes}
 use Rattle.shred_types.specs.Columns.{fields_columns}

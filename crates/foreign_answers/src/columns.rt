@@ -7,7 +7,7 @@ ghost use Rattle.foreign_answers.specs.Columns.{tags_of, with_part, with_parts};
 use nq_model::{Label, List, Memory, Ty};
 use std::alloc::Global;
 
-// Columns of which the parts of an element are told so far: the next one, from 1, and those of the tags.
+// How far an element is gone through: the next column, counted from 1, and those of the tags so far.
 #[derive(Drop)]
 struct Tags {
     next: u64,
@@ -26,7 +26,8 @@ pub(crate) fn columns_of(alloc: Global, of: &Ty) -> Result<List<List<u64>>, Memo
 // Puts those of a part of a type at the end.
 #[cycle(paths)]
 fn push_columns(alloc: Global, of: &Ty, columns: &mut List<List<u64>>) -> Result<(), Memory>
-    ensures { OnOk result (columns.new ≡ columns.old ++ map tags_of (element_types (type_tree of.now))) }
+    ensures { OnOk result (columns.new ≡ columns.old ++ map tags_of
+        (element_types (type_tree of.now))) }
 {
     match of {
         Ty::Int | Ty::Bool | Ty::Text | Ty::Fun(_, _) => Ok(()),
@@ -44,7 +45,8 @@ fn push_field_columns(
     fields: &[(Label, Ty)],
     columns: &mut List<List<u64>>,
 ) -> Result<(), Memory>
-    ensures { OnOk result (columns.new ≡ columns.old ++ map tags_of (element_types_in (field_types_of (fields_view fields.now)))) }
+    ensures { OnOk result (columns.new ≡ columns.old ++ map tags_of
+        (element_types_in (field_types_of (fields_view fields.now)))) }
 {
     for field in fields {
         push_columns(alloc, &field.1, columns)?;
@@ -82,7 +84,8 @@ fn put_part(tags: &mut Tags, part: &Ty) -> Result<(), Memory>
 
 #[cycle(parts)]
 fn put_fields(tags: &mut Tags, fields: &[(Label, Ty)]) -> Result<(), Memory>
-    ensures { OnOk result (tags.new ≡ with_parts tags.old (field_types_of (fields_view fields.now))) }
+    ensures { OnOk result (tags.new
+        ≡ with_parts tags.old (field_types_of (fields_view fields.now))) }
 {
     for field in fields {
         put_part(tags, &field.1)?;
@@ -92,7 +95,8 @@ fn put_fields(tags: &mut Tags, fields: &[(Label, Ty)]) -> Result<(), Memory>
 
 // Goes past so many columns.
 fn skip(tags: &mut Tags, count: u64) -> Result<(), Memory>
-    ensures { OnOk result (tags.new ≡ record { next = tags.old.next + count; columns = tags.old.columns }) }
+    ensures { OnOk result (tags.new
+        ≡ record { next = tags.old.next + count; columns = tags.old.columns }) }
 {
     tags.next = tags.next.checked_add(count).ok_or(Memory)?;
     Ok(())

@@ -27,9 +27,11 @@ impl<I: Eq + Hash + Drop> Given<I> {
     /// Enters the index that a row gives for an inner bag, in place of the row that was entered with it. Tells the
     /// number of that row, if there is one.
     pub(crate) fn enter(&mut self, slot: u64, index: I, row: u64) -> Result<Option<u64>, Memory>
-        ensures earlier { IfOk result (λ earlier. earlier ≡ first_given I.eq self.old.firsts slot index) }
+        ensures earlier { IfOk result (λ earlier. earlier
+            ≡ first_given I.eq self.old.firsts slot index) }
         ensures entered { OnOk result ((s : ℕ) (i : I) → first_given I.eq self.new.firsts s i
-            ≡ cond (same_key I.eq (slot, index) (s, i)) (Some row) (first_given I.eq self.old.firsts s i)) }
+            ≡ cond (same_key I.eq (slot, index) (s, i)) (Some row)
+            (first_given I.eq self.old.firsts s i)) }
     {
         let earlier = self.firsts.insert((slot, index), row)?;
         Ok(earlier)

@@ -23,7 +23,8 @@ pub(crate) fn homes_of(alloc: Global, of: &Ty) -> Result<List<(u64, u64)>, Memor
 #[tactic(auto, using(nq_model::proofs::Terms::type_of_record))]
 fn push_homes(part: &Ty, path: u64, slot: u64, all: &mut List<(u64, u64)>) -> Result<u64, Memory>
     ensures next { IfOk result (λ next. next ≡ slot + slots (type_tree part.now)) }
-    ensures homes { OnOk result (all.new ≡ all.old ++ homes_in (type_tree part.now) path slot (length all.old)) }
+    ensures homes { OnOk result (all.new ≡ all.old ++ homes_in (type_tree part.now)
+        path slot (length all.old)) }
 {
     match part {
         Ty::Int | Ty::Bool | Ty::Text | Ty::Fun(_, _) => Ok(slot),
@@ -45,8 +46,10 @@ fn push_field_homes(
     slot: u64,
     all: &mut List<(u64, u64)>,
 ) -> Result<u64, Memory>
-    ensures next { IfOk result (λ next. next ≡ slot + slots_in (field_types_of (fields_view fields.now))) }
-    ensures homes { OnOk result (all.new ≡ all.old ++ homes_fields (field_types_of (fields_view fields.now)) path slot (length all.old)) }
+    ensures next { IfOk result (λ next. next
+        ≡ slot + slots_in (field_types_of (fields_view fields.now))) }
+    ensures homes { OnOk result (all.new ≡ all.old ++
+        homes_fields (field_types_of (fields_view fields.now)) path slot (length all.old)) }
 {
     let mut next = slot;
     for field in fields {

@@ -43,11 +43,14 @@ fn rows_at(answers: &[Answer], path: u64) -> &Rows
 impl<'a, S: IndexScheme> Judge<'a, S> {
     // Whether a bag at a path is given under an index.
     fn is_given(&self, given: &[Given<S::Index>], path: u64, index: S::Index) -> bool
-        requires ready { CanJudge (S.scheme self.now.scheme.now) (rows_of self.now.answers.now) self.now.homes.now self.now.columns.now }
+        requires ready { CanJudge (S.scheme self.now.scheme.now) (rows_of self.now.answers.now)
+            self.now.homes.now self.now.columns.now }
         requires path { IsPath (S.scheme self.now.scheme.now) path }
         requires counted { length given.now ≡ path }
-        requires given { AreGiven S.Index.eq (S.scheme self.now.scheme.now) (rows_of self.now.answers.now) given.now }
-        ensures { result ≡ is_given (S.scheme self.now.scheme.now) self.now.homes.now (column_in self.now.columns.now) (rows_of self.now.answers.now) path index }
+        requires given { AreGiven S.Index.eq (S.scheme self.now.scheme.now)
+            (rows_of self.now.answers.now) given.now }
+        ensures { result ≡ is_given (S.scheme self.now.scheme.now) self.now.homes.now
+            (column_in self.now.columns.now) (rows_of self.now.answers.now) path index }
     {
         if path == 0 {
             return self.scheme.top() == index;
@@ -64,13 +67,18 @@ impl<'a, S: IndexScheme> Judge<'a, S> {
         path: u64,
         row: usize,
     ) -> Result<(), LinkFault>
-        requires ready { CanJudge (S.scheme self.now.scheme.now) (rows_of self.now.answers.now) self.now.homes.now self.now.columns.now }
+        requires ready { CanJudge (S.scheme self.now.scheme.now) (rows_of self.now.answers.now)
+            self.now.homes.now self.now.columns.now }
         requires path { IsPath (S.scheme self.now.scheme.now) path }
         requires row { row < length (get_or (rows_of self.now.answers.now) path []) }
         requires counted { length given.now ≡ path }
-        requires given { AreGiven S.Index.eq (S.scheme self.now.scheme.now) (rows_of self.now.answers.now) given.now }
-        ensures none { OnOk result (outer_fault (S.scheme self.now.scheme.now) self.now.homes.now (column_in self.now.columns.now) (rows_of self.now.answers.now) path row ≡ None) }
-        ensures fault { IfErr result (λ e. e ≢ fault.Memory → outer_fault (S.scheme self.now.scheme.now) self.now.homes.now (column_in self.now.columns.now) (rows_of self.now.answers.now) path row ≡ told e) }
+        requires given { AreGiven S.Index.eq (S.scheme self.now.scheme.now)
+            (rows_of self.now.answers.now) given.now }
+        ensures none { OnOk result (outer_fault (S.scheme self.now.scheme.now) self.now.homes.now
+            (column_in self.now.columns.now) (rows_of self.now.answers.now) path row ≡ None) }
+        ensures fault { IfErr result (λ e. e ≢ fault.Memory
+            → outer_fault (S.scheme self.now.scheme.now) self.now.homes.now
+            (column_in self.now.columns.now) (rows_of self.now.answers.now) path row ≡ told e) }
     {
         let index = self
             .scheme
@@ -92,13 +100,21 @@ impl<'a, S: IndexScheme> Judge<'a, S> {
         path: u64,
         row: usize,
     ) -> Result<(), LinkFault>
-        requires ready { CanJudge (S.scheme self.now.scheme.now) (rows_of self.now.answers.now) self.now.homes.now self.now.columns.now }
+        requires ready { CanJudge (S.scheme self.now.scheme.now) (rows_of self.now.answers.now)
+            self.now.homes.now self.now.columns.now }
         requires path { IsPath (S.scheme self.now.scheme.now) path }
         requires row { row < length (get_or (rows_of self.now.answers.now) path []) }
-        requires before { Gives S.Index.eq (S.scheme self.now.scheme.now) path (λ s. take row (get_or (rows_of self.now.answers.now) path [])) own.old.firsts }
-        ensures after { OnOk result (Gives S.Index.eq (S.scheme self.now.scheme.now) path (λ s. take (suc row) (get_or (rows_of self.now.answers.now) path [])) own.new.firsts) }
-        ensures none { OnOk result (first_from (inner_fault (S.scheme self.now.scheme.now) self.now.homes.now (column_in self.now.columns.now) (rows_of self.now.answers.now) path row) 0 (slots (element_of (S.scheme self.now.scheme.now).elements path)) ≡ None) }
-        ensures fault { IfErr result (λ e. e ≢ fault.Memory → first_from (inner_fault (S.scheme self.now.scheme.now) self.now.homes.now (column_in self.now.columns.now) (rows_of self.now.answers.now) path row) 0 (slots (element_of (S.scheme self.now.scheme.now).elements path)) ≡ told e) }
+        requires before { Gives S.Index.eq (S.scheme self.now.scheme.now) path (λ s. take row
+            (get_or (rows_of self.now.answers.now) path [])) own.old.firsts }
+        ensures after { OnOk result (Gives S.Index.eq (S.scheme self.now.scheme.now) path
+            (λ s. take (suc row) (get_or (rows_of self.now.answers.now) path [])) own.new.firsts) }
+        ensures none { OnOk result (first_from (inner_fault (S.scheme self.now.scheme.now)
+            self.now.homes.now (column_in self.now.columns.now) (rows_of self.now.answers.now)
+            path row) 0 (slots (element_of (S.scheme self.now.scheme.now).elements path)) ≡ None) }
+        ensures fault { IfErr result (λ e. e ≢ fault.Memory
+            → first_from (inner_fault (S.scheme self.now.scheme.now) self.now.homes.now
+            (column_in self.now.columns.now) (rows_of self.now.answers.now) path row) 0
+            (slots (element_of (S.scheme self.now.scheme.now).elements path)) ≡ told e) }
     {
         let columns = &self.columns[path as usize];
         let number = number_of(row as u64)?;
@@ -125,13 +141,19 @@ impl<'a, S: IndexScheme> Judge<'a, S> {
         given: &[Given<S::Index>],
         path: u64,
     ) -> Result<Given<S::Index>, LinkFault>
-        requires ready { CanJudge (S.scheme self.now.scheme.now) (rows_of self.now.answers.now) self.now.homes.now self.now.columns.now }
+        requires ready { CanJudge (S.scheme self.now.scheme.now) (rows_of self.now.answers.now)
+            self.now.homes.now self.now.columns.now }
         requires path { IsPath (S.scheme self.now.scheme.now) path }
         requires counted { length given.now ≡ path }
-        requires given { AreGiven S.Index.eq (S.scheme self.now.scheme.now) (rows_of self.now.answers.now) given.now }
-        ensures gives { IfOk result (λ own. Gives S.Index.eq (S.scheme self.now.scheme.now) path (λ s. get_or (rows_of self.now.answers.now) path []) own.firsts) }
-        ensures none { OnOk result (answer_fault (S.scheme self.now.scheme.now) self.now.homes.now (column_in self.now.columns.now) (rows_of self.now.answers.now) path ≡ None) }
-        ensures fault { IfErr result (λ e. e ≢ fault.Memory → answer_fault (S.scheme self.now.scheme.now) self.now.homes.now (column_in self.now.columns.now) (rows_of self.now.answers.now) path ≡ told e) }
+        requires given { AreGiven S.Index.eq (S.scheme self.now.scheme.now)
+            (rows_of self.now.answers.now) given.now }
+        ensures gives { IfOk result (λ own. Gives S.Index.eq (S.scheme self.now.scheme.now) path
+            (λ s. get_or (rows_of self.now.answers.now) path []) own.firsts) }
+        ensures none { OnOk result (answer_fault (S.scheme self.now.scheme.now) self.now.homes.now
+            (column_in self.now.columns.now) (rows_of self.now.answers.now) path ≡ None) }
+        ensures fault { IfErr result (λ e. e ≢ fault.Memory
+            → answer_fault (S.scheme self.now.scheme.now) self.now.homes.now
+            (column_in self.now.columns.now) (rows_of self.now.answers.now) path ≡ told e) }
     {
         let mut own = Given::new(alloc);
         for row in 0..rows_at(self.answers, path).len() {
@@ -143,9 +165,13 @@ impl<'a, S: IndexScheme> Judge<'a, S> {
 
     /// Judges all answers, in path order.
     pub(crate) fn all(&self, alloc: Global) -> Result<(), LinkFault>
-        requires { CanJudge (S.scheme self.now.scheme.now) (rows_of self.now.answers.now) self.now.homes.now self.now.columns.now }
-        ensures none { OnOk result (fault_by (S.scheme self.now.scheme.now) self.now.homes.now (column_in self.now.columns.now) (rows_of self.now.answers.now) ≡ None) }
-        ensures fault { IfErr result (λ e. e ≢ fault.Memory → fault_by (S.scheme self.now.scheme.now) self.now.homes.now (column_in self.now.columns.now) (rows_of self.now.answers.now) ≡ told e) }
+        requires { CanJudge (S.scheme self.now.scheme.now) (rows_of self.now.answers.now)
+            self.now.homes.now self.now.columns.now }
+        ensures none { OnOk result (fault_by (S.scheme self.now.scheme.now) self.now.homes.now
+            (column_in self.now.columns.now) (rows_of self.now.answers.now) ≡ None) }
+        ensures fault { IfErr result (λ e. e ≢ fault.Memory
+            → fault_by (S.scheme self.now.scheme.now) self.now.homes.now
+            (column_in self.now.columns.now) (rows_of self.now.answers.now) ≡ told e) }
     {
         let mut given = List::with_capacity(alloc, self.answers.len())?;
         for path in 0..self.answers.len() {

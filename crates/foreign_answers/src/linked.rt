@@ -25,9 +25,11 @@ use stitcher::FlatNumbers;
 /// bags in label order. `LinkFault::Memory` alone may come at any answers.
 pub fn links(alloc: Global, of: &Ty, answers: &List<Answer>) -> Result<(), LinkFault>
     requires bag { (element : TypeTree) × (type_tree of.now ≡ bag element) }
-    requires answers { AreAnswersOf (flat_numbers (element_types (type_tree of.now))) (type_tree of.now) (rows_of answers.now) }
+    requires answers { AreAnswersOf (flat_numbers
+        (element_types (type_tree of.now))) (type_tree of.now) (rows_of answers.now) }
     ensures linked { OnOk result (IsLinked (type_tree of.now) (rows_of answers.now)) }
-    ensures fault { IfErr result (λ e. e ≢ fault.Memory → link_fault (type_tree of.now) (rows_of answers.now) ≡ told e) }
+    ensures fault { IfErr result (λ e. e ≢ fault.Memory → link_fault (type_tree of.now)
+        (rows_of answers.now) ≡ told e) }
 {
     let scheme = FlatNumbers::new(alloc, of)?;
     let homes = homes_of(alloc, of)?;

@@ -57,9 +57,11 @@ pub fn read_answer(
     text: &[u8],
 ) -> Result<Answer, AnswerFault>
     requires two { 1 < length columns.now }
-    ensures rows { IfOk result (λ answer. table_of (shape_of columns.now) text.now ≡ Ok answer.rows) }
+    ensures rows { IfOk result (λ answer. table_of (shape_of columns.now) text.now
+        ≡ Ok answer.rows) }
     ensures fit { IfOk result (λ answer. All (RowFits columns.now) answer.rows) }
-    ensures fault { IfErr result (λ e. e ≢ fault.Memory → table_of (shape_of columns.now) text.now ≡ Err (as_table_fault e)) }
+    ensures fault { IfErr result (λ e. e ≢ fault.Memory → table_of (shape_of columns.now) text.now
+        ≡ Err (as_table_fault e)) }
 {
     let shape = shape_of(alloc, columns)?;
     match read_table(alloc, &shape, text) {
