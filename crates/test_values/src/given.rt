@@ -7,6 +7,7 @@ use std::alloc::Global;
 /// A type.
 pub enum Shape {
     Int,
+    Bool,
     Text,
     Rec(&'static [(&'static str, Shape)]),
     Bag(&'static Shape),
@@ -20,6 +21,7 @@ pub type Listed = &'static [&'static str];
 pub fn type_of(alloc: Global, shape: &Shape) -> Result<Ty, Memory> {
     match shape {
         Shape::Int => Ok(Ty::Int),
+        Shape::Bool => Ok(Ty::Bool),
         Shape::Text => Ok(Ty::Text),
         Shape::Rec(fields) => Ok(Ty::Rec(fields_of(alloc, fields)?)),
         Shape::Bag(element) => Ok(Ty::Bag(boxed(alloc, type_of(alloc, element)?)?)),

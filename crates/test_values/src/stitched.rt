@@ -155,8 +155,8 @@ const CASES: [Case; 12] = [
     },
 ];
 
-// The value that the answers are stitched to by groups, if they are answers of the type.
-fn stitched(alloc: Global, of: &Ty, answers: &List<Answer>) -> Result<Option<Value>, Memory> {
+/// The value that the answers are stitched to by groups, if they are answers of the type.
+pub fn stitched(alloc: Global, of: &Ty, answers: &List<Answer>) -> Result<Option<Value>, Memory> {
     let scheme = FlatNumbers::new(alloc, of)?;
     if !are_answers(alloc, &scheme, of, answers.as_slice())? {
         return Ok(None);
@@ -180,8 +180,8 @@ fn searched(alloc: Global, of: &Ty, answers: &List<Answer>) -> Result<Option<Val
     }
 }
 
-// The canonical text of the value, if there is one.
-fn text_of(alloc: Global, value: Option<Value>) -> Result<List<u8>, Memory> {
+/// The canonical text of the value, if there is one.
+pub fn text_of(alloc: Global, value: Option<Value>) -> Result<List<u8>, Memory> {
     match value {
         Some(value) => write(alloc, &sort_deep(alloc, value)?),
         None => Ok(List::new(alloc)),
