@@ -23,8 +23,8 @@ pub(crate) enum KeyCell {
     Text(String),
 }
 
-/// The first row of each key, counted from 0. A key that is found by its code takes some 30 bytes, and a
-/// copy of its cells more than 100, so a key is copied only where an earlier one has its code.
+/// The first row of each key, counted from 0. A key that is found by its code takes some 30 bytes, and
+/// a copy of its cells more than 100, so a key is copied only where an earlier one has its code.
 #[derive(Drop)]
 pub struct KeyIndex {
     columns: Vec<Option<usize>>,
@@ -107,7 +107,7 @@ impl KeyIndex {
         KeyIndex::with_slots(alloc, shape, slots_for(text))
     }
 
-    /// An index of no row, with slots for the keys of about so many rows. Fails only if memory runs out.
+    /// An index of no row, with slots for about so many keys. Fails only if memory runs out.
     pub fn for_rows(alloc: Global, shape: &TableShape, count: usize) -> Result<KeyIndex, Memory>
         ensures { IfOk result (Indexes shape.now []) }
     {
@@ -151,8 +151,8 @@ impl KeyIndex {
         Ok(key)
     }
 
-    // Enters a row after those before it. Tells the number of the first row that has its key instead, if
-    // there is one.
+    // Enters a row after those before it. Tells the number of the first row that has its key
+    // instead, if there is one.
     fn enter(
         &mut self,
         alloc: Global,
@@ -179,8 +179,8 @@ impl KeyIndex {
     }
 }
 
-/// The number of the first of these rows that has the key of a row, where the table has a key. If none has it,
-/// the index then knows the row too. Fails only if memory runs out.
+/// The number of the first of these rows that has the key of a row, where the table has a key. If
+/// none has it, the index then knows the row too. Fails only if memory runs out.
 #[tactic(auto, unfolding(crate::specs::Keys::twin_of))]
 pub fn earlier_twin(
     alloc: Global,
