@@ -4,6 +4,7 @@
 
 mod frame;
 mod help;
+mod laws;
 mod note;
 mod paths;
 mod refusal;
@@ -12,6 +13,7 @@ mod words;
 
 pub use frame::frames;
 pub use help::{help_text, version_text};
+pub use laws::frame_laws;
 pub use note::put_note;
 pub use paths::paths_text;
 pub use refusal::{InputRefusal, Refusal, Refused};
