@@ -51,7 +51,7 @@ use Rattle.nq_execute.specs.Summaries.{summary_of}
 use Rattle.nq_execute.specs.declared.plan.Plan.{Plan as Asked}
 use Rattle.nq_execute.proofs.Summaries.{summary_same}
 use Rattle.nq_top.specs.Gathering.{HoldsPlan}
-use Rattle.nq_top.specs.Plans.{AreReadFor, plan_to, query_plan, sql_plan, Question, IsMeant, IsSummed, IsAllowed, IsSound}
+use Rattle.nq_top.specs.Plans.{AreReadFor, Draft, drafted, draft_to, sql_draft, Question, IsMeant, IsSummed, IsAllowed, IsSound, CanServeOver, IsSoundOver}
 use Rattle.nq_top.specs.Reading.{PlainReading, type_read}
 use Rattle.nq_top.specs.Shown.{shown_texts}
 use Rattle.nq_top.proofs.Showings.{ResultIs, TextsAre, TextsShred, read_accepted, bag_again}
@@ -133,24 +133,24 @@ read_loadable : (schema : Schema) (tables : List Loaded) → IsProperSchema sche
 read_loadable schema tables proper_schema read =
     subst (λ (ts : List Loaded). CanLoad [] ts) (sym read.is) (can_load schema proper_schema read.rows read.stored)
 
--- the plan of an SQL text over the tables that were read
-module _ (schema : Schema) (text : List ℕ) (types : List ColumnType) (tables : List Loaded) (proper_schema : IsProperSchema schema) (read : AreReadFor schema.tables tables) where
-  pub sql_servable : IsScopedText schema types text → IsServable (sql_plan text types tables)
-  sql_servable scoped = record {
+-- the draft of an SQL text, over the tables of the schema
+module _ (schema : Schema) (text : List ℕ) (types : List ColumnType) (proper_schema : IsProperSchema schema) where
+  pub sql_servable : IsScopedText schema types text → CanServeOver schema (sql_draft text types)
+  sql_servable scoped tables read = record {
     loadable = read_loadable schema tables proper_schema read;
     finishable = record { types = types; is = refl };
     askable = (asks_for schema tables (read_shapes schema tables read) types text scoped, refl);
   }
 
-  pub sql_sound : IsSound (sql_plan text types tables) (Question.sql text)
-  sql_sound answers allowed = go answers allowed
+  pub sql_sound : IsSoundOver schema (sql_draft text types) (λ tables. Question.sql text)
+  sql_sound tables read answers allowed = go answers allowed
     where
       go : (given : List Answer) → Allowed tables (text ∷ []) given → IsAllowed tables text (finished Finish.rows (rows_of given))
       go [] none = absurd none
       go (a ∷ given) some = record { answer = a.rows; allowed = some.0; is = refl }
 
-module _ (schema : Schema) (term : PlacedTerm) (type : TypeTree) (texts : List (List ℕ)) (columns : List (List ColumnType)) (tables : List Loaded)
-    (proper_schema : IsProperSchema schema) (proper_term : IsProperTerm (bare term)) (read : AreReadFor schema.tables tables)
+module _ (schema : Schema) (term : PlacedTerm) (type : TypeTree) (texts : List (List ℕ)) (columns : List (List ColumnType))
+    (proper_schema : IsProperSchema schema) (proper_term : IsProperTerm (bare term))
     (shred : TextsShred schema term type [] texts) (result_is : ResultIs schema term type [] texts) (columns_of : columns ≡ map (columns_at type) (paths type))
     (own : TypeTree) (typed : type_read schema term ≡ Ok own) where
   same_own : type ≡ own
@@ -171,11 +171,8 @@ module _ (schema : Schema) (term : PlacedTerm) (type : TypeTree) (texts : List (
   ordered : IsOrdered type
   ordered = ordered_type schema proper_schema [] (bare term) type tt proper_term accepted.typed
 
-  shapes : shapes_of tables ≡ shapes_of_schema schema.tables
-  shapes = read_shapes schema tables read
-
-  abbrev plan : Finish → Plan
-  plan finish = record { tables = tables; texts = texts; columns = columns; finish = finish }
+  abbrev draft : (TypeTree → Finish) → Draft
+  draft finish = record { texts = texts; columns = columns; finish = finish type }
 
   at_bag : columns ≡ map (columns_at (bag element)) (paths (bag element))
   at_bag = columns_of ∙ ap (λ (a : TypeTree). map (columns_at a) (paths a)) (sym of_bag)
@@ -186,90 +183,84 @@ module _ (schema : Schema) (term : PlacedTerm) (type : TypeTree) (texts : List (
     at_paths = at_bag ∙ columns_are element (subst (λ (a : TypeTree). IsOrdered a) (sym of_bag) ordered) ∙ ap (λ (a : TypeTree). map answer_columns (element_types a)) of_bag;
   }
 
-  servable_to : (finish : Finish) → CanFinish finish columns → IsServable (plan finish)
-  servable_to finish finishable = record {
+  servable_to : (finish : TypeTree → Finish) → CanFinish (finish type) columns → CanServeOver schema (draft finish)
+  servable_to finish finishable tables read = record {
     loadable = read_loadable schema tables proper_schema read;
     finishable = finishable;
     askable = subst (λ (cs : List (List ColumnType)). EachBoth (AsksFor tables) cs texts) (sym at_bag)
         (both_mapped (λ path text. IsScopedText schema (columns_at (bag element) path) text) (AsksFor tables) (columns_at (bag element))
-        (λ path text scoped. asks_for schema tables shapes (columns_at (bag element) path) text scoped) (paths (bag element)) texts shreds.scoped);
+        (λ path text scoped. asks_for schema tables (read_shapes schema tables read) (columns_at (bag element) path) text scoped) (paths (bag element)) texts shreds.scoped);
   }
 
-  pub servable : IsServable (plan (Finish.value type))
-  servable = servable_to (Finish.value type) at_paths
+  pub servable : CanServeOver schema (draft Finish.value)
+  servable = servable_to Finish.value at_paths
 
-  pub summary_servable : IsServable (plan (Finish.summary type))
-  summary_servable = servable_to (Finish.summary type) at_paths
+  pub summary_servable : CanServeOver schema (draft Finish.summary)
+  summary_servable = servable_to Finish.summary at_paths
 
-  -- what the query means over the tables
-  value : Nested
-  value = meaning (database schema.tables read.rows) [] (bare (unfolded term))
+  -- what the query means over the tables that were read
+  module _ (tables : List Loaded) (read : AreReadFor schema.tables tables) where
+    value : Nested
+    value = meaning (database schema.tables read.rows) [] (bare (unfolded term))
 
-  means : Means (map filled_of tables) term value
-  unfolding value
-  means =
-      let filled = database schema.tables read.rows in
-      let here : map filled_of tables ≡ filled = ap (map filled_of) read.is ∙ held_filled schema.tables read.rows in
-      let M : List FilledTable → Type 0 = λ ts. Means ts term (meaning filled [] (bare (unfolded term))) in
-      subst M (sym here) (meant schema term type filled accepted)
+    means : Means (map filled_of tables) term value
+    unfolding value
+    means =
+        let filled = database schema.tables read.rows in
+        let here : map filled_of tables ≡ filled = ap (map filled_of) read.is ∙ held_filled schema.tables read.rows in
+        let M : List FilledTable → Type 0 = λ ts. Means ts term (meaning filled [] (bare (unfolded term))) in
+        subst M (sym here) (meant schema term type filled accepted)
 
-  -- and whatever answers SQL allows stitch to it
-  stitches : (answers : List Answer) → Allowed tables texts answers → Same (answered_value type (rows_of answers)) value
-  unfolding value
-  stitches answers allowed =
-      let held = held_of schema.tables read.rows in
-      let filled = database schema.tables read.rows in
-      let meant_here = meaning filled [] (bare (unfolded term)) in
-      let given = rows_of answers in
-      let Q : List Loaded → Type 0 = λ ts. EachBoth (TextAllows First ts) texts given in
-      let over : EachBoth (TextAllows First held) texts given = subst Q read.is (both_rows (TextAllows First tables) texts answers allowed) in
-      let same = shreds.stitched read.rows read.stored given over meant_here (meant schema term type filled accepted) in
-      let S : TypeTree → Type 0 = λ a. Same (stitched (flat_numbers (element_types a)) element given) meant_here in
-      subst S of_bag same
+    -- and whatever answers SQL allows stitch to it
+    stitches : (answers : List Answer) → Allowed tables texts answers → Same (answered_value type (rows_of answers)) value
+    unfolding value
+    stitches answers allowed =
+        let held = held_of schema.tables read.rows in
+        let filled = database schema.tables read.rows in
+        let meant_here = meaning filled [] (bare (unfolded term)) in
+        let given = rows_of answers in
+        let Q : List Loaded → Type 0 = λ ts. EachBoth (TextAllows First ts) texts given in
+        let over : EachBoth (TextAllows First held) texts given = subst Q read.is (both_rows (TextAllows First tables) texts answers allowed) in
+        let same = shreds.stitched read.rows read.stored given over meant_here (meant schema term type filled accepted) in
+        let S : TypeTree → Type 0 = λ a. Same (stitched (flat_numbers (element_types a)) element given) meant_here in
+        subst S of_bag same
 
-  pub sound : IsSound (plan (Finish.value type)) (Question.query term)
-  unfolding value_text
-  sound answers allowed = record {
-    value = value;
-    means = means;
-    is = ap (λ (v : Nested). written v ++ codes "\n") (canonical_same (answered_value type (rows_of answers)) value (stitches answers allowed));
-  }
+    value_sound : IsSound (drafted (draft Finish.value) tables) (Question.query term)
+    unfolding value_text
+    value_sound answers allowed = record {
+      value = value;
+      means = means;
+      is = ap (λ (v : Nested). written v ++ codes "\n") (canonical_same (answered_value type (rows_of answers)) value (stitches answers allowed));
+    }
 
-  pub summary_sound : IsSound (plan (Finish.summary type)) (Question.summary term type)
-  unfolding summary_text
-  summary_sound answers allowed = record {
-    value = value;
-    means = means;
-    is = summary_same type (answered_value type (rows_of answers)) value (stitches answers allowed);
-  }
+    summary_sound_here : IsSound (drafted (draft Finish.summary) tables) (Question.summary term type)
+    unfolding summary_text
+    summary_sound_here answers allowed = record {
+      value = value;
+      means = means;
+      is = summary_same type (answered_value type (rows_of answers)) value (stitches answers allowed);
+    }
 
-  -- the plan is the one that the query comes to
-  plan_is : (finish : TypeTree → Finish) → TextsAre schema term type [] texts → (plain : PlainReading) → plan (finish type) ≡ plan_to finish plain schema term own tables
-  unfolding plan_to shown_texts
-  plan_is finish texts_are plain =
+  pub sound : IsSoundOver schema (draft Finish.value) (λ tables. Question.query term)
+  sound tables read answers allowed = value_sound tables read answers allowed
+
+  pub summary_sound : IsSoundOver schema (draft Finish.summary) (λ tables. Question.summary term own)
+  summary_sound tables read =
+      let P : TypeTree → Type 0 = λ a. IsSound (drafted (draft Finish.summary) tables) (Question.summary term a) in
+      subst P same_own (λ answers allowed. summary_sound_here tables read answers allowed)
+
+  -- the draft is the one that the query comes to
+  pub draft_is : (finish : TypeTree → Finish) → TextsAre schema term type [] texts → (plain : PlainReading) → draft finish ≡ draft_to finish plain schema term own
+  unfolding draft_to shown_texts
+  draft_is finish texts_are plain =
       let here : IsAccepted schema (bare term) (bag element) = subst (λ (a : TypeTree). IsAccepted schema (bare term) a) (sym of_bag) accepted in
       let shown : texts ≡ texts_of schema (normal_form schema.tables (element_type own) (bare (plain.says term))) =
       texts_are element (plain.says term) here (plain.right schema term type accepted) ∙ ap (λ (a : TypeTree). texts_of schema (normal_form schema.tables (element_type a) (bare (plain.says term)))) same_own in
-      same_plan columns (map (columns_at own) (paths own)) texts (texts_of schema (normal_form schema.tables (element_type own) (bare (plain.says term)))) (columns_of ∙ ap (λ (a : TypeTree). map (columns_at a) (paths a)) same_own) shown same_own
+      same_draft columns (map (columns_at own) (paths own)) texts (texts_of schema (normal_form schema.tables (element_type own) (bare (plain.says term)))) (columns_of ∙ ap (λ (a : TypeTree). map (columns_at a) (paths a)) same_own) shown same_own
     where
-      same_plan : (cs ds : List (List ColumnType)) (ss ts : List (List ℕ)) → cs ≡ ds → ss ≡ ts → type ≡ own
-          → ◌≡◌ {A = Plan} (record { tables = tables; texts = ss; columns = cs; finish = finish type }) (record { tables = tables; texts = ts; columns = ds; finish = finish own })
-      same_plan cs ds ss ts e f g = cc
-
-  holds_to : (finish : TypeTree → Finish) (question : Question) → IsSound (plan (finish type)) question → TextsAre schema term type [] texts → (plain : PlainReading) (asked : Asked)
-      → plan_view asked ≡ plan (finish type) → HoldsPlan (plan_to finish plain schema term own tables) question asked
-  holds_to finish question sound_plan texts_are plain asked is =
-      let same = plan_is finish texts_are plain in
-      record { is = is ∙ same; sound = subst (λ (p : Plan). IsSound p question) same sound_plan }
-
-  pub holds : TextsAre schema term type [] texts → (plain : PlainReading) (asked : Asked) → plan_view asked ≡ plan (Finish.value type) → HoldsPlan (query_plan plain schema term own tables) (Question.query term) asked
-  holds texts_are plain asked is = holds_to Finish.value (Question.query term) sound texts_are plain asked is
-
-  pub summary_holds : TextsAre schema term type [] texts → (plain : PlainReading) (asked : Asked) → plan_view asked ≡ plan (Finish.summary type)
-      → HoldsPlan (plan_to Finish.summary plain schema term own tables) (Question.summary term own) asked
-  summary_holds texts_are plain asked is =
-      let P : TypeTree → Type 0 = λ a. IsSound (plan (Finish.summary type)) (Question.summary term a) in
-      holds_to Finish.summary (Question.summary term own) (subst P same_own summary_sound) texts_are plain asked is
+      same_draft : (cs ds : List (List ColumnType)) (ss ts : List (List ℕ)) → cs ≡ ds → ss ≡ ts → type ≡ own
+          → ◌≡◌ {A = Draft} (record { texts = ss; columns = cs; finish = finish type }) (record { texts = ts; columns = ds; finish = finish own })
+      same_draft cs ds ss ts e f g = cc
 
 -- a query has one text over given tables
 pub one_text : (tables : List Loaded) (term : PlacedTerm) (text other : List ℕ) → IsMeant tables term text → IsMeant tables term other → text ≡ other

@@ -1,33 +1,44 @@
 -- What a status says, by the answer that it stands for.
-use Rattle.std.proofs.Common.{◌≡◌, ◌<◌, ◌↔◌, ℕ, Bool, true, List, Option, Ok, Err, refl, sym, ap, ◌∙◌, subst, IfSome}
-use Rattle.nq_edge.specs.Edge.{Files}
+use Rattle.std.proofs.Common.{◌≡◌, ◌<◌, ◌↔◌, ◌==◌, ◌||◌, ℕ, Bool, true, false, List, MatchBool, Option, Ok, Err, refl, sym, ap, ◌∙◌, subst, IfSome}
+use Rattle.std.specs.Bool.{⊤}
+use Rattle.nq_edge.specs.Edge.{Files, Rose}
 use Rattle.sql_profile.specs.Servers.{RoseBelow}
 use Rattle.command_line.specs.Noting.{Notes}
 use Rattle.command_line.specs.Refusals.{refused_status, status_of}
 use Rattle.nq_execute.specs.Serving.{ServerState}
-use Rattle.nq_top.specs.Running.{Answer, InputCount, OutputCount, ServerCount, PutsOnly, Keeps, AskedOnly, Blames, RoseAt, ServerRoseAt, PutsAt, KeepsAt, AskedAt, Comes}
+use Rattle.nq_top.specs.Running.{Answer, is_called_status, InputCount, OutputCount, ServerCount, PutsOnly, Keeps, AskedOnly, Blames, RoseAt, ServerRoseAt, PutsAt, KeepsAt, AskedAt, Comes}
 use Rattle.command_line.specs.declared.refusal.Refused.{Refused}
 use Rattle.command_line.specs.declared.refusal.Refused.TheVariants as refused
 use Rattle.command_line.specs.declared.refusal.InputRefusal.TheVariants as input
 use Rattle.nq_execute.specs.declared.refusal.ServerRefusal.TheVariants as server
 use Rattle.command_line.specs.declared.refusal.Refusal.TheVariants as refusal
 
--- what holds of the statuses of refused inputs
-at_refusal : (P : ℕ → Type 0) → P 2 → P 3 → P 4 → P 5 → P 6 → P 10 → P 12 → (r : Refused) → P (refused_status r)
-at_refusal P two three four five six ten twelve refused.Usage = two
-at_refusal P two three four five six ten twelve (refused.TooLong name limit) = ten
-at_refusal P two three four five six ten twelve (refused.Schema fault) = three
-at_refusal P two three four five six ten twelve (refused.Query fault) = four
-at_refusal P two three four five six ten twelve (refused.IllTyped rule place) = five
-at_refusal P two three four five six ten twelve (refused.Table name fault) = six
-at_refusal P two three four five six ten twelve (refused.Sql fault) = twelve
-at_refusal P two three four five six ten twelve (refused.IllScoped rule place) = twelve
+-- a status at which no call failed, nothing was put and no server was called
+record IsCalm (s : ℕ) : Type 0 where
+  inputs : (s == 7) ≡ false
+  output : (s == 8) ≡ false
+  server : (s == 9) ≡ false
+  puts : ((s == 0) || (s == 8)) ≡ false
+  calls : is_called_status s ≡ false
+  names : ((s == 9) || (s == 11)) ≡ false
+  blames : s ≡ 11 → ⊥
+
+-- that of a refused input is one
+calm : (r : Refused) → IsCalm (refused_status r)
+calm refused.Usage = record { inputs = refl; output = refl; server = refl; puts = refl; calls = refl; names = refl; blames = λ e. cc }
+calm (refused.TooLong name limit) = record { inputs = refl; output = refl; server = refl; puts = refl; calls = refl; names = refl; blames = λ e. cc }
+calm (refused.Schema fault) = record { inputs = refl; output = refl; server = refl; puts = refl; calls = refl; names = refl; blames = λ e. cc }
+calm (refused.Query fault) = record { inputs = refl; output = refl; server = refl; puts = refl; calls = refl; names = refl; blames = λ e. cc }
+calm (refused.IllTyped rule place) = record { inputs = refl; output = refl; server = refl; puts = refl; calls = refl; names = refl; blames = λ e. cc }
+calm (refused.Table name fault) = record { inputs = refl; output = refl; server = refl; puts = refl; calls = refl; names = refl; blames = λ e. cc }
+calm (refused.Sql fault) = record { inputs = refl; output = refl; server = refl; puts = refl; calls = refl; names = refl; blames = λ e. cc }
+calm (refused.IllScoped rule place) = record { inputs = refl; output = refl; server = refl; puts = refl; calls = refl; names = refl; blames = λ e. cc }
 
 -- the count of the inputs
 inputs_of : (before now : ℕ) (a : Answer) → InputCount before now a → RoseAt 7 before now (status_of a)
 inputs_of before now (Ok u) h = h
 inputs_of before now (Err (refusal.Input input.Memory)) h = h
-inputs_of before now (Err (refusal.Input (input.Refused r))) h = at_refusal (λ (s : ℕ). RoseAt 7 before now s) h h h h h h h r
+inputs_of before now (Err (refusal.Input (input.Refused r))) h = subst (λ b. MatchBool b (Rose before now) (now ≡ before)) (sym (calm r).inputs) h
 inputs_of before now (Err (refusal.Input (input.Failed name))) h = h
 inputs_of before now (Err (refusal.Server server.Memory)) h = h
 inputs_of before now (Err (refusal.Server (server.TableFailed name))) h = h
@@ -42,7 +53,7 @@ inputs_at before now status a is h = subst (λ (s : ℕ). RoseAt 7 before now s)
 output_of : (before now : ℕ) (a : Answer) → OutputCount before now a → RoseAt 8 before now (status_of a)
 output_of before now (Ok u) h = h
 output_of before now (Err (refusal.Input input.Memory)) h = h
-output_of before now (Err (refusal.Input (input.Refused r))) h = at_refusal (λ (s : ℕ). RoseAt 8 before now s) h h h h h h h r
+output_of before now (Err (refusal.Input (input.Refused r))) h = subst (λ b. MatchBool b (Rose before now) (now ≡ before)) (sym (calm r).output) h
 output_of before now (Err (refusal.Input (input.Failed name))) h = h
 output_of before now (Err (refusal.Server server.Memory)) h = h
 output_of before now (Err (refusal.Server (server.TableFailed name))) h = h
@@ -57,7 +68,7 @@ output_at before now status a is h = subst (λ (s : ℕ). RoseAt 8 before now s)
 server_of : (bound before now : ℕ) (a : Answer) → ServerCount bound before now a → ServerRoseAt 9 bound before now (status_of a)
 server_of bound before now (Ok u) h = h
 server_of bound before now (Err (refusal.Input input.Memory)) h = h
-server_of bound before now (Err (refusal.Input (input.Refused r))) h = at_refusal (λ (s : ℕ). ServerRoseAt 9 bound before now s) h h h h h h h r
+server_of bound before now (Err (refusal.Input (input.Refused r))) h = subst (λ b. MatchBool b (RoseBelow bound before now) (now ≡ before)) (sym (calm r).server) h
 server_of bound before now (Err (refusal.Input (input.Failed name))) h = h
 server_of bound before now (Err (refusal.Server server.Memory)) h = h
 server_of bound before now (Err (refusal.Server (server.TableFailed name))) h = h
@@ -72,7 +83,7 @@ server_at bound before now status a is h = subst (λ (s : ℕ). ServerRoseAt 9 b
 puts_of : (old new : Option (List ℕ)) (a : Answer) → PutsOnly old new a → PutsAt old new (status_of a)
 puts_of old new (Ok u) h = h
 puts_of old new (Err (refusal.Input input.Memory)) h = h
-puts_of old new (Err (refusal.Input (input.Refused r))) h = at_refusal (λ (s : ℕ). PutsAt old new s) h h h h h h h r
+puts_of old new (Err (refusal.Input (input.Refused r))) h = subst (λ b. MatchBool b ⊤ (new ≡ old)) (sym (calm r).puts) h
 puts_of old new (Err (refusal.Input (input.Failed name))) h = h
 puts_of old new (Err (refusal.Server server.Memory)) h = h
 puts_of old new (Err (refusal.Server (server.TableFailed name))) h = h
@@ -87,7 +98,7 @@ puts_at old new status a is h = subst (λ (s : ℕ). PutsAt old new s) (sym is) 
 keeps_of : (old new : ServerState) (a : Answer) → Keeps old new a → KeepsAt old new (status_of a)
 keeps_of old new (Ok u) h = h
 keeps_of old new (Err (refusal.Input input.Memory)) h = tt
-keeps_of old new (Err (refusal.Input (input.Refused r))) h = at_refusal (λ (s : ℕ). KeepsAt old new s) h h h h h h h r
+keeps_of old new (Err (refusal.Input (input.Refused r))) h = subst (λ b. MatchBool b ⊤ (new ≡ old)) (sym (calm r).calls) h
 keeps_of old new (Err (refusal.Input (input.Failed name))) h = h
 keeps_of old new (Err (refusal.Server server.Memory)) h = h
 keeps_of old new (Err (refusal.Server (server.TableFailed name))) h = h
@@ -102,7 +113,7 @@ keeps_at old new status a is h = subst (λ (s : ℕ). KeepsAt old new s) (sym is
 asked_of : (asks : Bool) (a : Answer) → AskedOnly asks a → AskedAt asks (status_of a)
 asked_of asks (Ok u) h = h
 asked_of asks (Err (refusal.Input input.Memory)) h = h
-asked_of asks (Err (refusal.Input (input.Refused r))) h = at_refusal (λ (s : ℕ). AskedAt asks s) h h h h h h h r
+asked_of asks (Err (refusal.Input (input.Refused r))) h = subst (λ b. MatchBool b (asks ≡ true) ⊤) (sym (calm r).names) h
 asked_of asks (Err (refusal.Input (input.Failed name))) h = h
 asked_of asks (Err (refusal.Server server.Memory)) h = tt
 asked_of asks (Err (refusal.Server (server.TableFailed name))) h = h
@@ -140,8 +151,7 @@ usage_at C status a is usage =
 blames_of : (honest : Bool) (a : Answer) → status_of a ≡ 11 → Blames honest a → honest ≡ true → ⊥
 blames_of honest (Ok u) h blames = absurd (cc)
 blames_of honest (Err (refusal.Input input.Memory)) h blames = absurd (cc)
-blames_of honest (Err (refusal.Input (input.Refused r))) h blames =
-    absurd (at_refusal (λ (s : ℕ). s ≡ 11 → ⊥) (λ e. cc) (λ e. cc) (λ e. cc) (λ e. cc) (λ e. cc) (λ e. cc) (λ e. cc) r h)
+blames_of honest (Err (refusal.Input (input.Refused r))) h blames = absurd ((calm r).blames h)
 blames_of honest (Err (refusal.Input (input.Failed name))) h blames = absurd (cc)
 blames_of honest (Err (refusal.Server server.Memory)) h blames = absurd (cc)
 blames_of honest (Err (refusal.Server (server.TableFailed name))) h blames = absurd (cc)

@@ -12,7 +12,7 @@ use Rattle.command_line.specs.Commands.{Aim, run, check, show_types, show_normal
 use Rattle.nq_top.specs.Lines.{file_of, accepted_line, type_line}
 use Rattle.command_line.specs.Help.{help_text, version_text}
 use Rattle.nq_execute.specs.Plans.{Plan}
-use Rattle.nq_top.specs.Plans.{Question, query_plan, sql_plan, generated_plan, generated_question}
+use Rattle.nq_top.specs.Plans.{Draft, drafted, Question, query_draft, sql_draft, generated_plan, generated_question}
 use Rattle.nq_top.specs.Reading.{PlainReading, Reading, SqlColumns, schema_read, term_read, type_read, rows_read, sql_read}
 use Rattle.nq_top.specs.Shown.{Shown, shown_form, form_line, shown_texts, shown_frames}
 use Rattle.command_line.specs.declared.refusal.Refused.{Refused}
@@ -67,10 +67,15 @@ tables_judged files folder (shape ∷ shapes) left done next =
     fetched_then files (file_of folder shape.name) left
     (λ text. read_then (rows_read shape text) (λ rows. tables_judged files folder shapes (left - length text) (done ++ loaded_as shape rows ∷ []) next))
 
+-- the plan of a draft over the tables of a folder
+abbrev pub draft_judged : Files → List ℕ → Schema → Draft → (List Loaded → Question) → Judgement
+draft_judged files folder schema draft question =
+    tables_judged files folder schema.tables 67108864 [] (λ tables. planned (drafted draft tables) (question tables))
+
 -- a query that is run
 abbrev pub run_judged : PlainReading → Files → List ℕ → Schema → PlacedTerm → TypeTree → Judgement
 run_judged plain files folder schema term type =
-    tables_judged files folder schema.tables 67108864 [] (λ tables. planned (query_plan plain schema term type tables) (Question.query term))
+    draft_judged files folder schema (query_draft plain schema term type) (λ tables. Question.query term)
 
 -- a query that is accepted with its type
 unfoldable pub aim_judged : PlainReading → Files → Aim → Schema → PlacedTerm → TypeTree → Judgement
@@ -93,7 +98,7 @@ query_judged reading files aim schema name =
 -- an SQL text that was read and scoped: its rows are asked for, over the tables of the folder
 abbrev pub rows_judged : Files → List ℕ → Schema → SqlColumns → Judgement
 rows_judged files folder schema asked =
-    tables_judged files folder schema.tables 67108864 [] (λ tables. planned (sql_plan asked.0 asked.1 tables) (Question.sql asked.0))
+    draft_judged files folder schema (sql_draft asked.0 asked.1) (λ tables. Question.sql asked.0)
 
 -- the SQL text, after the schema
 abbrev pub sql_judged : Reading → Files → Schema → List ℕ → List ℕ → Judgement

@@ -19,7 +19,8 @@ use Rattle.sql_profile.specs.declared.answer.Answer.{Answer}
 use Rattle.sql_profile.specs.declared.server.Loaded.{Loaded}
 use Rattle.stitcher.specs.Stitching.{rows_of}
 use Rattle.generated_inputs.specs.Generated.{generated_schema, generated_query, generated_type, generated_tables}
-use Rattle.nq_execute.specs.Plans.{Finish, Plan, finished}
+use Rattle.nq_execute.specs.Plans.{Finish, Plan, finished, IsServable, finish_view}
+use Rattle.nq_top.specs.declared.draft.Draft.{Draft as Drafts}
 use Rattle.nq_execute.specs.Serving.{Allowed}
 use Rattle.nq_execute.specs.Summaries.{summary_of}
 use Rattle.canon.specs.RowTexts.{rows_text}
@@ -32,26 +33,43 @@ pub record AreReadFor (shapes : List TableShape) (tables : List Loaded) : Type 0
   pub stored : AreTablesOf shapes rows
   pub is : tables ≡ held_of shapes rows
 
--- the plan of a query of this type over tables, finished in a way: the texts that are shown for it
-unfoldable pub plan_to : (TypeTree → Finish) → PlainReading → Schema → PlacedTerm → TypeTree → List Loaded → Plan
-plan_to finish plain schema term type tables = record {
-  tables = tables;
+-- what a server is asked for a command, before its tables are read: the texts, in order, the types of the columns of each,
+-- and what is written of the answers
+pub record Draft : Type 0 where
+  pub texts : List (List ℕ)
+  pub columns : List (List ColumnType)
+  pub finish : Finish
+
+-- the draft of the program
+abbrev pub draft_view : Drafts → Draft
+draft_view d = record { texts = d.texts; columns = d.columns; finish = finish_view d.finish }
+
+-- the plan of a draft over tables
+abbrev pub drafted : Draft → List Loaded → Plan
+drafted draft tables = record { tables = tables; texts = draft.texts; columns = draft.columns; finish = draft.finish }
+
+-- the draft of a query of this type, finished in a way: the texts that are shown for it
+unfoldable pub draft_to : (TypeTree → Finish) → PlainReading → Schema → PlacedTerm → TypeTree → Draft
+draft_to finish plain schema term type = record {
   texts = (shown_texts plain schema term type).texts;
   columns = map (columns_at type) (paths type);
   finish = finish type;
 }
 
+abbrev pub plan_to : (TypeTree → Finish) → PlainReading → Schema → PlacedTerm → TypeTree → List Loaded → Plan
+plan_to finish plain schema term type tables = drafted (draft_to finish plain schema term type) tables
+
 -- its value is written
-abbrev pub query_plan : PlainReading → Schema → PlacedTerm → TypeTree → List Loaded → Plan
-query_plan plain schema term type tables = plan_to Finish.value plain schema term type tables
+abbrev pub query_draft : PlainReading → Schema → PlacedTerm → TypeTree → Draft
+query_draft plain schema term type = draft_to Finish.value plain schema term type
 
 -- the plan of the summary of a query over generated tables of a size
 abbrev pub generated_plan : PlainReading → ℕ → Plan
 generated_plan plain size = plan_to Finish.summary plain generated_schema generated_query generated_type (generated_tables size)
 
--- the plan of an SQL text with columns of these types
-abbrev pub sql_plan : List ℕ → List ColumnType → List Loaded → Plan
-sql_plan text types tables = record { tables = tables; texts = text ∷ []; columns = types ∷ []; finish = Finish.rows }
+-- the draft of an SQL text with columns of these types
+abbrev pub sql_draft : List ℕ → List ColumnType → Draft
+sql_draft text types = record { texts = text ∷ []; columns = types ∷ []; finish = Finish.rows }
 
 -- what a server is asked for: the value of a query; or its summary, as a value of a type; or the rows of an SQL text
 pub data Question : Type 0 where
@@ -89,3 +107,11 @@ Settles tables (Question.sql asked) text = IsAllowed tables asked text
 -- whatever answers SQL allows to the texts of a plan, each by itself, what is written of them is an answer to the question
 abbrev pub IsSound : Plan → Question → Type 0
 IsSound plan question = (answers : List Answer) → Allowed plan.tables plan.texts answers → Settles plan.tables question (finished plan.finish (rows_of answers))
+
+-- over all tables of the schema, the plan of a draft may be served
+abbrev pub CanServeOver : Schema → Draft → Type 0
+CanServeOver schema draft = (tables : List Loaded) → AreReadFor schema.tables tables → IsServable (drafted draft tables)
+
+-- and it is sound for the question over them
+abbrev pub IsSoundOver : Schema → Draft → (List Loaded → Question) → Type 0
+IsSoundOver schema draft question = (tables : List Loaded) → AreReadFor schema.tables tables → IsSound (drafted draft tables) (question tables)

@@ -2,20 +2,19 @@
 ghost use Rattle.std.specs.Prelude.{◌≡◌, ◌≢◌, ◌∷◌, [], true, IfOk, IfSome, Err};
 ghost use Rattle.nq_compile.specs.Shreds.{IsScopedText};
 ghost use Rattle.nq_model.specs.Tables.{IsProperSchema};
-ghost use Rattle.nq_execute.specs.Plans.{plan_view, rows};
+ghost use Rattle.nq_top.specs.Plans.{draft_view, sql_draft};
 ghost use Rattle.nq_top.specs.Reading.{Reading};
 ghost use Rattle.nq_top.specs.Judging.{rows_judged, sql_judged, answer_judged};
 ghost use Rattle.nq_top.specs.Gathering.{InputCounts, GatherTells, CanServe, gathered_asks};
 
+use crate::draft::{Draft, gather_draft};
 use crate::fetch::{TEXT_LIMIT, fetch_input};
 use crate::gathered::Gathered;
 use crate::read::{columns_of, schema_of};
-use crate::tables::{TABLES_LIMIT, gather_tables};
-use nq_edge::Inputs;
-use nq_execute::{Finish, Plan};
-use nq_model::{ColumnType, List, Memory, Schema, Text};
 use command_line::{InputRefusal, Refused};
-use sql_profile::Loaded;
+use nq_edge::Inputs;
+use nq_execute::Finish;
+use nq_model::{ColumnType, List, Memory, Schema, Text};
 use std::alloc::Global;
 
 // A list of one item.
@@ -27,16 +26,17 @@ fn only<T: Drop>(alloc: Global, item: T) -> Result<List<T>, Memory>
     Ok(list)
 }
 
-// What a server is asked for the rows of SQL texts over tables.
-fn plan_of(texts: List<List<u8>>, columns: List<List<ColumnType>>, tables: List<Loaded>) -> Plan
-    ensures { plan_view result ≡ record { tables = tables; texts = texts; columns = columns; finish = rows } }
+// The draft of an SQL text with columns of these types.
+fn sql_draft(alloc: Global, text: List<u8>, types: List<ColumnType>) -> Result<Draft, Memory>
+    ensures { IfOk result (λ draft. draft_view draft ≡ sql_draft text types) }
 {
-    Plan {
-        tables,
+    let texts = only(alloc, text)?;
+    let columns = only(alloc, types)?;
+    Ok(Draft {
         texts,
         columns,
         finish: Finish::Rows,
-    }
+    })
 }
 
 // Reads the tables of an SQL text that was read and scoped.
@@ -58,18 +58,8 @@ fn gather_rows<I: Inputs>(
     ensures tells { IfSome (I.held inputs.old) (λ files. (reading : Reading) →
         GatherTells (rows_judged files folder.now schema.now (text, types)) (I.fetched inputs.old) (I.fetched inputs.new) result) }
 {
-    let texts = only(alloc, text)?;
-    let columns = only(alloc, types)?;
-    let shapes = schema.tables.as_slice();
-    let tables = gather_tables(
-        alloc,
-        inputs,
-        folder,
-        shapes,
-        TABLES_LIMIT,
-        List::new(alloc),
-    )?;
-    Ok(Gathered::Plan(plan_of(texts, columns, tables)))
+    let draft = sql_draft(alloc, text, types)?;
+    gather_draft(alloc, inputs, folder, schema, draft)
 }
 
 // Reads and scopes the SQL text, and then reads the tables.

@@ -4,42 +4,47 @@ ghost use Rattle.nq_model.specs.Proper.{IsProperTerm};
 ghost use Rattle.nq_model.specs.Tables.{IsProperSchema};
 ghost use Rattle.nq_model.specs.Terms.{placed, bare};
 ghost use Rattle.nq_model.specs.Types.{TypeTree, type_tree};
-ghost use Rattle.nq_execute.specs.Plans.{plan_view, value};
 ghost use Rattle.command_line.specs.Commands.{command_of, aim_asks, asks_server};
 ghost use Rattle.nq_top.specs.Lines.{type_line};
+ghost use Rattle.nq_top.specs.Plans.{Question, query_draft, draft_view, CanServeOver, IsSoundOver};
 ghost use Rattle.command_line.specs.Words.{aim_view};
 ghost use Rattle.nq_top.specs.Reading.{Reading, PlainReading, type_read};
 ghost use Rattle.nq_top.specs.Judging.{judgement, schema_judged, query_judged, term_judged, aim_judged, run_judged};
 ghost use Rattle.nq_top.specs.Gathering.{InputCounts, GatherTells, IsTyped, CanServe, gathered_asks};
 
 use crate::answer::gather_answer;
+use crate::draft::{Draft, gather_draft};
 use crate::fetch::{TEXT_LIMIT, fetch_input};
 use crate::gathered::Gathered;
 use crate::generated::generated_plan;
 use crate::read::{schema_of, term_of, type_of};
 use crate::shown::{normal_text, shown_text};
-use crate::tables::{TABLES_LIMIT, gather_tables};
-use command_line::{Aim, Command, command_of, help_text, version_text};
-use nq_compile::{Compiled, compile};
+use command_line::{
+    Aim, Command, InputRefusal, Refused, command_of, help_text, paths_text, version_text,
+};
+use nq_compile::compile;
 use nq_edge::Inputs;
-use nq_execute::{Finish, Plan};
+use nq_execute::Finish;
 use nq_model::{List, Memory, Schema, Term, Text, Ty};
 use nq_types::write_type;
-use command_line::{InputRefusal, Refused};
-use command_line::paths_text;
-use sql_profile::Loaded;
 use std::alloc::Global;
 
-// What a server is asked for a compiled query over tables.
-fn plan_of(compiled: Compiled, tables: List<Loaded>) -> Plan
-    ensures { plan_view result ≡ record { tables = tables; texts = compiled.texts; columns = compiled.columns; finish = value (type_tree compiled.result) } }
+// The draft of a query whose value is written.
+fn query_draft(alloc: Global, schema: &Schema, term: Term) -> Result<Draft, Memory>
+    requires proper { IsProperSchema schema.now }
+    requires proper_term { IsProperTerm (bare (placed term)) }
+    requires typed { IsTyped schema.now (placed term) }
+    ensures servable { IfOk result (λ draft. CanServeOver schema.now (draft_view draft)) }
+    ensures sound { IfOk result (λ draft. IsSoundOver schema.now (draft_view draft) (λ tables. Question.query (placed term))) }
+    ensures is { IfOk result (λ draft. (plain : PlainReading) (type : TypeTree) → type_read schema.now (placed term) ≡ Ok type
+        → draft_view draft ≡ query_draft plain schema.now (placed term) type) }
 {
-    Plan {
-        tables,
+    let compiled = compile(alloc, schema, term)?;
+    Ok(Draft {
         texts: compiled.texts,
         columns: compiled.columns,
         finish: Finish::Value(compiled.result),
-    }
+    })
 }
 
 // Compiles a query that is run, and reads the tables.
@@ -60,17 +65,8 @@ fn gather_run<I: Inputs>(
     ensures tells { IfSome (I.held inputs.old) (λ files. (plain : PlainReading) (type : TypeTree) → type_read schema.now (placed term) ≡ Ok type
         → GatherTells (run_judged plain files folder.now schema.now (placed term) type) (I.fetched inputs.old) (I.fetched inputs.new) result) }
 {
-    let compiled = compile(alloc, schema, term)?;
-    let shapes = schema.tables.as_slice();
-    let tables = gather_tables(
-        alloc,
-        inputs,
-        folder,
-        shapes,
-        TABLES_LIMIT,
-        List::new(alloc),
-    )?;
-    Ok(Gathered::Plan(plan_of(compiled, tables)))
+    let draft = query_draft(alloc, schema, term)?;
+    gather_draft(alloc, inputs, folder, schema, draft)
 }
 
 // The line of a type.
