@@ -12,7 +12,7 @@ use Rattle.nq_ir.specs.Paths.{paths}
 use Rattle.shred_types.specs.Columns.{columns_at}
 use Rattle.sql_profile.specs.declared.server.Loaded.{Loaded}
 use Rattle.nq_compile.specs.Shreds.{IsScopedText}
-use Rattle.nq_execute.specs.Plans.{Finish, Plan, plan_view, IsServable}
+use Rattle.nq_execute.specs.Plans.{Plan, Writing, plan_view, IsServable}
 use Rattle.nq_execute.specs.declared.plan.Plan.{Plan as Asked}
 use Rattle.nq_top.specs.Gathering.{Told, IsTyped, Accepts, ComesTo, HoldsPlan, GatherTells, TablesTell, ReadsBehind, RefusalTells}
 use Rattle.nq_top.specs.Judging.{Judgement, Verdict, planned, tables_judged, draft_judged, run_judged, rows_judged}
@@ -94,12 +94,12 @@ module _ (held : Option Files) (folder : List ℕ) (schema : Schema) (draft : Dr
 -- What holds of a draft over any tables holds of the one that a query comes to.
 pub query_told : (held : Option Files) (folder : List ℕ) (schema : Schema) (term : PlacedTerm) (draft : Draft) (old new : Told) (result : Result Gathered InputRefusal)
     → ((plain : PlainReading) (type : TypeTree) → type_read schema term ≡ Ok type → draft ≡ query_draft plain schema term type)
-    → IsSoundOver schema draft (λ tables. Question.query term) → DraftTold held folder schema draft old new result
+    → ((type : TypeTree) → type_read schema term ≡ Ok type → IsSoundOver schema draft (λ tables. Question.value Writing.text type term)) → DraftTold held folder schema draft old new result
     → IfSome held (λ files. (plain : PlainReading) (type : TypeTree) → type_read schema term ≡ Ok type → GatherTells (run_judged plain files folder schema term type) old new result)
 query_told None folder schema term draft old new result is sound told = tt
 query_told (Some files) folder schema term draft old new result is sound told = λ plain type typed.
-    let P : Draft → Type 0 = λ d. GatherTells (draft_judged files folder schema d (λ tables. Question.query term)) old new result in
-    subst P (is plain type typed) (told (λ tables. Question.query term) sound)
+    let P : Draft → Type 0 = λ d. GatherTells (draft_judged files folder schema d (λ tables. Question.value Writing.text type term)) old new result in
+    subst P (is plain type typed) (told (λ tables. Question.value Writing.text type term) (sound type typed))
 
 -- What asking for the rows of an SQL text is to tell.
 abbrev pub RowsTold : Option Files → List ℕ → Schema → List ℕ → List ColumnType → Told → Told → Result Gathered InputRefusal → Type 0

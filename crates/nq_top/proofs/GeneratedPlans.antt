@@ -12,12 +12,12 @@ use Rattle.nq_model.specs.declared.table.Schema.{Schema}
 use Rattle.nq_ir.specs.Paths.{paths}
 use Rattle.shred_types.specs.Columns.{columns_at}
 use Rattle.sql_profile.specs.declared.server.Loaded.{Loaded}
-use Rattle.nq_execute.specs.Plans.{Finish, Plan, plan_view, IsServable}
+use Rattle.nq_execute.specs.Plans.{Finish, Indexes, Writing, Plan, plan_view, IsServable}
 use Rattle.nq_execute.specs.declared.plan.Plan.{Plan as Asked}
 use Rattle.nq_top.specs.Gathering.{HoldsPlan, IsTyped}
-use Rattle.nq_top.specs.Plans.{AreReadFor, Draft, drafted, Question, plan_to, generated_plan, generated_question, IsSound}
+use Rattle.nq_top.specs.Plans.{AreReadFor, Draft, drafted, draft_to, Question, generated_plan, generated_question, IsSound}
 use Rattle.nq_top.specs.Reading.{PlainReading, refused_as, ill_typed, type_read}
-use Rattle.nq_top.proofs.Plans.{summary_servable, summary_sound, draft_is}
+use Rattle.nq_top.proofs.Plans.{servable, sound, draft_is}
 use Rattle.nq_top.proofs.Showings.{ResultIs, TextsAre, TextsShred}
 
 read_type : program_judged generated_schema generated_query ≡ Ok generated_type → type_read generated_schema generated_query ≡ Ok generated_type
@@ -47,20 +47,21 @@ module _ (schema : Schema) (term : PlacedTerm) (type : TypeTree) (texts : List (
       subst (λ (s : Schema). AreReadFor s.tables tables) (sym schema_is)
       (record { rows = generated_rows size; stored = stored; is = tables_are })
 
-  pub plan_servable : (asked : Asked) → plan_view asked ≡ record { tables = tables; texts = texts; columns = columns; finish = Finish.summary type } → IsServable (plan_view asked)
+  pub plan_servable : (asked : Asked) → plan_view asked ≡ record { tables = tables; texts = texts; columns = columns; finish = Finish.value type Indexes.numbers Writing.summary } → IsServable (plan_view asked)
   plan_servable asked is =
       subst (λ (p : Plan). IsServable p) (sym is)
-      (summary_servable schema term type texts columns proper_schema proper_term shred result_is columns_of generated_type read tables held)
+      (servable schema term type texts columns proper_schema proper_term shred result_is columns_of generated_type read Writing.summary tables held)
 
-  pub plan_holds : TextsAre schema term type [] texts → (asked : Asked) → plan_view asked ≡ record { tables = tables; texts = texts; columns = columns; finish = Finish.summary type }
+  pub plan_holds : TextsAre schema term type [] texts → (asked : Asked) → plan_view asked ≡ record { tables = tables; texts = texts; columns = columns; finish = Finish.value type Indexes.numbers Writing.summary }
       → (plain : PlainReading) → HoldsPlan (generated_plan plain size) generated_question asked
   plan_holds texts_are asked is plain =
-      let Over : Schema → PlacedTerm → List Loaded → Type 0 = λ s t ts. HoldsPlan (plan_to Finish.summary plain s t generated_type ts) (Question.summary t generated_type) asked in
-      let same = draft_is schema term type texts columns proper_schema proper_term shred result_is columns_of generated_type read Finish.summary texts_are plain in
+      let Over : Schema → PlacedTerm → List Loaded → Type 0 = λ s t ts.
+      HoldsPlan (drafted (draft_to Writing.summary plain s t generated_type) ts) (Question.value Writing.summary generated_type t) asked in
+      let same = draft_is schema term type texts columns proper_schema proper_term shred result_is columns_of generated_type read Writing.summary texts_are plain in
       let here : Over schema term tables = record {
         is = is ∙ ap (λ (d : Draft). drafted d tables) same;
-        sound = let S : Draft → Type 0 = λ d. IsSound (drafted d tables) (Question.summary term generated_type) in
-            subst S same (summary_sound schema term type texts columns proper_schema proper_term shred result_is columns_of generated_type read tables held);
+        sound = let S : Draft → Type 0 = λ d. IsSound (drafted d tables) (Question.value Writing.summary generated_type term) in
+            subst S same (sound schema term type texts columns proper_schema proper_term shred result_is columns_of generated_type read Writing.summary tables held);
       } in
       subst (λ (ts : List Loaded). Over generated_schema generated_query ts) tables_are
       (subst (λ (t : PlacedTerm). Over generated_schema t tables) term_is

@@ -3,7 +3,6 @@
 use Rattle.std.proofs.Common.{◌≡◌, ℕ, List, [], ◌∷◌, ◌++◌, map, length, Ok, All, codes, refl, sym, ap, ◌∙◌, subst, arith}
 use Rattle.std.proofs.lemmas.List.Elements.{All-nil, All-cons, All-head, All-tail}
 use Rattle.std.proofs.lemmas.Simd.{map-map}
-use Rattle.nq_model.specs.Canonical.{canonical_text, written}
 use Rattle.nq_model.specs.Cells.{RowFits}
 use Rattle.nq_model.specs.Databases.{FilledTable, database}
 use Rattle.nq_model.specs.Meaning.{meaning}
@@ -20,7 +19,6 @@ use Rattle.nq_model.specs.declared.table.Cell.{Cell}
 use Rattle.nq_model.specs.declared.table.ColumnType.{ColumnType}
 use Rattle.nq_model.specs.declared.table.Schema.{Schema}
 use Rattle.nq_model.specs.declared.table.TableShape.{TableShape}
-use Rattle.nq_model.proofs.Canonical.{canonical_same}
 use Rattle.nq_model.proofs.ProperTypes.{ordered_type}
 use Rattle.nq_model.proofs.ValueTypes.{one_meaning}
 use Rattle.nq_compile.specs.Shreds.{IsScopedText, Shreds}
@@ -45,13 +43,10 @@ use Rattle.stitcher.specs.Stitching.{rows_of}
 use Rattle.unfold.specs.Hereditary.{unfolded}
 use Rattle.unfold.proofs.Whole.{is_unfolding}
 use Rattle.nq_execute.specs.Loading.{CanLoad}
-use Rattle.nq_execute.specs.Plans.{Finish, Plan, plan_view, answered_value, value_text, summary_text, finished, AsksFor, ArePathsOf, CanFinish, IsServable}
+use Rattle.nq_execute.specs.Plans.{Finish, Indexes, Writing, value_by, text_by, value_text, finished, AsksFor, ArePathsOf}
 use Rattle.nq_execute.specs.Serving.{Allowed}
-use Rattle.nq_execute.specs.Summaries.{summary_of}
-use Rattle.nq_execute.specs.declared.plan.Plan.{Plan as Asked}
-use Rattle.nq_execute.proofs.Summaries.{summary_same}
-use Rattle.nq_top.specs.Gathering.{HoldsPlan}
-use Rattle.nq_top.specs.Plans.{AreReadFor, Draft, drafted, draft_to, sql_draft, Question, IsMeant, IsSummed, IsAllowed, IsSound, CanServeOver, IsSoundOver}
+use Rattle.nq_execute.proofs.Writings.{text_same}
+use Rattle.nq_top.specs.Plans.{AreReadFor, Draft, draft_to, sql_draft, Question, IsWritten, IsAllowed, CanServeOver, IsSoundOver, ReadBy}
 use Rattle.nq_top.specs.Reading.{PlainReading, type_read}
 use Rattle.nq_top.specs.Shown.{shown_texts}
 use Rattle.nq_top.proofs.Showings.{ResultIs, TextsAre, TextsShred, read_accepted, bag_again}
@@ -149,6 +144,25 @@ module _ (schema : Schema) (text : List ℕ) (types : List ColumnType) (proper_s
       go [] none = absurd none
       go (a ∷ given) some = record { answer = a.rows; allowed = some.0; is = refl }
 
+-- Texts that are so read are a sound draft for the query's value, however it is written.
+pub written_sound : (schema : Schema) (term : PlacedTerm) (type : TypeTree) (indexes : Indexes) (writing : Writing) (texts : List (List ℕ)) (columns : List (List ColumnType))
+    → IsAccepted schema (bare term) type → ReadBy schema indexes type texts term
+    → IsSoundOver schema (record { texts = texts; columns = columns; finish = Finish.value type indexes writing }) (λ tables. Question.value writing type term)
+unfolding value_text
+written_sound schema term type indexes writing texts columns accepted reads tables read answers allowed =
+    let filled = database schema.tables read.rows in
+    let value = meaning filled [] (bare (unfolded term)) in
+    let here : map filled_of tables ≡ filled = ap (map filled_of) read.is ∙ held_filled schema.tables read.rows in
+    let means = meant schema term type filled accepted in
+    let M : List FilledTable → Type 0 = λ ts. Means ts term value in
+    let Q : List Loaded → Type 0 = λ ts. EachBoth (TextAllows First ts) texts (rows_of answers) in
+    let over : Q (held_of schema.tables read.rows) = subst Q read.is (both_rows (TextAllows First tables) texts answers allowed) in
+    record {
+      value = value;
+      means = subst M (sym here) means;
+      is = text_same writing type (value_by indexes type (rows_of answers)) value (reads read.rows read.stored (rows_of answers) over value means);
+    }
+
 module _ (schema : Schema) (term : PlacedTerm) (type : TypeTree) (texts : List (List ℕ)) (columns : List (List ColumnType))
     (proper_schema : IsProperSchema schema) (proper_term : IsProperTerm (bare term))
     (shred : TextsShred schema term type [] texts) (result_is : ResultIs schema term type [] texts) (columns_of : columns ≡ map (columns_at type) (paths type))
@@ -171,103 +185,55 @@ module _ (schema : Schema) (term : PlacedTerm) (type : TypeTree) (texts : List (
   ordered : IsOrdered type
   ordered = ordered_type schema proper_schema [] (bare term) type tt proper_term accepted.typed
 
-  abbrev draft : (TypeTree → Finish) → Draft
-  draft finish = record { texts = texts; columns = columns; finish = finish type }
+  abbrev draft : Writing → Draft
+  draft writing = record { texts = texts; columns = columns; finish = Finish.value type Indexes.numbers writing }
 
   at_bag : columns ≡ map (columns_at (bag element)) (paths (bag element))
   at_bag = columns_of ∙ ap (λ (a : TypeTree). map (columns_at a) (paths a)) (sym of_bag)
 
-  at_paths : ArePathsOf type columns
+  at_paths : ArePathsOf type Indexes.numbers columns
   at_paths = record {
     of_bag = sym of_bag;
     at_paths = at_bag ∙ columns_are element (subst (λ (a : TypeTree). IsOrdered a) (sym of_bag) ordered) ∙ ap (λ (a : TypeTree). map answer_columns (element_types a)) of_bag;
   }
 
-  servable_to : (finish : TypeTree → Finish) → CanFinish (finish type) columns → CanServeOver schema (draft finish)
-  servable_to finish finishable tables read = record {
+  -- over all tables of the schema it may be served
+  pub servable : (writing : Writing) → CanServeOver schema (draft writing)
+  servable writing tables read = record {
     loadable = read_loadable schema tables proper_schema read;
-    finishable = finishable;
+    finishable = at_paths;
     askable = subst (λ (cs : List (List ColumnType)). EachBoth (AsksFor tables) cs texts) (sym at_bag)
         (both_mapped (λ path text. IsScopedText schema (columns_at (bag element) path) text) (AsksFor tables) (columns_at (bag element))
         (λ path text scoped. asks_for schema tables (read_shapes schema tables read) (columns_at (bag element) path) text scoped) (paths (bag element)) texts shreds.scoped);
   }
 
-  pub servable : CanServeOver schema (draft Finish.value)
-  servable = servable_to Finish.value at_paths
+  -- the answers stitch to what the query means
+  reads : ReadBy schema Indexes.numbers type texts term
+  reads rows stored answers each v means =
+      let S : TypeTree → Type 0 = λ a. Same (stitched (flat_numbers (element_types a)) element answers) v in
+      subst S of_bag (shreds.stitched rows stored answers each v means)
 
-  pub summary_servable : CanServeOver schema (draft Finish.summary)
-  summary_servable = servable_to Finish.summary at_paths
-
-  -- what the query means over the tables that were read
-  module _ (tables : List Loaded) (read : AreReadFor schema.tables tables) where
-    value : Nested
-    value = meaning (database schema.tables read.rows) [] (bare (unfolded term))
-
-    means : Means (map filled_of tables) term value
-    unfolding value
-    means =
-        let filled = database schema.tables read.rows in
-        let here : map filled_of tables ≡ filled = ap (map filled_of) read.is ∙ held_filled schema.tables read.rows in
-        let M : List FilledTable → Type 0 = λ ts. Means ts term (meaning filled [] (bare (unfolded term))) in
-        subst M (sym here) (meant schema term type filled accepted)
-
-    -- and whatever answers SQL allows stitch to it
-    stitches : (answers : List Answer) → Allowed tables texts answers → Same (answered_value type (rows_of answers)) value
-    unfolding value
-    stitches answers allowed =
-        let held = held_of schema.tables read.rows in
-        let filled = database schema.tables read.rows in
-        let meant_here = meaning filled [] (bare (unfolded term)) in
-        let given = rows_of answers in
-        let Q : List Loaded → Type 0 = λ ts. EachBoth (TextAllows First ts) texts given in
-        let over : EachBoth (TextAllows First held) texts given = subst Q read.is (both_rows (TextAllows First tables) texts answers allowed) in
-        let same = shreds.stitched read.rows read.stored given over meant_here (meant schema term type filled accepted) in
-        let S : TypeTree → Type 0 = λ a. Same (stitched (flat_numbers (element_types a)) element given) meant_here in
-        subst S of_bag same
-
-    value_sound : IsSound (drafted (draft Finish.value) tables) (Question.query term)
-    unfolding value_text
-    value_sound answers allowed = record {
-      value = value;
-      means = means;
-      is = ap (λ (v : Nested). written v ++ codes "\n") (canonical_same (answered_value type (rows_of answers)) value (stitches answers allowed));
-    }
-
-    summary_sound_here : IsSound (drafted (draft Finish.summary) tables) (Question.summary term type)
-    unfolding summary_text
-    summary_sound_here answers allowed = record {
-      value = value;
-      means = means;
-      is = summary_same type (answered_value type (rows_of answers)) value (stitches answers allowed);
-    }
-
-  pub sound : IsSoundOver schema (draft Finish.value) (λ tables. Question.query term)
-  sound tables read answers allowed = value_sound tables read answers allowed
-
-  pub summary_sound : IsSoundOver schema (draft Finish.summary) (λ tables. Question.summary term own)
-  summary_sound tables read =
-      let P : TypeTree → Type 0 = λ a. IsSound (drafted (draft Finish.summary) tables) (Question.summary term a) in
-      subst P same_own (λ answers allowed. summary_sound_here tables read answers allowed)
+  -- and it is sound for the query
+  pub sound : (writing : Writing) → IsSoundOver schema (draft writing) (λ tables. Question.value writing own term)
+  sound writing =
+      let P : TypeTree → Type 0 = λ a. IsSoundOver schema (draft writing) (λ tables. Question.value writing a term) in
+      subst P same_own (written_sound schema term type Indexes.numbers writing texts columns accepted reads)
 
   -- the draft is the one that the query comes to
-  pub draft_is : (finish : TypeTree → Finish) → TextsAre schema term type [] texts → (plain : PlainReading) → draft finish ≡ draft_to finish plain schema term own
+  pub draft_is : (writing : Writing) → TextsAre schema term type [] texts → (plain : PlainReading) → draft writing ≡ draft_to writing plain schema term own
   unfolding draft_to shown_texts
-  draft_is finish texts_are plain =
+  draft_is writing texts_are plain =
       let here : IsAccepted schema (bare term) (bag element) = subst (λ (a : TypeTree). IsAccepted schema (bare term) a) (sym of_bag) accepted in
       let shown : texts ≡ texts_of schema (normal_form schema.tables (element_type own) (bare (plain.says term))) =
       texts_are element (plain.says term) here (plain.right schema term type accepted) ∙ ap (λ (a : TypeTree). texts_of schema (normal_form schema.tables (element_type a) (bare (plain.says term)))) same_own in
       same_draft columns (map (columns_at own) (paths own)) texts (texts_of schema (normal_form schema.tables (element_type own) (bare (plain.says term)))) (columns_of ∙ ap (λ (a : TypeTree). map (columns_at a) (paths a)) same_own) shown same_own
     where
       same_draft : (cs ds : List (List ColumnType)) (ss ts : List (List ℕ)) → cs ≡ ds → ss ≡ ts → type ≡ own
-          → ◌≡◌ {A = Draft} (record { texts = ss; columns = cs; finish = finish type }) (record { texts = ts; columns = ds; finish = finish own })
+          → ◌≡◌ {A = Draft} (record { texts = ss; columns = cs; finish = Finish.value type Indexes.numbers writing }) (record { texts = ts; columns = ds; finish = Finish.value own Indexes.numbers writing })
       same_draft cs ds ss ts e f g = cc
 
--- a query has one text over given tables
-pub one_text : (tables : List Loaded) (term : PlacedTerm) (text other : List ℕ) → IsMeant tables term text → IsMeant tables term other → text ≡ other
-one_text tables term text other a b =
-    a.is ∙ ap canonical_text (one_meaning (map filled_of tables) term a.value b.value a.means b.means) ∙ sym b.is
-
--- and one summary
-pub one_summary : (tables : List Loaded) (term : PlacedTerm) (type : TypeTree) (text other : List ℕ) → IsSummed tables term type text → IsSummed tables term type other → text ≡ other
-one_summary tables term type text other a b =
-    a.is ∙ ap (summary_of type) (one_meaning (map filled_of tables) term a.value b.value a.means b.means) ∙ sym b.is
+-- one text is written of a query over given tables
+pub one_text : (writing : Writing) (type : TypeTree) (tables : List Loaded) (term : PlacedTerm) (text other : List ℕ)
+    → IsWritten writing type tables term text → IsWritten writing type tables term other → text ≡ other
+one_text writing type tables term text other a b =
+    a.is ∙ ap (text_by writing type) (one_meaning (map filled_of tables) term a.value b.value a.means b.means) ∙ sym b.is

@@ -11,7 +11,7 @@ use Rattle.sql_profile.specs.declared.server.Loaded.{Loaded}
 use Rattle.command_line.specs.Commands.{Aim, run, check, show_types, show_normal, show_paths, show_sql, Command, help, version, of_query, answer, generated, command_of}
 use Rattle.nq_top.specs.Lines.{file_of, accepted_line, type_line}
 use Rattle.command_line.specs.Help.{help_text, version_text}
-use Rattle.nq_execute.specs.Plans.{Plan}
+use Rattle.nq_execute.specs.Plans.{Plan, Writing}
 use Rattle.nq_top.specs.Plans.{Draft, drafted, Question, query_draft, sql_draft, generated_plan, generated_question}
 use Rattle.nq_top.specs.Reading.{PlainReading, Reading, SqlColumns, schema_read, term_read, type_read, rows_read, sql_read}
 use Rattle.nq_top.specs.Shown.{Shown, shown_form, form_line, shown_texts, shown_frames}
@@ -75,7 +75,7 @@ draft_judged files folder schema draft question =
 -- a query that is run
 abbrev pub run_judged : PlainReading → Files → List ℕ → Schema → PlacedTerm → TypeTree → Judgement
 run_judged plain files folder schema term type =
-    draft_judged files folder schema (query_draft plain schema term type) (λ tables. Question.query term)
+    draft_judged files folder schema (query_draft plain schema term type) (λ tables. Question.value Writing.text type term)
 
 -- a query that is accepted with its type
 unfoldable pub aim_judged : PlainReading → Files → Aim → Schema → PlacedTerm → TypeTree → Judgement

@@ -4,6 +4,7 @@ ghost use Rattle.nq_model.specs.Proper.{IsProperTerm};
 ghost use Rattle.nq_model.specs.Tables.{IsProperSchema};
 ghost use Rattle.nq_model.specs.Terms.{placed, bare};
 ghost use Rattle.nq_model.specs.Types.{TypeTree, type_tree};
+ghost use Rattle.nq_execute.specs.Plans.{Writing as Ways};
 ghost use Rattle.command_line.specs.Commands.{command_of, aim_asks, asks_server};
 ghost use Rattle.nq_top.specs.Lines.{type_line};
 ghost use Rattle.nq_top.specs.Plans.{Question, query_draft, draft_view, CanServeOver, IsSoundOver};
@@ -24,7 +25,7 @@ use command_line::{
 };
 use nq_compile::compile;
 use nq_edge::Inputs;
-use nq_execute::Finish;
+use nq_execute::{Finish, Indexes, Writing};
 use nq_model::{List, Memory, Schema, Term, Text, Ty};
 use nq_types::write_type;
 use std::alloc::Global;
@@ -35,7 +36,8 @@ fn query_draft(alloc: Global, schema: &Schema, term: Term) -> Result<Draft, Memo
     requires proper_term { IsProperTerm (bare (placed term)) }
     requires typed { IsTyped schema.now (placed term) }
     ensures servable { IfOk result (λ draft. CanServeOver schema.now (draft_view draft)) }
-    ensures sound { IfOk result (λ draft. IsSoundOver schema.now (draft_view draft) (λ tables. Question.query (placed term))) }
+    ensures sound { IfOk result (λ draft. (type : TypeTree) → type_read schema.now (placed term) ≡ Ok type
+        → IsSoundOver schema.now (draft_view draft) (λ tables. Question.value Ways.text type (placed term))) }
     ensures is { IfOk result (λ draft. (plain : PlainReading) (type : TypeTree) → type_read schema.now (placed term) ≡ Ok type
         → draft_view draft ≡ query_draft plain schema.now (placed term) type) }
 {
@@ -43,7 +45,11 @@ fn query_draft(alloc: Global, schema: &Schema, term: Term) -> Result<Draft, Memo
     Ok(Draft {
         texts: compiled.texts,
         columns: compiled.columns,
-        finish: Finish::Value(compiled.result),
+        finish: Finish::Value {
+            of: compiled.result,
+            indexes: Indexes::Numbers,
+            writing: Writing::Text,
+        },
     })
 }
 
