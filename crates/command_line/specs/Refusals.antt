@@ -18,7 +18,6 @@ use Rattle.command_line.specs.declared.refusal.Refusal.{Refusal}
 use Rattle.command_line.specs.declared.refusal.Refusal.TheVariants as refusal
 
 abbrev pub refused_status : Refused → ℕ
-refused_status refused.Usage = 2
 refused_status (refused.TooLong name limit) = 10
 refused_status (refused.Schema fault) = 3
 refused_status (refused.Query fault) = 4
@@ -39,6 +38,7 @@ server_status (server.TextFailed text) = 9
 server_status (server.BadAnswer text row column) = 11
 
 abbrev pub refusal_status : Refusal → ℕ
+refusal_status refusal.Usage = 2
 refusal_status (refusal.Input r) = input_status r
 refusal_status (refusal.Server r) = server_status r
 refusal_status refusal.OutputFailed = 8
@@ -115,7 +115,6 @@ table_note name (table.BadBool row column) = table_fault_note name (codes " refu
 table_note name (table.TwiceKey row earlier) = table_fault_note name (codes " refused: TwiceKey row ") row (codes " earlier ") earlier
 
 abbrev pub refused_note : Refused → List ℕ
-refused_note refused.Usage = codes "nq: usage\n"
 refused_note (refused.TooLong name limit) = codes "nq: input too long: " ++ (name ++ (codes " over " ++ (decimal limit ++ codes "\n")))
 refused_note (refused.Schema fault) = schema_note fault
 refused_note (refused.Query fault) = query_note fault
@@ -141,6 +140,7 @@ server_note (server.BadAnswer text row column) = codes "nq: bad answer: text " +
 
 -- the note line of a refusal
 abbrev pub note_of : Refusal → List ℕ
+note_of refusal.Usage = codes "nq: usage\n"
 note_of (refusal.Input r) = input_note r
 note_of (refusal.Server r) = server_note r
 note_of refusal.OutputFailed = codes "nq: output failed\n"

@@ -242,7 +242,6 @@ fn put_refused<N: Sink>(notes: &mut N, refused: &Refused)
         (refused_note refused.now) }
 {
     match refused {
-        Refused::Usage => put_one(notes, b"nq: usage\n"),
         Refused::TooLong(name, limit) => {
             put_too_long(notes, name.as_str().as_bytes(), *limit);
         }
@@ -335,6 +334,7 @@ fn put_refusal<N: Sink>(notes: &mut N, refusal: &Refusal)
         (note_of refusal.now) }
 {
     match refusal {
+        Refusal::Usage => put_one(notes, b"nq: usage\n"),
         Refusal::Input(refusal) => put_input(notes, refusal),
         Refusal::Server(refusal) => put_server(notes, refusal),
         Refusal::OutputFailed => put_one(notes, b"nq: output failed\n"),

@@ -1,4 +1,5 @@
 // Why a command gives no text.
+use nq_edge::PutFault;
 use nq_execute::ServerRefusal;
 use nq_model::{Label, Memory, Text};
 use query_syntax::SyntaxFault;
@@ -6,11 +7,9 @@ use schema_reader::SchemaFault;
 use sql_reader::SqlFault;
 use table_reader::TableFault;
 
-/// What the words and the inputs are refused for.
+/// What the inputs are refused for.
 #[derive(Drop)]
 pub enum Refused {
-    /// The words are no listed form.
-    Usage,
     /// The input of this name has more bytes than this limit.
     TooLong(Text, u64),
     /// The bytes of the schema spell none.
@@ -36,9 +35,11 @@ pub enum InputRefusal {
     Failed(Text),
 }
 
-/// Why a command gives no text.
+/// Why no text was put.
 #[derive(Drop)]
 pub enum Refusal {
+    /// The words are no listed form.
+    Usage,
     Input(InputRefusal),
     Server(ServerRefusal),
     OutputFailed,
@@ -55,6 +56,17 @@ impl From<Memory> for InputRefusal {
     }
 }
 
+impl From<InputRefusal> for Refusal {
+    ghost use Rattle.std.specs.Prelude.{◌≡◌};
+    ghost use Rattle.command_line.specs.declared.refusal.Refusal.TheVariants as refusal;
+
+    ghost from_gives = { λ given e. e ≡ refusal.Input given };
+
+    fn from(given: InputRefusal) -> Refusal {
+        Refusal::Input(given)
+    }
+}
+
 impl From<ServerRefusal> for Refusal {
     ghost use Rattle.std.specs.Prelude.{◌≡◌};
     ghost use Rattle.command_line.specs.declared.refusal.Refusal.TheVariants as refusal;
@@ -63,5 +75,16 @@ impl From<ServerRefusal> for Refusal {
 
     fn from(given: ServerRefusal) -> Refusal {
         Refusal::Server(given)
+    }
+}
+
+impl From<PutFault> for Refusal {
+    ghost use Rattle.std.specs.Prelude.{◌≡◌};
+    ghost use Rattle.command_line.specs.declared.refusal.Refusal.TheVariants as refusal;
+
+    ghost from_gives = { λ _ e. e ≡ refusal.OutputFailed };
+
+    fn from(_: PutFault) -> Refusal {
+        Refusal::OutputFailed
     }
 }

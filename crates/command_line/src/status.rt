@@ -5,12 +5,11 @@ ghost use Rattle.command_line.specs.Refusals.{status_of};
 use crate::refusal::{InputRefusal, Refusal, Refused};
 use nq_execute::ServerRefusal;
 
-// The status of what the words and the inputs are refused for.
+// The status of what the inputs are refused for.
 fn refused_status(refused: &Refused) -> u8
     ensures { result ≡ Rattle.command_line.specs.Refusals.refused_status refused.now }
 {
     match refused {
-        Refused::Usage => 2,
         Refused::TooLong(..) => 10,
         Refused::Schema(_) => 3,
         Refused::Query(_) => 4,
@@ -26,6 +25,7 @@ pub fn status_of(answer: &Result<(), Refusal>) -> u8
 {
     match answer {
         Ok(()) => 0,
+        Err(Refusal::Usage) => 2,
         Err(Refusal::Input(InputRefusal::Memory)) => 1,
         Err(Refusal::Input(InputRefusal::Refused(refused))) => refused_status(refused),
         Err(Refusal::Input(InputRefusal::Failed(_))) => 7,

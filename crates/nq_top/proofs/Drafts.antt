@@ -1,59 +1,56 @@
 -- What a draft comes to, from the tables that are read for it.
-use Rattle.std.proofs.Common.{◌≡◌, ℕ, List, [], map, Option, Some, None, Result, Ok, Err, IfSome, refl, sym, ◌∙◌, subst}
+use Rattle.std.proofs.Common.{◌≡◌, ℕ, List, [], Option, Some, None, Result, Ok, Err, IfSome, refl, sym, ap, ◌∙◌, subst}
 use Rattle.nq_edge.specs.Edge.{Files}
-use Rattle.nq_model.specs.Proper.{IsProperTerm}
 use Rattle.nq_model.specs.Tables.{IsProperSchema}
-use Rattle.nq_model.specs.Terms.{PlacedTerm, bare}
-use Rattle.nq_model.specs.Types.{TypeTree}
 use Rattle.nq_model.specs.declared.table.ColumnType.{ColumnType}
 use Rattle.nq_model.specs.declared.table.Schema.{Schema}
 use Rattle.nq_model.specs.declared.table.TableShape.{TableShape}
-use Rattle.nq_ir.specs.Paths.{paths}
-use Rattle.shred_types.specs.Columns.{columns_at}
 use Rattle.sql_profile.specs.declared.server.Loaded.{Loaded}
-use Rattle.nq_compile.specs.Shreds.{IsScopedText}
-use Rattle.nq_execute.specs.Plans.{Plan, Writing, plan_view, IsServable}
-use Rattle.nq_execute.specs.declared.plan.Plan.{Plan as Asked}
-use Rattle.nq_top.specs.Gathering.{Told, IsTyped, Accepts, ComesTo, HoldsPlan, GatherTells, TablesTell, ReadsBehind, RefusalTells}
-use Rattle.nq_top.specs.Judging.{Judgement, Verdict, planned, tables_judged, draft_judged, run_judged, rows_judged}
-use Rattle.nq_top.specs.Plans.{AreReadFor, Draft, drafted, Question, query_draft, sql_draft, CanServeOver, IsSoundOver}
-use Rattle.nq_top.specs.Reading.{PlainReading, Reading, type_read}
-use Rattle.nq_top.specs.declared.gathered.Gathered.{Gathered}
-use Rattle.nq_top.specs.declared.gathered.Gathered.TheVariants as gathered
+use Rattle.command_line.specs.Commands.{Aim, run, show_types, show_paths}
+use Rattle.command_line.specs.Paths.{paths_text}
 use Rattle.command_line.specs.declared.refusal.InputRefusal.{InputRefusal}
-use Rattle.command_line.specs.declared.refusal.InputRefusal.TheVariants as input
-use Rattle.nq_top.proofs.Gathers.{reads_all, tells_nothing}
-use Rattle.nq_top.proofs.Plans.{sql_sound}
-use Rattle.nq_top.proofs.Showings.{ResultIs, TextsAre, TextsShred}
+use Rattle.nq_execute.specs.Plans.{Plan, plan_view, IsServable}
+use Rattle.nq_execute.specs.declared.plan.Plan.{Plan as Asked}
+use Rattle.nq_top.specs.Gathering.{Told, RefusalTells}
+use Rattle.nq_top.specs.Judging.{Judgement, Verdict, written, planned, at_once, tables_judged, draft_judged, aim_judged, rows_judged}
+use Rattle.nq_top.specs.Limits.{tables_limit}
+use Rattle.nq_top.specs.Lines.{type_line}
+use Rattle.nq_top.specs.Plans.{AreReadFor, Draft, drafted, Question, query_draft, query_question, sql_draft, CanServeOver, IsSoundOver}
+use Rattle.nq_top.specs.Reading.{PlainReading, Reading, TypedTerm}
+use Rattle.nq_top.specs.Steps.{Accepts, ComesTo, HoldsPlan, GatherTells, TablesTell, ReadsBehind}
+use Rattle.nq_top.specs.declared.gather.Gathered.{Gathered}
+use Rattle.nq_top.specs.declared.gather.Gathered.TheVariants as gathered
+use Rattle.nq_top.proofs.Soundness.{sql_sound}
+use Rattle.nq_top.proofs.Steps.{tells_nothing}
+use Rattle.nq_top.proofs.TableReadings.{reads_all}
 
 -- What the reading of the tables tells.
 abbrev pub TablesTold : Option Files → List ℕ → List TableShape → List Loaded → Told → Told → Result (List Loaded) InputRefusal → Type 0
 TablesTold held folder shapes done old new result =
-    IfSome held (λ files. (next : List Loaded → Verdict) → TablesTell (tables_judged files folder shapes 67108864 done next) next old new result)
+    IfSome held (λ files. (next : List Loaded → Verdict) → TablesTell (tables_judged files folder shapes tables_limit done next) next old new result)
 
 -- Whatever comes of the tables, what is told of their reading is told of all of it.
 module _ (files : Files) (folder : List ℕ) (schema : Schema) (shapes : List TableShape) (done : List Loaded) (same : shapes ≡ schema.tables) (empty : done ≡ []) (old new : Told) (next : List Loaded → Verdict) where
   abbrev OfAll : (Judgement → Type 0) → Type 0
-  OfAll P = P (tables_judged files folder schema.tables 67108864 [] next)
+  OfAll P = P (tables_judged files folder schema.tables tables_limit [] next)
 
-  of_all : (P : Judgement → Type 0) → P (tables_judged files folder shapes 67108864 done next) → OfAll P
+  of_all : (P : Judgement → Type 0) → P (tables_judged files folder shapes tables_limit done next) → OfAll P
   of_all P told =
-      subst (λ (d : List Loaded). P (tables_judged files folder schema.tables 67108864 d next)) empty
-      (subst (λ (s : List TableShape). P (tables_judged files folder s 67108864 done next)) same told)
+      subst (λ (d : List Loaded). P (tables_judged files folder schema.tables tables_limit d next)) empty
+      (subst (λ (s : List TableShape). P (tables_judged files folder s tables_limit done next)) same told)
 
   -- a table text is refused, or an input fails
-  tables_stop : (r : InputRefusal) → RefusalTells (tables_judged files folder shapes 67108864 done next) old new r → OfAll (λ j. RefusalTells j old new r)
+  tables_stop : (r : InputRefusal) → RefusalTells (tables_judged files folder shapes tables_limit done next) old new r → OfAll (λ j. RefusalTells j old new r)
   tables_stop r told = of_all (λ j. RefusalTells j old new r) told
 
   -- the plan is the one that the tables come to
-  tables_go : (tables : List Loaded) (plan : Plan) (question : Question) (asked : Asked) → TablesTell (tables_judged files folder shapes 67108864 done next) next old new (Ok tables)
+  tables_go : (tables : List Loaded) (plan : Plan) (question : Question) (asked : Asked) → TablesTell (tables_judged files folder shapes tables_limit done next) next old new (Ok tables)
       → next tables ≡ planned plan question → HoldsPlan plan question asked → OfAll (λ j. Accepts j (gathered.Plan asked) old new)
   tables_go tables plan question asked told comes holds =
       let judges = of_all (λ j. TablesTell j next old new (Ok tables)) told in
       record {
         comes_to = subst (λ (v : Verdict). ComesTo v (gathered.Plan asked)) (sym (judges.comes_to ∙ comes)) holds;
         fetched = judges.fetched;
-        shreds = judges.shreds;
       }
 
 -- What the reading of a draft's tables is to tell.
@@ -91,30 +88,42 @@ module _ (held : Option Files) (folder : List ℕ) (schema : Schema) (draft : Dr
             tables_go files folder schema shapes done same empty old new (Next question) tables (drafted draft tables) (question tables) asked (told (Next question)) refl
             (record { is = is; sound = sound tables read })
 
--- What holds of a draft over any tables holds of the one that a query comes to.
-pub query_told : (held : Option Files) (folder : List ℕ) (schema : Schema) (term : PlacedTerm) (draft : Draft) (old new : Told) (result : Result Gathered InputRefusal)
-    → ((plain : PlainReading) (type : TypeTree) → type_read schema term ≡ Ok type → draft ≡ query_draft plain schema term type)
-    → ((type : TypeTree) → type_read schema term ≡ Ok type → IsSoundOver schema draft (λ tables. Question.value Writing.text type term)) → DraftTold held folder schema draft old new result
-    → IfSome held (λ files. (plain : PlainReading) (type : TypeTree) → type_read schema term ≡ Ok type → GatherTells (run_judged plain files folder schema term type) old new result)
-query_told None folder schema term draft old new result is sound told = tt
-query_told (Some files) folder schema term draft old new result is sound told = λ plain type typed.
-    let P : Draft → Type 0 = λ d. GatherTells (draft_judged files folder schema d (λ tables. Question.value Writing.text type term)) old new result in
-    subst P (is plain type typed) (told (λ tables. Question.value Writing.text type term) (sound type typed))
+-- the draft of a query that is run
+pub aim_runs : (held : Option Files) (aim : Aim) (folder : List ℕ) (schema : Schema) (query : TypedTerm) (draft : Draft) (old new : Told) (result : Result Gathered InputRefusal)
+    → aim ≡ run folder → ((plain : PlainReading) → draft ≡ query_draft plain schema query.term query.type)
+    → IsSoundOver schema draft (λ tables. query_question query) → DraftTold held folder schema draft old new result
+    → IfSome held (λ files. (reading : Reading) → GatherTells (aim_judged reading.plain files aim schema query) old new result)
+unfolding aim_judged
+aim_runs None aim folder schema query draft old new result is same sound told = tt
+aim_runs (Some files) aim folder schema query draft old new result is same sound told = λ reading.
+    let A : Aim → Type 0 = λ a. GatherTells (aim_judged reading.plain files a schema query) old new result in
+    let D : Draft → Type 0 = λ d. GatherTells (draft_judged files folder schema d (λ tables. query_question query)) old new result in
+    subst A (sym is) (subst D (same reading.plain) (told (λ tables. query_question query) sound))
 
--- What asking for the rows of an SQL text is to tell.
-abbrev pub RowsTold : Option Files → List ℕ → Schema → List ℕ → List ColumnType → Told → Told → Result Gathered InputRefusal → Type 0
-RowsTold held folder schema text types old new result = IfSome held (λ files. (reading : Reading) → GatherTells (rows_judged files folder schema (text, types)) old new result)
+-- a text that is written of a query
+pub aim_writes : (held : Option Files) (aim given : Aim) (schema : Schema) (query : TypedTerm) (said text : List ℕ) (old : Told) → aim ≡ given
+    → ((plain : PlainReading) (files : Files) → aim_judged plain files given schema query ≡ at_once (written said)) → text ≡ said
+    → IfSome held (λ files. (reading : Reading) → GatherTells (aim_judged reading.plain files aim schema query) old old (Ok (gathered.Text text)))
+aim_writes None aim given schema query said text old is judged same = tt
+aim_writes (Some files) aim given schema query said text old is judged same = λ reading.
+    let here = ap (λ (a : Aim). aim_judged reading.plain files a schema query) is ∙ judged reading.plain files in
+    let P : Judgement → Type 0 = λ j. Accepts j (gathered.Text text) old old in
+    subst P (sym here) (record { comes_to = same; fetched = tells_nothing old old refl })
 
+pub types_judged : (plain : PlainReading) (files : Files) (schema : Schema) (query : TypedTerm) → aim_judged plain files show_types schema query ≡ at_once (written (type_line query.type))
+unfolding aim_judged
+types_judged plain files schema query = refl
+
+pub paths_judged : (plain : PlainReading) (files : Files) (schema : Schema) (query : TypedTerm) → aim_judged plain files show_paths schema query ≡ at_once (written (paths_text query.type))
+unfolding aim_judged
+paths_judged plain files schema query = refl
+
+-- the draft of an SQL text
 pub rows_told : (held : Option Files) (folder : List ℕ) (schema : Schema) (text : List ℕ) (types : List ColumnType) (draft : Draft) (old new : Told) (result : Result Gathered InputRefusal)
-    → draft ≡ sql_draft text types → IsProperSchema schema → DraftTold held folder schema draft old new result → RowsTold held folder schema text types old new result
+    → draft ≡ sql_draft text types → IsProperSchema schema → DraftTold held folder schema draft old new result
+    → IfSome held (λ files. (reading : Reading) → GatherTells (rows_judged files folder schema (text, types)) old new result)
 rows_told None folder schema text types draft old new result is proper told = tt
 rows_told (Some files) folder schema text types draft old new result is proper told = λ reading.
     let P : Draft → Type 0 = λ d. GatherTells (draft_judged files folder schema d (λ tables. Question.sql text)) old new result in
     let S : Draft → Type 0 = λ d. IsSoundOver schema d (λ tables. Question.sql text) in
     subst P is (told (λ tables. Question.sql text) (subst S (sym is) (sql_sound schema text types proper)))
-
--- want of memory before the tables are read
-pub rows_want : (held : Option Files) (folder : List ℕ) (schema : Schema) (text : List ℕ) (types : List ColumnType) (old : Told) → RowsTold held folder schema text types old old (Err input.Memory)
-rows_want None folder schema text types old = tt
-rows_want (Some files) folder schema text types old = λ reading.
-    record { front = []; back = (rows_judged files folder schema (text, types)).names; all = refl; fetched = tells_nothing old old refl }

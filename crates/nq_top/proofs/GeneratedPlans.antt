@@ -14,24 +14,21 @@ use Rattle.shred_types.specs.Columns.{columns_at}
 use Rattle.sql_profile.specs.declared.server.Loaded.{Loaded}
 use Rattle.nq_execute.specs.Plans.{Finish, Indexes, Writing, Plan, plan_view, IsServable}
 use Rattle.nq_execute.specs.declared.plan.Plan.{Plan as Asked}
-use Rattle.nq_top.specs.Gathering.{HoldsPlan, IsTyped}
+use Rattle.nq_top.specs.Steps.{HoldsPlan}
 use Rattle.nq_top.specs.Plans.{AreReadFor, Draft, drafted, draft_to, Question, generated_plan, generated_question, IsSound}
 use Rattle.nq_top.specs.Reading.{PlainReading, refused_as, ill_typed, type_read}
-use Rattle.nq_top.proofs.Plans.{servable, sound, draft_is}
+use Rattle.nq_top.proofs.Soundness.{servable, sound, draft_is}
 use Rattle.nq_top.proofs.Showings.{ResultIs, TextsAre, TextsShred}
 
 read_type : program_judged generated_schema generated_query ≡ Ok generated_type → type_read generated_schema generated_query ≡ Ok generated_type
 unfolding type_read
 read_type typed = ap (refused_as ill_typed) typed
 
-read_as : (schema : Schema) (term : PlacedTerm) → schema ≡ generated_schema → term ≡ generated_query → program_judged generated_schema generated_query ≡ Ok generated_type → type_read schema term ≡ Ok generated_type
+-- the query has its type
+pub read_as : (schema : Schema) (term : PlacedTerm) → schema ≡ generated_schema → term ≡ generated_query → program_judged generated_schema generated_query ≡ Ok generated_type → type_read schema term ≡ Ok generated_type
 read_as schema term schema_is term_is typed =
     subst (λ (s : Schema). type_read s term ≡ Ok generated_type) (sym schema_is)
     (subst (λ (t : PlacedTerm). type_read generated_schema t ≡ Ok generated_type) (sym term_is) (read_type typed))
-
--- the query has a type
-pub has_type : (schema : Schema) (term : PlacedTerm) → schema ≡ generated_schema → term ≡ generated_query → program_judged generated_schema generated_query ≡ Ok generated_type → IsTyped schema term
-has_type schema term schema_is term_is typed = record { type = generated_type; typed = read_as schema term schema_is term_is typed }
 
 module _ (schema : Schema) (term : PlacedTerm) (type : TypeTree) (texts : List (List ℕ)) (columns : List (List ColumnType)) (tables : List Loaded) (size : ℕ)
     (schema_is : schema ≡ generated_schema) (term_is : term ≡ generated_query) (tables_are : tables ≡ generated_tables size)

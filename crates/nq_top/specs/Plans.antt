@@ -21,10 +21,10 @@ use Rattle.sql_profile.specs.declared.server.Loaded.{Loaded}
 use Rattle.stitcher.specs.Stitching.{rows_of}
 use Rattle.generated_inputs.specs.Generated.{generated_schema, generated_query, generated_type, generated_tables}
 use Rattle.nq_execute.specs.Plans.{Finish, Indexes, Writing, Plan, finished, finish_view, value_by, text_by, IsServable}
-use Rattle.nq_top.specs.declared.draft.Draft.{Draft as Drafts}
+use Rattle.nq_top.specs.declared.plans.Draft.{Draft as Drafts}
 use Rattle.nq_execute.specs.Serving.{Allowed}
 use Rattle.canon.specs.RowTexts.{rows_text}
-use Rattle.nq_top.specs.Reading.{PlainReading}
+use Rattle.nq_top.specs.Reading.{PlainReading, TypedTerm}
 use Rattle.nq_top.specs.Shown.{shown_texts}
 
 -- tables of these shapes, each with rows that a table of its shape may hold
@@ -33,8 +33,8 @@ pub record AreReadFor (shapes : List TableShape) (tables : List Loaded) : Type 0
   pub stored : AreTablesOf shapes rows
   pub is : tables ≡ held_of shapes rows
 
--- what a server is asked for a command, before its tables are read: the texts, in order, the types of the columns of each,
--- and what is written of the answers
+-- what a server is asked for a command, before its tables are read: the texts, in order, the types
+-- of the columns of each, and what is written of the answers
 pub record Draft : Type 0 where
   pub texts : List (List ℕ)
   pub columns : List (List ColumnType)
@@ -46,9 +46,15 @@ draft_view d = record { texts = d.texts; columns = d.columns; finish = finish_vi
 
 -- the plan of a draft over tables
 abbrev pub drafted : Draft → List Loaded → Plan
-drafted draft tables = record { tables = tables; texts = draft.texts; columns = draft.columns; finish = draft.finish }
+drafted draft tables = record {
+  tables = tables;
+  texts = draft.texts;
+  columns = draft.columns;
+  finish = draft.finish;
+}
 
--- the draft of a query of this type, whose value is written in a way: the texts that are shown for it, read by tag and number
+-- the draft of a query of this type, whose value is written in a way: the texts that are shown for
+-- it, read by tag and number
 unfoldable pub draft_to : Writing → PlainReading → Schema → PlacedTerm → TypeTree → Draft
 draft_to writing plain schema term type = record {
   texts = (shown_texts plain schema term type).texts;
@@ -63,22 +69,29 @@ query_draft plain schema term type = draft_to Writing.text plain schema term typ
 -- the plan of the summary of a query over generated tables of a size
 abbrev pub generated_plan : PlainReading → ℕ → Plan
 generated_plan plain size =
-    drafted (draft_to Writing.summary plain generated_schema generated_query generated_type) (generated_tables size)
+    drafted (draft_to Writing.summary plain generated_schema generated_query generated_type)
+    (generated_tables size)
 
 -- the draft of an SQL text with columns of these types
 abbrev pub sql_draft : List ℕ → List ColumnType → Draft
 sql_draft text types = record { texts = text ∷ []; columns = types ∷ []; finish = Finish.rows }
 
--- what a server is asked for: the value of a query of this type, written in a way; or the rows of an SQL text
+-- what a server is asked for: the value of a query of this type, written in a way; or the rows of
+-- an SQL text
 pub data Question : Type 0 where
   value : Writing → TypeTree → PlacedTerm → Question
   sql : List ℕ → Question
 
+abbrev pub query_question : TypedTerm → Question
+query_question query = Question.value Writing.text query.type query.term
+
 abbrev pub generated_question : Question
 generated_question = Question.value Writing.summary generated_type generated_query
 
--- the text is what is written of the nested multiset that the query means over the tables, as a value of this type
-pub record IsWritten (writing : Writing) (type : TypeTree) (tables : List Loaded) (query : PlacedTerm) (text : List ℕ) : Type 0 where
+-- the text is what is written of the nested multiset that the query means over the tables, as a
+-- value of this type
+pub record IsWritten (writing : Writing) (type : TypeTree) (tables : List Loaded)
+    (query : PlacedTerm) (text : List ℕ) : Type 0 where
   pub value : Nested
   pub means : Means (map filled_of tables) query value
   pub is : text ≡ text_by writing type value
@@ -102,22 +115,29 @@ abbrev pub Settles : List Loaded → Question → List ℕ → Type 0
 Settles tables (Question.value writing type term) text = IsWritten writing type tables term text
 Settles tables (Question.sql asked) text = IsAllowed tables asked text
 
--- whatever answers SQL allows to the texts of a plan, each by itself, what is written of them is an answer to the question
+-- whatever answers SQL allows to the texts of a plan, each by itself, what is written of them is an
+-- answer to the question
 abbrev pub IsSound : Plan → Question → Type 0
-IsSound plan question = (answers : List Answer) → Allowed plan.tables plan.texts answers → Settles plan.tables question (finished plan.finish (rows_of answers))
+IsSound plan question =
+    (answers : List Answer) → Allowed plan.tables plan.texts answers
+    → Settles plan.tables question (finished plan.finish (rows_of answers))
 
 -- over all tables of the schema, the plan of a draft may be served
 abbrev pub CanServeOver : Schema → Draft → Type 0
-CanServeOver schema draft = (tables : List Loaded) → AreReadFor schema.tables tables → IsServable (drafted draft tables)
+CanServeOver schema draft =
+    (tables : List Loaded) → AreReadFor schema.tables tables → IsServable (drafted draft tables)
 
 -- and it is sound for the question over them
 abbrev pub IsSoundOver : Schema → Draft → (List Loaded → Question) → Type 0
-IsSoundOver schema draft question = (tables : List Loaded) → AreReadFor schema.tables tables → IsSound (drafted draft tables) (question tables)
+IsSoundOver schema draft question =
+    (tables : List Loaded) → AreReadFor schema.tables tables
+    → IsSound (drafted draft tables) (question tables)
 
--- Over all tables of the schema, whatever answers SQL allows to these texts, each by itself, read by these indexes they are
--- what the query means.
+-- Over all tables of the schema, whatever answers SQL allows to these texts, each by itself, read
+-- by these indexes they are what the query means.
 abbrev pub ReadBy : Schema → Indexes → TypeTree → List (List ℕ) → PlacedTerm → Type 0
 ReadBy schema indexes type texts term =
     (rows : List (List (List Cell))) → AreTablesOf schema.tables rows
-    → (answers : List (List (List Cell))) → EachBoth (TextAllows First (held_of schema.tables rows)) texts answers
+    → (answers : List (List (List Cell)))
+    → EachBoth (TextAllows First (held_of schema.tables rows)) texts answers
     → (v : Nested) → Means (database schema.tables rows) term v → Same (value_by indexes type answers) v
