@@ -1,6 +1,6 @@
 -- A compiled query over the tables that were read is the plan of the query, may be served, and is sound; and so is the
 -- plan of an SQL text.
-use Rattle.std.proofs.Common.{◌≡◌, ℕ, List, [], ◌∷◌, ◌++◌, map, length, Ok, All, codes, refl, sym, ap, ◌∙◌, subst, arith}
+use Rattle.std.proofs.Common.{◌≡◌, ℕ, List, [], ◌∷◌, map, length, Ok, All, refl, sym, ap, ◌∙◌, subst, arith}
 use Rattle.std.proofs.lemmas.List.Elements.{All-nil, All-cons, All-head, All-tail}
 use Rattle.std.proofs.lemmas.Simd.{map-map}
 use Rattle.nq_model.specs.Cells.{RowFits}
@@ -14,7 +14,7 @@ use Rattle.nq_model.specs.Tables.{IsProperSchema, IsProperShape, names_of, types
 use Rattle.nq_model.specs.Terms.{PlacedTerm, bare}
 use Rattle.nq_model.specs.Types.{TypeTree, bag}
 use Rattle.nq_model.specs.Typing.{IsAccepted}
-use Rattle.nq_model.specs.Values.{Nested, Same}
+use Rattle.nq_model.specs.Values.{Same}
 use Rattle.nq_model.specs.declared.table.Cell.{Cell}
 use Rattle.nq_model.specs.declared.table.ColumnType.{ColumnType}
 use Rattle.nq_model.specs.declared.table.Schema.{Schema}

@@ -5,7 +5,6 @@ use Rattle.nq_model.specs.declared.table.Cell.{Cell}
 use Rattle.nq_model.specs.declared.table.TableShape.{TableShape}
 use Rattle.nq_edge.specs.Edge.{Files, bytes_at, TellsMore}
 use Rattle.sql_profile.specs.declared.server.Loaded.{Loaded}
-use Rattle.command_line.specs.declared.refusal.Refused.{Refused}
 use Rattle.command_line.specs.declared.refusal.InputRefusal.{InputRefusal}
 use Rattle.command_line.specs.declared.refusal.InputRefusal.TheVariants as input
 use Rattle.nq_top.specs.Gathering.{Told, RefusalTells}

@@ -140,4 +140,5 @@ ReadBy schema indexes type texts term =
     (rows : List (List (List Cell))) → AreTablesOf schema.tables rows
     → (answers : List (List (List Cell)))
     → EachBoth (TextAllows First (held_of schema.tables rows)) texts answers
-    → (v : Nested) → Means (database schema.tables rows) term v → Same (value_by indexes type answers) v
+    → (v : Nested) → Means (database schema.tables rows) term v
+    → Same (value_by indexes type answers) v

@@ -1,7 +1,7 @@
 -- The promise of one run, whole.
-use Rattle.std.specs.Prelude.{◌≡◌, ◌↔◌, ◌⊎◌, ◌==◌, ◌||◌, ℕ, Bool, true, ⊤, List, [], ◌∷◌, ◌++◌, All, get_or, MatchBool, Option, Some, None, slice_get, IfSome, Result, Ok, Err}
+use Rattle.std.specs.Prelude.{◌≡◌, ◌↔◌, ◌⊎◌, ◌==◌, ◌||◌, ℕ, Bool, true, ⊤, List, [], ◌++◌, All, get_or, MatchBool, Option, Some, None, slice_get, IfSome, Result, Ok, Err}
 use Rattle.nq_model.specs.Cells.{RowFits}
-use Rattle.nq_edge.specs.Edge.{Files, Rose, TellsMore, AppendsPrefix}
+use Rattle.nq_edge.specs.Edge.{Rose, TellsMore, AppendsPrefix}
 use Rattle.sql_profile.specs.Servers.{Asks, RoseBelow}
 use Rattle.sql_profile.specs.declared.answer.Answer.{Answer as Rows}
 use Rattle.command_line.specs.Commands.{Command, asks_server}

@@ -5,7 +5,7 @@ use Rattle.nq_edge.specs.Edge.{Files}
 use Rattle.sql_profile.specs.Servers.{Asks}
 use Rattle.sql_profile.specs.declared.server.Loaded.{Loaded}
 use Rattle.command_line.specs.Commands.{Command, command_of}
-use Rattle.nq_execute.specs.Serving.{ServerState}
+use Rattle.nq_execute.specs.Serving.{ServerState, server_state}
 use Rattle.nq_top.specs.Gathering.{Told}
 
 -- inputs: what they tell that they hold, the names that were fetched, where they tell them, and how
@@ -38,9 +38,6 @@ inputs_state held fetched faults = record { held = held; fetched = fetched; faul
 
 abbrev pub sink_state : Option (List ℕ) → ℕ → SinkState
 sink_state written faults = record { written = written; faults = faults }
-
-abbrev pub server_state : List Loaded → Option Asks → ServerState
-server_state loaded asks = record { loaded = loaded; asks = asks }
 
 abbrev pub server_side : List Loaded → Option Asks → Bool → ℕ → ℕ → ServerSide
 server_side loaded asks honest failures bound =

@@ -102,7 +102,8 @@ pub fn gather<I: Inputs>(
     ensures asks { IfOk result (λ gathered.
         gathered_asks gathered ≡ asks_server (Some (command_view command.entry))) }
     ensures tells { IfSome (held_for (Some (command_view command.entry)) (I.held inputs.old))
-        (λ files. (reading : Reading) → GatherTells (judgement reading (Some (command_view command.entry)) files)
+        (λ files. (reading : Reading)
+        → GatherTells (judgement reading (Some (command_view command.entry)) files)
         (I.fetched inputs.old) (I.fetched inputs.new) result) }
 {
     match command {

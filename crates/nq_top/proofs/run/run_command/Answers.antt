@@ -1,4 +1,4 @@
-use Rattle.std.proofs.Common.{◌≡◌, Err, rules}
+use Rattle.std.proofs.Common.{rules}
 use Rattle.command_line.specs.Words.{command_view}
 use Rattle.command_line.specs.declared.refusal.Refusal.TheVariants as refusal
 use Rattle.nq_top.proofs.Runs.{runs_refused, runs_unserved, runs_put, runs_failed}
