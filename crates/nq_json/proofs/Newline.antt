@@ -1,11 +1,13 @@
 -- What is read of a printed text is also read of the text and a newline.
 use Rattle.std.proofs.Common.{◌≡◌, ℕ, List, [], ◌∷◌, ◌++◌, Option, Some, None, option_and_then, refl, sym, ap, ◌∙◌, subst, append-nil}
+use Rattle.std.specs.Str.{IsUtf8}
 use Rattle.json.specs.Json.{Json, value, if_last}
 use Rattle.json.specs.Lex.{tokens}
 use Rattle.json.specs.Print.{print, ArePrintable}
 use Rattle.json.specs.Token.{Token}
 use Rattle.json.specs.Tree.{json_tokens}
 use Rattle.json.proofs.Numbered.{ArePrintableOrBad-tokens, value-HasNumbers}
+use Rattle.json.proofs.Printed.Utf8.{IsUtf8-are_ascii}
 use Rattle.json.proofs.Printed.Trees.{ArePrintable-json_tokens}
 use Rattle.json.proofs.Unique.Spelling.{value-json_tokens_back}
 use Rattle.serde_json.specs.Data.{Data}
@@ -34,3 +36,6 @@ newline_read text d printed e =
     let same : tokens (text ++ 10 ∷ []) ≡ tokens text =
     ap (λ (l : List ℕ). tokens (l ++ 10 ∷ [])) printed ∙ tokens_line (tokens text) (printable text d e) ∙ ap tokens (sym printed) in
     ap (λ ts. option_and_then of_json (last_of (value max_depth ts))) same ∙ e
+
+pub newline_utf8 : IsUtf8 (10 ∷ [])
+newline_utf8 = IsUtf8-are_ascii (10 ∷ []) refl

@@ -1,5 +1,6 @@
 // Values as JSON.
 ghost use Rattle.std.specs.Prelude.{◌≡◌, ◌≤◌, IfOk, Some, map};
+ghost use Rattle.std.specs.Str.{IsUtf8};
 ghost use Rattle.nq_model.specs.Values.{nested, fields_of, fields_view, elements_of};
 ghost use Rattle.serde_json.specs.Data.{depth};
 ghost use Rattle.serde_json.specs.Read.{read, max_depth};
@@ -60,6 +61,7 @@ fn items(alloc: Global, elements: &[Value]) -> Result<Vec<Json>, Memory>
 /// nests at most 127 deep. Fails only if memory runs out.
 pub fn write_json(alloc: Global, value: &Value) -> Result<List<u8>, Memory>
     ensures text { IfOk result (λ text. text ≡ json_text (nested value.now)) }
+    ensures utf8 { IfOk result (λ text. IsUtf8 text) }
     ensures reads_back { IfOk result (λ text. depth (json (nested value.now)) ≤ max_depth
         → read text ≡ Some (json (nested value.now))) }
 {

@@ -10,7 +10,7 @@ use std::test::Fail;
 // node.
 type Case = (&'static str, &'static str, &'static str);
 
-const CASES: [Case; 29] = [
+const CASES: [Case; 32] = [
     ("[int]", "[1,true]", "node 3"),
     ("[int]", "[1,[2],3]", "node 3"),
     ("[int]", "[ 3, 1, 2 ]", "[3,1,2]"),
@@ -67,6 +67,9 @@ const CASES: [Case; 29] = [
         "[{\"a\":[1,2],\"b\":true},{\"a\":[],\"b\":false}]",
         "[{\"a\":[1,2],\"b\":true},{\"a\":[],\"b\":false}]",
     ),
+    ("[[int]]", "[[],[1,2],[1,2]]", "[[],[1,2],[1,2]]"),
+    ("[[int]]", "[[],[1,2],[1,\"2\"],3]", "node 8"),
+    ("[()]", "[{},{},{}]", "[{},{},{}]"),
     ("int -> int", "1", "node 1"),
 ];
 
@@ -89,6 +92,8 @@ fn type_of(alloc: Global, text: &str) -> Result<Ty, Memory> {
         "text" => Ok(Ty::Text),
         "()" => Ok(Ty::Rec(List::new(alloc))),
         "[int]" => bag(alloc, Ty::Int),
+        "[[int]]" => bag(alloc, bag(alloc, Ty::Int)?),
+        "[()]" => bag(alloc, Ty::Rec(List::new(alloc))),
         "(a: int, b: [text])" => {
             let texts = bag(alloc, Ty::Text)?;
             record(alloc, vec![in alloc; ("a", Ty::Int), ("b", texts)]?)
