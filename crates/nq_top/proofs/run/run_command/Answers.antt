@@ -1,6 +1,5 @@
 use Rattle.std.proofs.Common.{rules}
 use Rattle.command_line.specs.Words.{command_view}
-use Rattle.command_line.specs.declared.refusal.Refusal.TheVariants as refusal
 use Rattle.nq_top.proofs.Runs.{runs_refused, runs_unserved, runs_put, runs_failed}
 use Rattle.nq_top.proofs.run.run_command.Goals as goal
 

@@ -1,0 +1,333 @@
+-- The headline, from the promise of a run.
+use Rattle.std.proofs.Common.{◌≡◌, ◌⊎◌, ◌==◌, ℕ, Bool, true, false, List, [], ◌∷◌, Some, None, Option, Ok, Err, IfSome, String, map, string_bytes, refl, sym, ap, subst, ◌∙◌, inl, inr, codes}
+use Rattle.std.specs.List.{list_any}
+use Rattle.std.specs.declared.alloc.Global.{Global}
+use Rattle.nq_model.specs.Canonical.{canonical_text}
+use Rattle.nq_model.specs.Databases.{FilledTable, database}
+use Rattle.nq_model.specs.QueryMeaning.{Means}
+use Rattle.nq_model.specs.Types.{bag}
+use Rattle.nq_model.specs.Values.{Nested}
+use Rattle.nq_compile.specs.Shreds.{Shreds}
+use Rattle.nq_edge.specs.Edge.{Files, TellsMore, bytes_at}
+use Rattle.nq_edge.specs.Lines.{PutsLine}
+use Rattle.nq_execute.specs.Plans.{Plan}
+use Rattle.nq_execute.specs.declared.refusal.ServerRefusal.TheVariants as server
+use Rattle.nq_ir.specs.Paths.{paths}
+use Rattle.sql_profile.specs.Servers.{held_of}
+use Rattle.sql_profile.proofs.HeldTables.{held_filled}
+use Rattle.command_line.specs.Commands.{Aim, Command, of_query, run, show_sql, command_of}
+use Rattle.command_line.specs.Frames.{frames}
+use Rattle.command_line.specs.Noting.{Notes}
+use Rattle.command_line.specs.Refusals.{refused_status, refused_note, status_of}
+use Rattle.command_line.specs.declared.refusal.Refused.{Refused}
+use Rattle.command_line.specs.declared.refusal.Refused.TheVariants as refused_for
+use Rattle.command_line.specs.declared.refusal.InputRefusal.TheVariants as input
+use Rattle.command_line.specs.declared.refusal.Refusal.TheVariants as refusal
+use Rattle.nq_top.specs.Calls.{Comes}
+use Rattle.nq_top.specs.Headline.{Names, Accepted, GivenTables, GivenRun, LooksFor, AreRefused, Outcome, IsServed, RunComes, ShowComes, OfRun, OfShow}
+use Rattle.nq_top.specs.Judging.{Judgement, Verdict, usage, missing, refused, shown, planned, aim_judged, judgement}
+use Rattle.nq_top.specs.Limits.{tables_limit}
+use Rattle.nq_top.specs.Plans.{Question, Settles, drafted, query_question}
+use Rattle.nq_top.specs.Reading.{Reading}
+use Rattle.nq_top.specs.Shown.{Shown, Shows, shown_texts, shown_frames, ShredsQuery}
+use Rattle.nq_top.specs.Theorem.{Answer, Gives, Writes, Tells, PutsAll, PutsAt, IsDone, IsDue, HasFailed, Completes, Serves, Runs, Ends}
+use Rattle.nq_top.specs.World.{SinkState, World, command_in}
+use Rattle.nq_top.proofs.HeadlineQueries.{whole, typed, run_draft, after_type, run_planned, is_missing, is_refused, Cases, are_given, are_refused, are_missing, accepted_cases, run_cases}
+use Rattle.nq_top.proofs.Readings.{one_reading}
+
+-- 1. what a status says of its answer
+
+-- the statuses of inputs that are refused
+abbrev is_fault : ℕ → Bool
+is_fault status = list_any (λ s. s == status) (3 ∷ 4 ∷ 5 ∷ 6 ∷ 10 ∷ 12 ∷ [])
+
+fault_status : (why : Refused) → is_fault (refused_status why) ≡ true
+fault_status (refused_for.TooLong name limit) = refl
+fault_status (refused_for.Schema fault) = refl
+fault_status (refused_for.Query fault) = refl
+fault_status (refused_for.IllTyped rule place) = refl
+fault_status (refused_for.Table name fault) = refl
+fault_status (refused_for.Sql fault) = refl
+fault_status (refused_for.IllScoped rule place) = refl
+
+no_fault : (status : ℕ) (why : Refused) → is_fault status ≡ false → status ≡ refused_status why → ⊥
+no_fault status why clear is =
+    let faulty : is_fault status ≡ true = ap (λ (s : ℕ). is_fault s) is ∙ fault_status why in
+    absurd (let both : true ≡ false = sym faulty ∙ clear in cc)
+
+-- an answer with the status of a refusal of the inputs is one
+refusal_of : (a : Answer) (some : Refused) → status_of a ≡ refused_status some → (why : Refused) × (a ≡ Err (refusal.Input (input.Refused why)))
+refusal_of (Ok u) some is = absurd (no_fault 0 some refl is)
+refusal_of (Err refusal.Usage) some is = absurd (no_fault 2 some refl is)
+refusal_of (Err (refusal.Input input.Memory)) some is = absurd (no_fault 1 some refl is)
+refusal_of (Err (refusal.Input (input.Refused why))) some is = (why, refl)
+refusal_of (Err (refusal.Input (input.Failed name))) some is = absurd (no_fault 7 some refl is)
+refusal_of (Err (refusal.Server server.Memory)) some is = absurd (no_fault 1 some refl is)
+refusal_of (Err (refusal.Server (server.TableFailed name))) some is = absurd (no_fault 9 some refl is)
+refusal_of (Err (refusal.Server (server.TextFailed text))) some is = absurd (no_fault 9 some refl is)
+refusal_of (Err (refusal.Server (server.BadAnswer text row column))) some is = absurd (no_fault 11 some refl is)
+refusal_of (Err refusal.OutputFailed) some is = absurd (no_fault 8 some refl is)
+
+same_refused : (v : Verdict) (r s : Refused) → v ≡ refused r → v ≡ refused s → r ≡ s
+same_refused v r s e f = cc
+
+nothing_put : (old new : Option (List ℕ)) (status : ℕ) → PutsAt old new status → status ≡ 1 → new ≡ old
+nothing_put old new status puts one = subst (λ (s : ℕ). PutsAt old new s) one puts
+
+done_puts : (old new : Option (List ℕ)) (status : ℕ) → PutsAt old new status → IsDone status → (status ≡ 0) ⊎ ((status ≡ 1) × (new ≡ old))
+done_puts old new status puts (inl zero) = inl zero
+done_puts old new status puts (inr one) = inr (one, nothing_put old new status puts one)
+
+-- 2. the outcome of a judgement whose inputs are given, refused or missing
+
+module _ (files : Files) (names : Names) (Given : Type 0) (j : Judgement) (before after : World) (old new : SinkState) (status : ℕ) (a : Answer)
+    (is : status ≡ status_of a) (tells : Tells j before after a) (cases : Cases files names Given)
+    (is_refused_for : (why : Refused) → AreRefused files names why → j.verdict ≡ refused why)
+    (is_missing_at : (name : List ℕ) (limit : ℕ) → LooksFor files names name limit → bytes_at files name ≡ None → j.verdict ≡ missing name) where
+  abbrev Wrote : Type 0
+  Wrote = Writes j before after (PutsAll before after)
+
+  gives_none : (text : List ℕ) (why : Refused) → j.verdict ≡ refused why → Gives before.server after.server j.verdict text → ⊥
+  gives_none text why e gives = let P : Verdict → Type 0 = λ v. Gives before.server after.server v text in subst P e gives
+
+  gives_nothing : (text name : List ℕ) → j.verdict ≡ missing name → Gives before.server after.server j.verdict text → ⊥
+  gives_nothing text name e gives = let P : Verdict → Type 0 = λ v. Gives before.server after.server v text in subst P e gives
+
+  -- status 0 comes of text that was put
+  wrote : status ≡ 0 → Wrote
+  wrote zero = go a (sym is ∙ zero) tells
+    where
+      refused_zero : (some : Refused) → refused_status some ≡ 0 → Wrote
+      refused_zero some e = absurd (no_fault 0 some refl (sym e))
+
+      go : (b : Answer) → status_of b ≡ 0 → Tells j before after b → Wrote
+      go (Ok u) e t = t
+      go (Err refusal.Usage) e t = absurd (cc)
+      go (Err (refusal.Input input.Memory)) e t = absurd (cc)
+      go (Err (refusal.Input (input.Refused why))) e t = refused_zero why e
+      go (Err (refusal.Input (input.Failed name))) e t = absurd (cc)
+      go (Err (refusal.Server server.Memory)) e t = absurd (cc)
+      go (Err (refusal.Server (server.TableFailed name))) e t = absurd (cc)
+      go (Err (refusal.Server (server.TextFailed text))) e t = absurd (cc)
+      go (Err (refusal.Server (server.BadAnswer text row column))) e t = absurd (cc)
+      go (Err refusal.OutputFailed) e t = absurd (cc)
+
+  given_at_zero : status ≡ 0 → Given
+  given_at_zero zero = go cases (wrote zero)
+    where
+      go : Cases files names Given → Wrote → Given
+      go (are_given given) w = given
+      go (are_refused why wrong) w = absurd (gives_none w.text why (is_refused_for why wrong) w.gives)
+      go (are_missing name limit looks none) w = absurd (gives_nothing w.text name (is_missing_at name limit looks none) w.gives)
+
+  -- inputs that are refused
+  refused_at : (why : Refused) → AreRefused files names why → (status ≡ refused_status why) ⊎ ((status ≡ 1) ⊎ (status ≡ 7))
+  refused_at why wrong = go a is tells
+    where
+      v : j.verdict ≡ refused why
+      v = is_refused_for why wrong
+
+      no_usage : j.verdict ≡ usage → ⊥
+      no_usage e = absurd (let f : refused why ≡ usage = sym v ∙ e in cc)
+
+      unplanned : (plan : Plan) (question : Question) → j.verdict ≡ planned plan question → ⊥
+      unplanned plan question e = absurd (let f : refused why ≡ planned plan question = sym v ∙ e in cc)
+
+      go : (b : Answer) → status ≡ status_of b → Tells j before after b → (status ≡ refused_status why) ⊎ ((status ≡ 1) ⊎ (status ≡ 7))
+      go (Ok u) e t = absurd (gives_none t.text why v t.gives)
+      go (Err refusal.Usage) e t = absurd (no_usage t.comes_to)
+      go (Err (refusal.Input input.Memory)) e t = inr (inl e)
+      go (Err (refusal.Input (input.Refused other))) e t = inl (e ∙ ap refused_status (same_refused j.verdict other why t.comes_to v))
+      go (Err (refusal.Input (input.Failed name))) e t = inr (inr e)
+      go (Err (refusal.Server r)) e t = absurd (unplanned t.plan t.question t.judges.comes_to)
+      go (Err refusal.OutputFailed) e t = absurd (gives_none t.text why v t.gives)
+
+  -- an input that is missing
+  missing_at : (name : List ℕ) (limit : ℕ) → LooksFor files names name limit → bytes_at files name ≡ None → (status ≡ 1) ⊎ (status ≡ 7)
+  missing_at name limit looks none = go a is tells
+    where
+      v : j.verdict ≡ missing name
+      v = is_missing_at name limit looks none
+
+      no_usage : j.verdict ≡ usage → ⊥
+      no_usage e = absurd (let f : missing name ≡ usage = sym v ∙ e in cc)
+
+      unplanned : (plan : Plan) (question : Question) → j.verdict ≡ planned plan question → ⊥
+      unplanned plan question e = absurd (let f : missing name ≡ planned plan question = sym v ∙ e in cc)
+
+      unrefused : (why : Refused) → j.verdict ≡ refused why → ⊥
+      unrefused why e = absurd (let f : missing name ≡ refused why = sym v ∙ e in cc)
+
+      go : (b : Answer) → status ≡ status_of b → Tells j before after b → (status ≡ 1) ⊎ (status ≡ 7)
+      go (Ok u) e t = absurd (gives_nothing t.text name v t.gives)
+      go (Err refusal.Usage) e t = absurd (no_usage t.comes_to)
+      go (Err (refusal.Input input.Memory)) e t = inl e
+      go (Err (refusal.Input (input.Refused why))) e t = absurd (unrefused why t.comes_to)
+      go (Err (refusal.Input (input.Failed failed))) e t = inr e
+      go (Err (refusal.Server r)) e t = absurd (unplanned t.plan t.question t.judges.comes_to)
+      go (Err refusal.OutputFailed) e t = absurd (gives_nothing t.text name v t.gives)
+
+  -- a refusal names what the inputs are refused for
+  refuses_for : (given_goes : Given → (why : Refused) → j.verdict ≡ refused why → ⊥) → Notes old.written new.written old.faults new.faults a → (some : Refused) → status ≡ refused_status some
+      → (why : Refused) × AreRefused files names why × (status ≡ refused_status why) × PutsLine old.written new.written old.faults new.faults (refused_note why)
+  refuses_for given_goes notes some at =
+      let found = refusal_of a some (sym is ∙ at) in
+      let P : Answer → Type 0 = λ b. Tells j before after b in
+      let N : Answer → Type 0 = λ b. Notes old.written new.written old.faults new.faults b in
+      let here = subst P found.1 tells in
+      (found.0, wrong found.0 here.comes_to cases, is ∙ ap status_of found.1, subst N found.1 notes)
+    where
+      wrong : (why : Refused) → j.verdict ≡ refused why → Cases files names Given → AreRefused files names why
+      wrong why e (are_given given) = absurd (given_goes given why e)
+      wrong why e (are_refused other reason) = subst (λ (r : Refused). AreRefused files names r) (same_refused j.verdict other why (is_refused_for other reason) e) reason
+      wrong why e (are_missing name limit looks none) = absurd (let f : missing name ≡ refused why = sym (is_missing_at name limit looks none) ∙ e in cc)
+
+  outcome : (Put : Given → Type 0) (undisturbed : Type 0) → Notes old.written new.written old.faults new.faults a → PutsAt before.out.written after.out.written status → Completes j before after status
+      → (undisturbed → HasFailed before after → ⊥) → (undisturbed → Given → IsDue (Serves before.server after.server) j.verdict) → (Given → (why : Refused) → j.verdict ≡ refused why → ⊥) → ((given : Given) → Wrote → Put given)
+      → Outcome files names Given Put undisturbed before after old new status
+  outcome Put undisturbed notes puts completes quiet due given_goes put = record {
+    accepts = given_at_zero;
+    means = λ given zero. put given (wrote zero);
+    completes = λ given still. done_puts before.out.written after.out.written status puts (completes (quiet still) (due still given));
+    refuses = refuses_for given_goes notes;
+    refused = refused_at;
+    misses = λ name (limit, looks, absent). missing_at name limit looks absent;
+  }
+
+-- 3. the words
+
+command_run : (words : List (List ℕ)) (s q d : List ℕ) → words ≡ codes "run" ∷ s ∷ q ∷ d ∷ [] → command_of words ≡ Some (of_query (run d) s q)
+unfolding command_of
+command_run words s q d is = ap command_of is
+
+command_show : (words : List (List ℕ)) (s q : List ℕ) → words ≡ codes "show" ∷ codes "sql" ∷ s ∷ q ∷ [] → command_of words ≡ Some (of_query show_sql s q)
+unfolding command_of
+command_show words s q is = ap command_of is
+
+-- what the promise of a run says of a query that is put to an aim, over files that are held
+record Promised (names : Names) (aim : Aim) (files : Files) (before after : World) (old new : SinkState) (status : ℕ) : Type 0 where
+  answer : Answer
+  is : status ≡ status_of answer
+  notes : Notes old.written new.written old.faults new.faults answer
+  puts : PutsAt before.out.written after.out.written status
+  tells : (reading : Reading) → Tells (whole reading files names aim) before after answer
+  completes : (reading : Reading) → Completes (whole reading files names aim) before after status
+
+promised : (command : Option Command) (names : Names) (aim : Aim) (files : Files) (before after : World) (old new : SinkState) (status : ℕ)
+    → command ≡ Some (of_query aim names.schema names.query) → before.inputs.held ≡ Some files → Ends old new status (λ answer. Runs command before after answer)
+    → Promised names aim files before after old new status
+promised command names aim files before after old new status spelled held ends =
+    let asked : Option Command = Some (of_query aim names.schema names.query) in
+    let R : Option Command → Type 0 = λ c. Runs c before after ends.answer in
+    let runs : Runs asked before after ends.answer = subst R spelled ends.runs in
+    let P : ℕ → Type 0 = λ s. PutsAt before.out.written after.out.written s in
+    let T : Option Files → Type 0 = λ h. IfSome h (λ fs. (reading : Reading) → Tells (judgement reading asked fs) before after ends.answer) in
+    let C : Option Files → ℕ → Type 0 = λ h s. IfSome h (λ fs. (reading : Reading) → Completes (judgement reading asked fs) before after s) in
+    record {
+      answer = ends.answer;
+      is = ends.is;
+      notes = ends.notes;
+      puts = subst P (sym ends.is) runs.puts;
+      tells = subst T held runs.comes;
+      completes = subst (C (Some files)) (sym ends.is) (subst (λ (h : Option Files). C h (status_of ends.answer)) held runs.completes);
+    }
+
+-- 4. `run`
+
+not_planned : (v : Verdict) (plan : Plan) (question : Question) (why : Refused) → v ≡ planned plan question → v ≡ refused why → ⊥
+not_planned v plan question why e f = absurd (let g : planned plan question ≡ refused why = sym e ∙ f in cc)
+
+not_shown : (v : Verdict) (texts : Shown) (why : Refused) → v ≡ shown texts → v ≡ refused why → ⊥
+not_shown v texts why e f = absurd (let g : shown texts ≡ refused why = sym e ∙ f in cc)
+
+-- the value that a text of an honest server is of
+module _ (reading : Reading) (files : Files) (names : Names) (folder : List ℕ) (accepted : Accepted files names) (tables : GivenTables files folder tables_limit accepted.given.over.schema.tables) where
+  abbrev run_plan : Plan
+  run_plan = drafted (run_draft reading files names (run folder) accepted) (held_of accepted.given.over.schema.tables tables.rows)
+
+  abbrev run_question : Question
+  run_question = query_question (typed reading files names (run folder) accepted)
+
+  meant : (text : List ℕ) (before after : World) → Settles run_plan.tables run_question text → PutsAll before after text
+      → (value : Nested) × Means (database accepted.given.over.schema.tables tables.rows) accepted.given.query value × TellsMore before.out.written after.out.written (canonical_text value)
+  meant text before after settles puts = (
+    settles.value,
+    subst (λ (filled : List FilledTable). Means filled accepted.given.query settles.value) (held_filled accepted.given.over.schema.tables tables.rows) settles.means,
+    subst (λ (t : List ℕ). TellsMore before.out.written after.out.written t) settles.is puts,
+  )
+
+run_promised : (files : Files) (s q d : List ℕ) (before after : World) (old new : SinkState) (status : ℕ)
+    → Promised (record { schema = s; query = q; folder = Some d }) (run d) files before after old new status → RunComes before after old new status files s q d
+run_promised files s q d before after old new status promise =
+    let names : Names = record { schema = s; query = q; folder = Some d } in
+    let reading = one_reading in
+    let j : Judgement = whole reading files names (run d) in
+    let runs : (folder : List ℕ) → Some d ≡ Some folder → run d ≡ run folder = λ folder e. let f : d ≡ folder = cc in ap run f in
+    let Given : Type 0 = GivenRun files names d in
+    let planned_is = λ (given : Given). run_planned reading files names (run d) runs given.0 d refl given.1 in
+    let F : Verdict → Type 0 = λ v. IsDue (Serves before.server after.server) v in
+    let G : List ℕ → Verdict → Type 0 = λ text v. Gives before.server after.server v text in
+    outcome files names Given j before after old new status promise.answer promise.is (promise.tells reading)
+    (run_cases reading files names d refl)
+    (is_refused reading files names (run d) runs) (is_missing reading files names (run d) runs)
+    _ (IsServed before after) promise.notes promise.puts (promise.completes reading) (λ still. still.0)
+    (λ still given. subst F (sym (planned_is given)) (record { not_failed = still.1; fair = inl still.2 }))
+    (λ given why e. not_planned j.verdict (run_plan reading files names d given.0 given.1) (run_question reading files names d given.0 given.1) why (planned_is given) e)
+    (λ given wrote_it is_honest.
+    let gives = subst (G wrote_it.text) (planned_is given) wrote_it.gives in
+    meant reading files names d given.0 given.1 wrote_it.text before after (gives.settled is_honest) wrote_it.puts)
+
+-- 5. `show sql`
+
+module _ (reading : Reading) (files : Files) (names : Names) (accepted : Accepted files names) where
+  abbrev shown_of : Shown
+  shown_of = shown_texts reading.plain accepted.given.over.schema accepted.given.query (bag accepted.element)
+
+  shows_it : (whole reading files names show_sql).verdict ≡ shown shown_of
+  unfolding aim_judged
+  shows_it = ap (λ (j : Judgement). j.verdict) (after_type reading files names show_sql accepted)
+
+  frames_put : (text : List ℕ) (before after : World) → Shows text shown_of → PutsAll before after text
+      → (texts : List (List ℕ)) × Shreds accepted.given.over.schema accepted.element texts (λ tables value. Means tables accepted.given.query value)
+      × TellsMore before.out.written after.out.written (frames (paths (bag accepted.element)) texts)
+  unfolding shown_texts shown_frames ShredsQuery
+  frames_put text before after shows puts = (shown_of.texts, shows.shreds, subst (λ (t : List ℕ). TellsMore before.out.written after.out.written t) shows.is puts)
+
+show_promised : (files : Files) (s q : List ℕ) (before after : World) (old new : SinkState) (status : ℕ)
+    → Promised (record { schema = s; query = q; folder = None }) show_sql files before after old new status → ShowComes before after old new status files s q
+show_promised files s q before after old new status promise =
+    let names : Names = record { schema = s; query = q; folder = None } in
+    let reading = one_reading in
+    let j : Judgement = whole reading files names show_sql in
+    let runs : (folder : List ℕ) → names.folder ≡ Some folder → show_sql ≡ run folder = λ folder e. absurd (cc) in
+    let shown_is = λ (given : Accepted files names). shows_it reading files names given in
+    let F : Verdict → Type 0 = λ v. IsDue (Serves before.server after.server) v in
+    let G : List ℕ → Verdict → Type 0 = λ text v. Gives before.server after.server v text in
+    outcome files names (Accepted files names) j before after old new status promise.answer promise.is (promise.tells reading)
+    (accepted_cases reading files names)
+    (is_refused reading files names show_sql runs) (is_missing reading files names show_sql runs)
+    _ (HasFailed before after → ⊥) promise.notes promise.puts (promise.completes reading) (λ still. still)
+    (λ still given. subst F (sym (shown_is given)) tt)
+    (λ given why e. not_shown j.verdict (shown_of reading files names given) why (shown_is given) e)
+    (λ given wrote_it. frames_put reading files names given wrote_it.text before after (subst (G wrote_it.text) (shown_is given) wrote_it.gives) wrote_it.puts)
+
+-- 6. the calls
+
+module _ (words : List (String Global)) (before after : World) (old new : SinkState) (status : ℕ) (ends : Ends old new status (λ answer. Runs (command_in words) before after answer)) where
+  abbrev spelled : List (List ℕ)
+  spelled = map (λ word. string_bytes word) words
+
+  of_run : (held : Option Files) → before.inputs.held ≡ held → OfRun spelled held (RunComes before after old new status)
+  of_run None is = tt
+  of_run (Some files) is = λ s q d words_are.
+      run_promised files s q d before after old new status
+      (promised (command_in words) (record { schema = s; query = q; folder = Some d }) (run d) files before after old new status (command_run spelled s q d words_are) is ends)
+
+  of_show : (held : Option Files) → before.inputs.held ≡ held → OfShow spelled held (ShowComes before after old new status)
+  of_show None is = tt
+  of_show (Some files) is = λ s q words_are.
+      show_promised files s q before after old new status
+      (promised (command_in words) (record { schema = s; query = q; folder = None }) show_sql files before after old new status (command_show spelled s q words_are) is ends)
+
+  pub comes : Comes words before after old new status
+  comes = record { ends = ends; runs = of_run before.inputs.held refl; shows = of_show before.inputs.held refl }

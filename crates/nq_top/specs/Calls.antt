@@ -1,0 +1,19 @@
+-- What a call on words comes to.
+use Rattle.std.specs.Prelude.{ℕ, List, String, map, string_bytes}
+use Rattle.std.specs.declared.alloc.Global.{Global}
+use Rattle.nq_top.specs.Headline.{OfRun, OfShow, RunComes, ShowComes}
+use Rattle.nq_top.specs.Theorem.{Runs, Ends}
+use Rattle.nq_top.specs.World.{SinkState, World, command_in}
+
+-- The whole promise of a call, by the world and the notes before it and after it and by its status.
+pub record Comes (words : List (String Global)) (before after : World) (old new : SinkState)
+    (status : ℕ) : Type 0 where
+  -- The status and the note line are those of one answer, whose promise is that of a run.
+  pub ends : Ends old new status (λ answer. Runs (command_in words) before after answer)
+  -- The headline: what `run` comes to in the words of the grammars, the typing rules, the tables and
+  -- the meaning,
+  pub runs : OfRun (map (λ word. string_bytes word) words) before.inputs.held
+      (RunComes before after old new status)
+  -- and `show sql`.
+  pub shows : OfShow (map (λ word. string_bytes word) words) before.inputs.held
+      (ShowComes before after old new status)

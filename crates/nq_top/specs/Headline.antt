@@ -1,0 +1,197 @@
+-- The headline: what `run` and `show sql` come to, in the words of the grammars, the typing rules,
+-- the tables and the meaning.
+use Rattle.std.specs.Prelude.{◌≡◌, ◌≢◌, ◌≤◌, ◌-◌, ◌⊎◌, ℕ, true, List, [], ◌∷◌, ◌++◌, codes, length, map, sum, zip, Option, Some, None, IfSome, Err}
+use Rattle.std.specs.List.{AllZip}
+use Rattle.nq_model.specs.Canonical.{canonical_text}
+use Rattle.nq_model.specs.Databases.{database}
+use Rattle.nq_model.specs.Judging.{broken, program_judged}
+use Rattle.nq_model.specs.QueryMeaning.{Means}
+use Rattle.nq_model.specs.QueryTexts as queries
+use Rattle.nq_model.specs.SchemaTexts as schemas
+use Rattle.nq_model.specs.Terms.{PlacedTerm, bare}
+use Rattle.nq_model.specs.Types.{TypeTree, bag}
+use Rattle.nq_model.specs.Typing.{IsAccepted}
+use Rattle.nq_model.specs.Values.{Nested}
+use Rattle.nq_model.specs.declared.table.Cell.{Cell}
+use Rattle.nq_model.specs.declared.table.Schema.{Schema}
+use Rattle.nq_model.specs.declared.table.TableShape.{TableShape}
+use Rattle.nq_ir.specs.Paths.{paths}
+use Rattle.nq_compile.specs.Shreds.{Shreds}
+use Rattle.nq_edge.specs.Edge.{Files, bytes_at, TellsMore, IsLonger}
+use Rattle.nq_edge.specs.Lines.{PutsLine}
+use Rattle.nq_parser.specs.Parsing.{Parsed}
+use Rattle.query_syntax.specs.declared.fault.SyntaxFault.TheVariants.{Memory as no_query}
+use Rattle.schema_reader.specs.Answers.{HasCause}
+use Rattle.schema_reader.specs.declared.fault.SchemaFault.TheVariants.{Memory as no_schema}
+use Rattle.sql_profile.specs.Servers.{RoseBelow}
+use Rattle.table_reader.specs.Faults.{GivesRows, HasFault}
+use Rattle.table_reader.specs.Records.{records_of}
+use Rattle.command_line.specs.Frames.{frames}
+use Rattle.command_line.specs.Refusals.{refused_status, refused_note}
+use Rattle.command_line.specs.declared.refusal.Refused.{Refused}
+use Rattle.command_line.specs.declared.refusal.Refused.TheVariants.{TooLong, Schema as SchemaRefused, Query as QueryRefused, IllTyped, Table as TableRefused}
+use Rattle.nq_top.specs.Limits.{text_limit, tables_limit, depth_limit}
+use Rattle.nq_top.specs.Lines.{file_of}
+use Rattle.nq_top.specs.Theorem.{HasFailed}
+use Rattle.nq_top.specs.World.{SinkState, World}
+
+-- the names that a command gives: of a schema, of a query and, where the query is run, of a folder of
+-- table texts
+pub record Names : Type 0 where
+  pub schema : List ℕ
+  pub query : List ℕ
+  pub folder : Option (List ℕ)
+
+-- a text is held under a name, and is no longer than a limit
+pub record HeldWithin (files : Files) (name : List ℕ) (limit : ℕ) (text : List ℕ) : Type 0 where
+  pub held : bytes_at files name ≡ Some text
+  pub within : length text ≤ limit
+
+-- the text under the name of the schema spells a schema
+pub record GivenSchema (files : Files) (names : Names) : Type 0 where
+  pub text : List ℕ
+  pub held : HeldWithin files names.schema text_limit text
+  pub schema : Schema
+  pub spells : schemas.Spells text schema
+
+-- and the one under that of the query spells a query
+pub record GivenQuery (files : Files) (names : Names) : Type 0 where
+  pub over : GivenSchema files names
+  pub text : List ℕ
+  pub held : HeldWithin files names.query text_limit text
+  pub query : PlacedTerm
+  pub spells : queries.Spells depth_limit text query
+
+-- which is accepted over the schema, as a bag of elements of a type
+pub record Accepted (files : Files) (names : Names) : Type 0 where
+  pub given : GivenQuery files names
+  pub element : TypeTree
+  pub typed : IsAccepted given.over.schema (bare given.query) (bag element)
+
+-- A folder has a text for each table of a list, together within a limit, and each gives its table rows.
+pub record GivenTables (files : Files) (folder : List ℕ) (limit : ℕ)
+    (shapes : List TableShape) : Type 0 where
+  pub texts : List (List ℕ)
+  pub held : AllZip (λ shape text. bytes_at files (file_of folder shape.name) ≡ Some text) shapes texts
+  pub within : sum (map length texts) ≤ limit
+  pub rows : List (List (List Cell))
+  pub given : AllZip (λ table rows. GivesRows table.0 (records_of table.1) rows) (zip shapes texts) rows
+
+-- the query is accepted, and the folder has the tables of its schema
+abbrev pub GivenRun : Files → Names → List ℕ → Type 0
+GivenRun files names folder =
+    (accepted : Accepted files names)
+    × GivenTables files folder tables_limit accepted.given.over.schema.tables
+
+-- A table's text is looked for where the query is run and accepted, and the texts of the tables before
+-- it are given, which leave it its limit.
+pub record NextTable (files : Files) (names : Names) (shape : TableShape) (name : List ℕ)
+    (limit : ℕ) : Type 0 where
+  pub accepted : Accepted files names
+  pub folder : List ℕ
+  pub is_run : names.folder ≡ Some folder
+  pub before : List TableShape
+  pub after : List TableShape
+  pub tables : accepted.given.over.schema.tables ≡ before ++ shape ∷ after
+  pub given : GivenTables files folder tables_limit before
+  pub named : name ≡ file_of folder shape.name
+  pub left : limit ≡ tables_limit - sum (map length given.texts)
+
+-- the texts that are looked for, by name and limit: the schema's, the query's where the schema is
+-- given, and then the tables'
+abbrev pub LooksFor : Files → Names → List ℕ → ℕ → Type 0
+LooksFor files names name limit =
+    ((name ≡ names.schema) × (limit ≡ text_limit))
+    ⊎ ((GivenSchema files names × (name ≡ names.query) × (limit ≡ text_limit))
+    ⊎ ((shape : TableShape) × NextTable files names shape name limit))
+
+-- the text under a name is looked for, and is not held
+abbrev pub IsMissing : Files → Names → List ℕ → Type 0
+IsMissing files names name =
+    (limit : ℕ) × LooksFor files names name limit × (bytes_at files name ≡ None)
+
+-- the text under a name, within its limit, has a fault
+abbrev pub IsFaulty : Files → List ℕ → ℕ → (List ℕ → Type 0) → Type 0
+IsFaulty files name limit Fault = (text : List ℕ) × HeldWithin files name limit text × Fault text
+
+-- What the inputs are refused for: the first text that is too long or has a fault by its definition, or
+-- the first typing rule that the query breaks.
+abbrev pub AreRefused : Files → Names → Refused → Type 0
+AreRefused files names (TooLong name limit) =
+    LooksFor files names name limit × IsLonger limit (bytes_at files name)
+AreRefused files names (SchemaRefused fault) =
+    (fault ≢ no_schema) × IsFaulty files names.schema text_limit (λ text. HasCause text fault)
+AreRefused files names (QueryRefused fault) =
+    (fault ≢ no_query) × GivenSchema files names
+    × IsFaulty files names.query text_limit (λ text. Parsed (Err fault) depth_limit text)
+AreRefused files names (IllTyped rule place) =
+    (given : GivenQuery files names)
+    × (program_judged given.over.schema given.query ≡ Err (broken rule place))
+AreRefused files names (TableRefused table fault) =
+    (shape : TableShape) × (table ≡ shape.name)
+    × (name : List ℕ) × (limit : ℕ) × NextTable files names shape name limit
+    × IsFaulty files name limit (λ text. HasFault shape (records_of text) fault)
+AreRefused files names _ = ⊥
+
+-- What a command comes to, by what it is given and what it then writes.
+pub record Outcome (files : Files) (names : Names) (Given : Type 0) (Writes : Given → Type 0)
+    (undisturbed : Type 0) (before after : World) (old new : SinkState) (status : ℕ) : Type 0 where
+  -- The status is 0 only where the inputs are given, and then what they give was written.
+  pub accepts : status ≡ 0 → Given
+  pub means : (given : Given) → status ≡ 0 → Writes given
+  -- Where they are given and nothing disturbs the command, the status is 0, or memory wanted and
+  -- nothing was put.
+  pub completes : Given → undisturbed
+      → (status ≡ 0) ⊎ ((status ≡ 1) × (after.out.written ≡ before.out.written))
+  -- A refusal's status and note line are those of what the inputs are refused for; and inputs that are
+  -- to be refused come to that status, but for want of memory and a failed fetch.
+  pub refuses : (some : Refused) → status ≡ refused_status some
+      → (why : Refused) × AreRefused files names why × (status ≡ refused_status why)
+      × PutsLine old.written new.written old.faults new.faults (refused_note why)
+  pub refused : (why : Refused) → AreRefused files names why
+      → (status ≡ refused_status why) ⊎ ((status ≡ 1) ⊎ (status ≡ 7))
+  -- Where a text that is looked for is not held, its fetch fails, or one before it, or memory wants.
+  pub misses : (name : List ℕ) → IsMissing files names name → (status ≡ 1) ⊎ (status ≡ 7)
+
+-- no call on the inputs, on the output or on the server failed, and the server is honest
+abbrev pub IsServed : World → World → Type 0
+IsServed before after =
+    (HasFailed before after → ⊥)
+    × (RoseBelow before.server.bound before.server.failures after.server.failures → ⊥)
+    × (before.server.honest ≡ true)
+
+-- `run` writes the canonical text of what the query means over the tables, where the server is honest.
+abbrev pub RunComes : World → World → SinkState → SinkState → ℕ
+    → Files → List ℕ → List ℕ → List ℕ → Type 0
+RunComes before after old new status files schema query folder =
+    let names : Names = record { schema = schema; query = query; folder = Some folder } in
+    Outcome files names (GivenRun files names folder)
+    (λ (accepted, tables). before.server.honest ≡ true → (value : Nested)
+    × Means (database accepted.given.over.schema.tables tables.rows) accepted.given.query value
+    × TellsMore before.out.written after.out.written (canonical_text value))
+    (IsServed before after) before after old new status
+
+-- `show sql` writes the frames of texts that shred the query.
+abbrev pub ShowComes : World → World → SinkState → SinkState → ℕ
+    → Files → List ℕ → List ℕ → Type 0
+ShowComes before after old new status files schema query =
+    let names : Names = record { schema = schema; query = query; folder = None } in
+    Outcome files names (Accepted files names)
+    (λ accepted. (texts : List (List ℕ))
+    × Shreds accepted.given.over.schema accepted.element texts
+    (λ tables value. Means tables accepted.given.query value)
+    × TellsMore before.out.written after.out.written (frames (paths (bag accepted.element)) texts))
+    (HasFailed before after → ⊥) before after old new status
+
+-- the words are `run` and three names, over files that are held
+abbrev pub OfRun : List (List ℕ) → Option Files
+    → (Files → List ℕ → List ℕ → List ℕ → Type 0) → Type 0
+OfRun words held P =
+    IfSome held (λ files. (schema query folder : List ℕ)
+    → words ≡ codes "run" ∷ schema ∷ query ∷ folder ∷ [] → P files schema query folder)
+
+-- the words are `show sql` and two names, over files that are held
+abbrev pub OfShow : List (List ℕ) → Option Files → (Files → List ℕ → List ℕ → Type 0) → Type 0
+OfShow words held P =
+    IfSome held (λ files. (schema query : List ℕ)
+    → words ≡ codes "show" ∷ codes "sql" ∷ schema ∷ query ∷ [] → P files schema query)
