@@ -1,6 +1,6 @@
 -- What a server is asked for a command, and what is written of its answers.
 use Rattle.std.specs.Prelude.{◌≡◌, ℕ, List, [], ◌∷◌, map}
-use Rattle.nq_model.specs.Canonical.{canonical_text}
+use Rattle.nq_model.specs.Canonical.{canonical, canonical_text}
 use Rattle.nq_model.specs.Tables.{types_of}
 use Rattle.nq_model.specs.Types.{TypeTree, type_tree, bag}
 use Rattle.nq_model.specs.Values.{Nested}
@@ -9,6 +9,7 @@ use Rattle.nq_ir.specs.Meanings.{EachBoth}
 use Rattle.nq_ir.specs.NormalForms.{element_type}
 use Rattle.nq_ir.specs.Parts.{element_types}
 use Rattle.shred_types.specs.Columns.{answer_columns}
+use Rattle.nq_json.specs.Json.{json_text}
 use Rattle.sql_profile.specs.Texts.{IsAskable}
 use Rattle.sql_profile.specs.Tokens.{First}
 use Rattle.sql_profile.specs.declared.server.Loaded.{Loaded}
@@ -29,10 +30,11 @@ use Rattle.nq_execute.specs.declared.plan.Plan.{Plan as Asked}
 pub data Indexes : Type 0 where
   numbers : Indexes
 
--- what is written of a value: its canonical text, or its summary
+-- what is written of a value: its canonical text, its summary, or the JSON text of its canonical form
 pub data Writing : Type 0 where
   text : Writing
   summary : Writing
+  json : Writing
 
 -- what is written of answers: the value of this type to which they stitch by these indexes; or the
 -- rows of the one answer
@@ -54,6 +56,7 @@ indexes_view index.Numbers = numbers
 abbrev pub writing_view : Writings → Writing
 writing_view way.Text = text
 writing_view way.Summary = summary
+writing_view way.Json = json
 
 abbrev pub finish_view : Finishes → Finish
 finish_view (code.Value of indexes writing) =
@@ -82,6 +85,7 @@ columns_by numbers type = map answer_columns (element_types type)
 abbrev pub text_by : Writing → TypeTree → Nested → List ℕ
 text_by text type v = canonical_text v
 text_by summary type v = summary_of type v
+text_by json type v = json_text (canonical v)
 
 -- and of the value of answers
 unfoldable pub value_text : TypeTree → Indexes → Writing → List AnswerRows → List ℕ

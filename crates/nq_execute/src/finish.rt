@@ -11,6 +11,7 @@ use crate::flat::{flat_fields, flat_text};
 use crate::plan::{Finish, Indexes, Writing};
 use crate::summary::summarise;
 use canon::{sort_deep, write, write_row_lines};
+use nq_json::write_json;
 use nq_model::{ColumnType, List, Memory, Ty, Value};
 use sql_profile::Answer;
 use std::alloc::Global;
@@ -47,6 +48,10 @@ fn text_by(alloc: Global, of: &Ty, writing: &Writing, value: Value) -> Result<Li
             write(alloc, &sorted)
         }
         Writing::Summary => summarise(alloc, of, value),
+        Writing::Json => {
+            let sorted = sort_deep(alloc, value)?;
+            write_json(alloc, &sorted)
+        }
     }
 }
 

@@ -1,6 +1,6 @@
 //! Serving a command: a server is loaded with tables and asked texts, each answer is tried against
-//! its columns before the next text is asked, and the value that the answers stitch to is written,
-//! or its summary, or the rows of the one answer.
+//! its columns before the next text is asked, and the value that the answers stitch to is written
+//! as its canonical text, as its summary or as JSON, or the rows of the one answer.
 #![tactic(auto)]
 
 mod ask;
