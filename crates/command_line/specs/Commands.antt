@@ -3,10 +3,11 @@ use Rattle.std.specs.Prelude.{ℕ, Bool, true, false, List, [], ◌∷◌, codes
 use Rattle.std.specs.Str.{bytes_eq}
 use Rattle.generated_inputs.specs.Sizes.{size_of}
 
--- What is done with a query that is accepted: its value is written, over the table texts of a folder; or
+-- What is done with a query that is accepted: its value is written, or written as JSON, over the table texts of a folder; or
 -- that it is accepted; or its type; or its normal form; or the paths of its type; or the SQL texts that shred it.
 pub data Aim : Type 0 where
   run : List ℕ → Aim
+  run_json : List ℕ → Aim
   check : Aim
   show_types : Aim
   show_normal : Aim
@@ -50,17 +51,24 @@ four_words word second third fourth =
     (cond (bytes_eq word (codes "answer")) (Some (answer second third fourth))
     (cond (bytes_eq word (codes "show")) (option_map (λ aim. of_query aim third fourth) (shown second)) None))
 
+-- `run json SCHEMA QUERY DIR`
+abbrev pub five_words : List ℕ → List ℕ → List ℕ → List ℕ → List ℕ → Option Command
+five_words word form schema query folder =
+    cond (bytes_eq form (codes "json")) (cond (bytes_eq word (codes "run")) (Some (of_query (run_json folder) schema query)) None) None
+
 -- the command that words are, if they are a listed form
 unfoldable pub command_of : List (List ℕ) → Option Command
 command_of (word ∷ []) = one_word word
 command_of (word ∷ size ∷ []) = two_words word size
 command_of (word ∷ schema ∷ query ∷ []) = three_words word schema query
 command_of (word ∷ second ∷ third ∷ fourth ∷ []) = four_words word second third fourth
+command_of (word ∷ form ∷ schema ∷ query ∷ folder ∷ []) = five_words word form schema query folder
 command_of _ = None
 
 -- whether a server is asked
 abbrev pub aim_asks : Aim → Bool
 aim_asks (run folder) = true
+aim_asks (run_json folder) = true
 aim_asks check = false
 aim_asks show_types = false
 aim_asks show_normal = false

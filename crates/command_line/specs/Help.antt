@@ -7,6 +7,7 @@ help_text =
     codes "nq answers typed queries over flat tables.\n"
     ++ (codes "\n"
     ++ (codes "nq run SCHEMA QUERY DIR       writes the value of the query over the tables of DIR\n"
+    ++ (codes "nq run json SCHEMA QUERY DIR  writes the value of the query as JSON\n"
     ++ (codes "nq answer SCHEMA SQLFILE DIR  writes the rows of the SQL text over the tables of DIR\n"
     ++ (codes "nq gen N                      writes a summary of nested data over generated tables of size N\n"
     ++ (codes "nq check SCHEMA QUERY         writes ok where the query is accepted\n"
@@ -18,7 +19,7 @@ help_text =
     ++ (codes "nq --version                  writes the name and the version of the program\n"
     ++ (codes "\n"
     ++ (codes "SCHEMA, QUERY and SQLFILE are files, and the table t is the file DIR/t.csv.\n"
-    ++ codes "README.md explains the statuses, under Commands.\n")))))))))))))
+    ++ codes "README.md explains the statuses, under Commands.\n"))))))))))))))
 
 -- the name and the version of the program
 unfoldable pub version_text : List ℕ

@@ -1,6 +1,6 @@
 -- The words of a command as the program has them.
 use Rattle.std.specs.Prelude.{⊤}
-use Rattle.command_line.specs.Commands.{Aim, run, check, show_types, show_normal, show_paths, show_sql, Command, help, version, of_query, answer, generated}
+use Rattle.command_line.specs.Commands.{Aim, run, run_json, check, show_types, show_normal, show_paths, show_sql, Command, help, version, of_query, answer, generated}
 use Rattle.generated_inputs.specs.Sizes.{IsSize}
 use Rattle.command_line.specs.declared.words.Aim.{Aim as Aims}
 use Rattle.command_line.specs.declared.words.Aim.TheVariants as aim
@@ -9,6 +9,7 @@ use Rattle.command_line.specs.declared.words.Command.TheVariants as words
 
 abbrev pub aim_view : Aims → Aim
 aim_view (aim.Run folder) = run folder.now
+aim_view (aim.RunJson folder) = run_json folder.now
 aim_view aim.Check = check
 aim_view aim.ShowTypes = show_types
 aim_view aim.ShowNormal = show_normal

@@ -1,6 +1,6 @@
 // The words of the command line.
 ghost use Rattle.std.specs.Prelude.{◌≡◌, IfSome, map, option_map, string_bytes};
-ghost use Rattle.command_line.specs.Commands.{one_word, two_words, three_words, shown, four_words, command_of};
+ghost use Rattle.command_line.specs.Commands.{one_word, two_words, three_words, shown, four_words, five_words, command_of};
 ghost use Rattle.command_line.specs.Words.{HasSize, aim_view, command_view};
 
 use generated_inputs::size_of;
@@ -10,6 +10,8 @@ use generated_inputs::size_of;
 pub enum Aim<'a> {
     /// Its value is written, over the table texts of the folder of this name.
     Run(&'a str),
+    /// Its value is written as JSON, over the table texts of the folder of this name.
+    RunJson(&'a str),
     /// That it is accepted is written.
     Check,
     /// Its type is written.
@@ -116,6 +118,28 @@ fn four_words<'a>(
     }
 }
 
+// The command of five words.
+fn five_words<'a>(
+    word: &str,
+    form: &str,
+    schema: &'a str,
+    query: &'a str,
+    folder: &'a str,
+) -> Option<Command<'a>>
+    ensures is { option_map command_view result
+        ≡ five_words word.now form.now schema.now query.now folder.now }
+    ensures sized { IfSome result HasSize }
+{
+    if form != "json" {
+        return None;
+    }
+    if word == "run" {
+        Some(Command::OfQuery(Aim::RunJson(folder), schema, query))
+    } else {
+        None
+    }
+}
+
 /// The command that words are, if they are one. It takes no memory.
 #[tactic(auto, unfolding(crate::specs::Commands::command_of))]
 pub fn command_of<'a>(words: &'a [String]) -> Option<Command<'a>>
@@ -131,6 +155,13 @@ pub fn command_of<'a>(words: &'a [String]) -> Option<Command<'a>>
             second.as_str(),
             third.as_str(),
             fourth.as_str(),
+        ),
+        [word, form, schema, query, folder] => five_words(
+            word.as_str(),
+            form.as_str(),
+            schema.as_str(),
+            query.as_str(),
+            folder.as_str(),
         ),
         _ => None,
     }

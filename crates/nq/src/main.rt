@@ -60,6 +60,8 @@ mod example_tests;
 #[cfg(test)]
 mod generated_tests;
 #[cfg(test)]
+mod json_tests;
+#[cfg(test)]
 mod nested_tests;
 #[cfg(test)]
 mod query_tests;

@@ -36,6 +36,7 @@ for (d <- table departments)
 const HELP: &str = "nq answers typed queries over flat tables.
 
 nq run SCHEMA QUERY DIR       writes the value of the query over the tables of DIR
+nq run json SCHEMA QUERY DIR  writes the value of the query as JSON
 nq answer SCHEMA SQLFILE DIR  writes the rows of the SQL text over the tables of DIR
 nq gen N                      writes a summary of nested data over generated tables of size N
 nq check SCHEMA QUERY         writes ok where the query is accepted

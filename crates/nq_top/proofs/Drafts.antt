@@ -6,16 +6,16 @@ use Rattle.nq_model.specs.declared.table.ColumnType.{ColumnType}
 use Rattle.nq_model.specs.declared.table.Schema.{Schema}
 use Rattle.nq_model.specs.declared.table.TableShape.{TableShape}
 use Rattle.sql_profile.specs.declared.server.Loaded.{Loaded}
-use Rattle.command_line.specs.Commands.{Aim, run, show_types, show_paths}
+use Rattle.command_line.specs.Commands.{Aim, run, run_json, show_types, show_paths}
 use Rattle.command_line.specs.Paths.{paths_text}
 use Rattle.command_line.specs.declared.refusal.InputRefusal.{InputRefusal}
-use Rattle.nq_execute.specs.Plans.{Plan, plan_view, IsServable}
+use Rattle.nq_execute.specs.Plans.{Writing, Plan, plan_view, IsServable}
 use Rattle.nq_execute.specs.declared.plan.Plan.{Plan as Asked}
 use Rattle.nq_top.specs.Gathering.{Told, RefusalTells}
-use Rattle.nq_top.specs.Judging.{Judgement, Verdict, written, planned, at_once, tables_judged, draft_judged, aim_judged, rows_judged}
+use Rattle.nq_top.specs.Judging.{Judgement, Verdict, written, planned, at_once, tables_judged, draft_judged, run_judged, aim_judged, rows_judged}
 use Rattle.nq_top.specs.Limits.{tables_limit}
 use Rattle.nq_top.specs.Lines.{type_line}
-use Rattle.nq_top.specs.Plans.{AreReadFor, Draft, drafted, Question, query_draft, query_question, sql_draft, CanServeOver, IsSoundOver}
+use Rattle.nq_top.specs.Plans.{AreReadFor, Draft, drafted, Question, draft_to, question_to, sql_draft, CanServeOver, IsSoundOver}
 use Rattle.nq_top.specs.Reading.{PlainReading, Reading, TypedTerm}
 use Rattle.nq_top.specs.Steps.{Accepts, ComesTo, HoldsPlan, GatherTells, TablesTell, ReadsBehind}
 use Rattle.nq_top.specs.declared.gather.Gathered.{Gathered}
@@ -89,16 +89,25 @@ module _ (held : Option Files) (folder : List ℕ) (schema : Schema) (draft : Dr
             (record { is = is; sound = sound tables read })
 
 -- the draft of a query that is run
-pub aim_runs : (held : Option Files) (aim : Aim) (folder : List ℕ) (schema : Schema) (query : TypedTerm) (draft : Draft) (old new : Told) (result : Result Gathered InputRefusal)
-    → aim ≡ run folder → ((plain : PlainReading) → draft ≡ query_draft plain schema query.term query.type)
-    → IsSoundOver schema draft (λ tables. query_question query) → DraftTold held folder schema draft old new result
+pub aim_runs : (held : Option Files) (aim given : Aim) (writing : Writing) (folder : List ℕ) (schema : Schema) (query : TypedTerm) (draft : Draft) (old new : Told) (result : Result Gathered InputRefusal)
+    → aim ≡ given → ((plain : PlainReading) (files : Files) → aim_judged plain files given schema query ≡ run_judged writing plain files folder schema query)
+    → ((plain : PlainReading) → draft ≡ draft_to writing plain schema query.term query.type)
+    → IsSoundOver schema draft (λ tables. question_to writing query) → DraftTold held folder schema draft old new result
     → IfSome held (λ files. (reading : Reading) → GatherTells (aim_judged reading.plain files aim schema query) old new result)
+aim_runs None aim given writing folder schema query draft old new result is judged same sound told = tt
+aim_runs (Some files) aim given writing folder schema query draft old new result is judged same sound told = λ reading.
+    let here = ap (λ (a : Aim). aim_judged reading.plain files a schema query) is ∙ judged reading.plain files in
+    let A : Judgement → Type 0 = λ j. GatherTells j old new result in
+    let D : Draft → Type 0 = λ d. GatherTells (draft_judged files folder schema d (λ tables. question_to writing query)) old new result in
+    subst A (sym here) (subst D (same reading.plain) (told (λ tables. question_to writing query) sound))
+
+pub text_judged : (plain : PlainReading) (files : Files) (folder : List ℕ) (schema : Schema) (query : TypedTerm) → aim_judged plain files (run folder) schema query ≡ run_judged Writing.text plain files folder schema query
 unfolding aim_judged
-aim_runs None aim folder schema query draft old new result is same sound told = tt
-aim_runs (Some files) aim folder schema query draft old new result is same sound told = λ reading.
-    let A : Aim → Type 0 = λ a. GatherTells (aim_judged reading.plain files a schema query) old new result in
-    let D : Draft → Type 0 = λ d. GatherTells (draft_judged files folder schema d (λ tables. query_question query)) old new result in
-    subst A (sym is) (subst D (same reading.plain) (told (λ tables. query_question query) sound))
+text_judged plain files folder schema query = refl
+
+pub json_judged : (plain : PlainReading) (files : Files) (folder : List ℕ) (schema : Schema) (query : TypedTerm) → aim_judged plain files (run_json folder) schema query ≡ run_judged Writing.json plain files folder schema query
+unfolding aim_judged
+json_judged plain files folder schema query = refl
 
 -- a text that is written of a query
 pub aim_writes : (held : Option Files) (aim given : Aim) (schema : Schema) (query : TypedTerm) (said text : List ℕ) (old : Told) → aim ≡ given

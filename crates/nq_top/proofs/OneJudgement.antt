@@ -1,7 +1,7 @@
 -- Any two readings come to one judgement.
 use Rattle.std.proofs.Common.{◌≡◌, ◌-◌, ℕ, List, [], ◌∷◌, ◌++◌, length, map, Some, None, Option, Result, Ok, Err, cond, nat_lt, refl, ap, subst, ◌∙◌}
 use Rattle.nq_edge.specs.Edge.{Files, bytes_at}
-use Rattle.command_line.specs.Commands.{Aim, run, check, show_types, show_normal, show_paths, show_sql, Command, help, version, of_query, answer, generated}
+use Rattle.command_line.specs.Commands.{Aim, run, run_json, check, show_types, show_normal, show_paths, show_sql, Command, help, version, of_query, answer, generated}
 use Rattle.command_line.specs.declared.refusal.Refused.{Refused}
 use Rattle.command_line.specs.declared.refusal.Refused.TheVariants.{TooLong, Query as QueryRefused, Schema as SchemaRefused}
 use Rattle.nq_model.specs.Terms.{PlacedTerm, bare}
@@ -20,7 +20,7 @@ use Rattle.sql_profile.specs.declared.server.Loaded.{Loaded}
 use Rattle.nq_top.specs.Judging.{Judgement, Verdict, refused, planned, written, shown, at_once, after, judged, fetched_then, read_then, text_then, loaded_as, tables_judged, aim_judged, judgement}
 use Rattle.nq_top.specs.Limits.{text_limit, tables_limit}
 use Rattle.nq_top.specs.Lines.{file_of}
-use Rattle.nq_top.specs.Plans.{Draft, drafted, draft_to, query_question, generated_question}
+use Rattle.nq_top.specs.Plans.{Draft, drafted, draft_to, question_to, generated_question}
 use Rattle.nq_top.specs.Reading.{Reading, TypedTerm, refused_as, schema_read, term_read, type_read, typed_as, typed_over, query_read, sql_read, tree_read, rows_read}
 use Rattle.nq_top.specs.Shown.{form_line, shown_texts}
 use Rattle.nq_top.proofs.Readings.{one_schema, one_query, one_sql, one_plain}
@@ -91,7 +91,10 @@ module _ (reading other : Reading) where
   unfolding aim_judged shown_texts
   aim_same files (run folder) schema query accepted =
       tables_same files folder schema.tables tables_limit [] _ _
-      (λ tables. ap (λ (draft : Draft). planned (drafted draft tables) (query_question query)) (draft_same Writing.text schema query.term query.type accepted))
+      (λ tables. ap (λ (draft : Draft). planned (drafted draft tables) (question_to Writing.text query)) (draft_same Writing.text schema query.term query.type accepted))
+  aim_same files (run_json folder) schema query accepted =
+      tables_same files folder schema.tables tables_limit [] _ _
+      (λ tables. ap (λ (draft : Draft). planned (drafted draft tables) (question_to Writing.json query)) (draft_same Writing.json schema query.term query.type accepted))
   aim_same files check schema query accepted = refl
   aim_same files show_types schema query accepted = refl
   aim_same files show_normal schema query accepted =

@@ -6,15 +6,15 @@ use Rattle.nq_model.specs.declared.table.Schema.{Schema}
 use Rattle.nq_model.specs.declared.table.TableShape.{TableShape}
 use Rattle.nq_edge.specs.Edge.{Files, bytes_at}
 use Rattle.sql_profile.specs.declared.server.Loaded.{Loaded}
-use Rattle.command_line.specs.Commands.{Aim, run, check, show_types, show_normal, show_paths, show_sql, Command, help, version, of_query, answer, generated}
+use Rattle.command_line.specs.Commands.{Aim, run, run_json, check, show_types, show_normal, show_paths, show_sql, Command, help, version, of_query, answer, generated}
 use Rattle.command_line.specs.Help.{help_text, version_text}
 use Rattle.command_line.specs.Paths.{paths_text}
 use Rattle.command_line.specs.declared.refusal.Refused.{Refused}
 use Rattle.command_line.specs.declared.refusal.Refused.TheVariants.{TooLong}
-use Rattle.nq_execute.specs.Plans.{Plan}
+use Rattle.nq_execute.specs.Plans.{Writing, Plan}
 use Rattle.nq_top.specs.Limits.{text_limit, tables_limit}
 use Rattle.nq_top.specs.Lines.{file_of, accepted_line, type_line}
-use Rattle.nq_top.specs.Plans.{Draft, drafted, Question, query_draft, query_question, sql_draft, generated_plan, generated_question}
+use Rattle.nq_top.specs.Plans.{Draft, drafted, Question, draft_to, question_to, sql_draft, generated_plan, generated_question}
 use Rattle.nq_top.specs.Reading.{PlainReading, Reading, TypedTerm, SqlColumns, schema_read, query_read, rows_read, sql_read}
 use Rattle.nq_top.specs.Shown.{Shown, shown_form, form_line, shown_texts}
 
@@ -104,11 +104,18 @@ draft_judged files folder schema draft question =
     tables_judged files folder schema.tables tables_limit []
     (λ tables. planned (drafted draft tables) (question tables))
 
+-- the value of a query over the tables of a folder, written in a way
+abbrev pub run_judged : Writing → PlainReading → Files → List ℕ → Schema → TypedTerm → Judgement
+run_judged writing plain files folder schema query =
+    draft_judged files folder schema (draft_to writing plain schema query.term query.type)
+    (λ tables. question_to writing query)
+
 -- a query that is accepted, with its type
 unfoldable pub aim_judged : PlainReading → Files → Aim → Schema → TypedTerm → Judgement
 aim_judged plain files (run folder) schema query =
-    draft_judged files folder schema (query_draft plain schema query.term query.type)
-    (λ tables. query_question query)
+    run_judged Writing.text plain files folder schema query
+aim_judged plain files (run_json folder) schema query =
+    run_judged Writing.json plain files folder schema query
 aim_judged plain files check schema query = at_once (written accepted_line)
 aim_judged plain files show_types schema query = at_once (written (type_line query.type))
 aim_judged plain files show_normal schema query =

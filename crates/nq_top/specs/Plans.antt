@@ -82,8 +82,11 @@ pub data Question : Type 0 where
   value : Writing → TypeTree → PlacedTerm → Question
   sql : List ℕ → Question
 
+abbrev pub question_to : Writing → TypedTerm → Question
+question_to writing query = Question.value writing query.type query.term
+
 abbrev pub query_question : TypedTerm → Question
-query_question query = Question.value Writing.text query.type query.term
+query_question query = question_to Writing.text query
 
 abbrev pub generated_question : Question
 generated_question = Question.value Writing.summary generated_type generated_query

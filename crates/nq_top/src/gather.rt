@@ -15,7 +15,7 @@ use crate::tables::{TABLES_LIMIT, gather_tables};
 use crate::texts::TypedQuery;
 use command_line::{Aim, Command, InputRefusal, help_text, paths_text, version_text};
 use nq_edge::Inputs;
-use nq_execute::Plan;
+use nq_execute::{Plan, Writing};
 use nq_model::{List, Schema};
 use std::alloc::Global;
 
@@ -78,7 +78,11 @@ fn gather_aim<I: Inputs>(
 {
     match aim {
         Aim::Run(folder) => {
-            let draft = query_draft(alloc, schema, query)?;
+            let draft = query_draft(alloc, schema, query, Writing::Text)?;
+            gather_draft(alloc, inputs, folder, schema, draft)
+        }
+        Aim::RunJson(folder) => {
+            let draft = query_draft(alloc, schema, query, Writing::Json)?;
             gather_draft(alloc, inputs, folder, schema, draft)
         }
         Aim::Check => Ok(Gathered::Text(List::from_slice(alloc, b"ok\n")?)),

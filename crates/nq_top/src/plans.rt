@@ -2,10 +2,10 @@
 // the rows of an SQL text.
 ghost use Rattle.std.specs.Prelude.{◌≡◌, ◌∷◌, [], IfOk};
 ghost use Rattle.generated_inputs.specs.Sizes.{IsSize};
-ghost use Rattle.nq_execute.specs.Plans.{IsServable, plan_view};
+ghost use Rattle.nq_execute.specs.Plans.{IsServable, plan_view, writing_view};
 ghost use Rattle.nq_model.specs.Terms.{placed};
 ghost use Rattle.nq_model.specs.Types.{type_tree};
-ghost use Rattle.nq_top.specs.Plans.{drafted, draft_view, query_draft, query_question, sql_draft, CanServeOver, IsSoundOver, generated_plan, generated_question};
+ghost use Rattle.nq_top.specs.Plans.{drafted, draft_view, draft_to, question_to, sql_draft, CanServeOver, IsSoundOver, generated_plan, generated_question};
 ghost use Rattle.nq_top.specs.Reading.{PlainReading};
 ghost use Rattle.nq_top.specs.Steps.{HoldsPlan, IsQuery, typed_view};
 
@@ -38,14 +38,21 @@ pub fn plan_of(draft: Draft, tables: List<Loaded>) -> Plan
     }
 }
 
-/// The draft of a query whose value is written.
-pub fn query_draft(alloc: Global, schema: &Schema, query: TypedQuery) -> Result<Draft, Memory>
+/// The draft of a query whose value is written in a way.
+pub fn query_draft(
+    alloc: Global,
+    schema: &Schema,
+    query: TypedQuery,
+    writing: Writing,
+) -> Result<Draft, Memory>
     requires { IsQuery schema.now (typed_view query) }
     ensures servable { IfOk result (λ draft. CanServeOver schema.now (draft_view draft)) }
     ensures sound { IfOk result (λ draft.
-        IsSoundOver schema.now (draft_view draft) (λ tables. query_question (typed_view query))) }
+        IsSoundOver schema.now (draft_view draft)
+        (λ tables. question_to (writing_view writing) (typed_view query))) }
     ensures is { IfOk result (λ draft. (plain : PlainReading) →
-        draft_view draft ≡ query_draft plain schema.now (placed query.term) (type_tree query.ty)) }
+        draft_view draft ≡ draft_to (writing_view writing) plain schema.now
+        (placed query.term) (type_tree query.ty)) }
 {
     let compiled = compile(alloc, schema, query.term)?;
     Ok(Draft {
@@ -54,7 +61,7 @@ pub fn query_draft(alloc: Global, schema: &Schema, query: TypedQuery) -> Result<
         finish: Finish::Value {
             of: compiled.result,
             indexes: Indexes::Numbers,
-            writing: Writing::Text,
+            writing,
         },
     })
 }
