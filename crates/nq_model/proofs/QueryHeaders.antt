@@ -1,11 +1,11 @@
 -- Texts with a header: what stands behind it is a text of its own.
-use Rattle.std.proofs.Common.{◌≡◌, ℕ, zero, suc, ◌≤◌, ◌&&◌, Bool, true, false, cond, ◌==◌, List, [], ◌∷◌, ◌++◌, refl, sym, ◌∙◌, ap, subst, arith, codes, ◌⊎◌, inl, inr, bytes_eq}
+use Rattle.std.proofs.Common.{◌≡◌, ℕ, ◌≤◌, ◌&&◌, Bool, true, false, cond, ◌==◌, List, [], ◌∷◌, ◌++◌, refl, sym, ◌∙◌, ap, subst, arith, codes, ◌⊎◌, inl, inr, bytes_eq}
 use Rattle.std.proofs.lemmas.Bool.Decides.{nat_tests}
 use Rattle.std.proofs.lemmas.Slice.Eq.{bytes_eq-Decides}
 use Rattle.std.specs.Prelude.{⊤}
-use Rattle.nq_model.specs.OpenLists.{Fault, Deep, Unexpected, IsOpen, Begins, FaultFits, IsFaultAt}
-use Rattle.nq_model.specs.QueryTokens.{Operator, Constant, Number, Literal, Opening, Closing, Semicolon, Token, Word, Value, Oper, Sign, End}
-use Rattle.nq_model.specs.QueryGrammar.{Edition, First, Second, Syntax, Const, Truth, Var, Table, Aggregated, Paren, NoFields, Rec, Bag, Nil, For, Where, If, Fun, Let, Prefix, Infix, Apply, Field, Fields, One, More, tokens, fields_tokens, prefix_token, truth_word, depth, Header, header_tokens, IsBody, IsProgram, Within, IsSpelled}
+use Rattle.nq_model.specs.OpenLists.{Fault, Deep, Unexpected, IsOpen, FaultFits, IsFaultAt}
+use Rattle.nq_model.specs.QueryTokens.{Number, Closing, Semicolon, Token, Word, Value, Oper, Sign, End}
+use Rattle.nq_model.specs.QueryGrammar.{Edition, First, Second, Syntax, Const, Truth, Var, Table, Aggregated, Paren, NoFields, Rec, Bag, Nil, For, Where, If, Fun, Let, Prefix, Infix, Apply, Field, Fields, One, More, tokens, fields_tokens, truth_word, depth, Header, header_tokens, IsBody, IsProgram, Within, IsSpelled}
 use Rattle.nq_model.specs.QueryTexts.{edition_of}
 use Rattle.nq_model.specs.declared.term.Unary.TheVariants.{Minus, Not}
 
