@@ -7,18 +7,20 @@ ghost use Rattle.nq_model.specs.ValueTypes.{IsOfType};
 ghost use Rattle.canon.specs.Sorted.{IsSortedDeep};
 ghost use Rattle.canon.specs.Texts.{Ends};
 
-/// The canonical form is sorted at every depth, keeps the value's types, and is all there is to sort:
-/// a value that is sorted at every depth is its own canonical form.
+/// The canonical form is sorted at every depth, keeps the value's types, and is all there is to
+/// sort: a value that is sorted at every depth is its own canonical form.
 pub fn form_laws()
     ensures sorted { (v : Nested) → IsSortedDeep (canonical v) }
     ensures settled { (v : Nested) → IsSortedDeep v → canonical v ≡ v }
     ensures typed { (t : TypeTree) (v : Nested) → IsOfType t v → IsOfType t (canonical v) }
 {}
 
-/// Texts of values of one type tell their values, and where they end in a longer text. So the canonical
-/// texts of two values of one type are equal exactly where the values are the same nested multiset.
+/// Texts of values of one type tell their values, and where they end in a longer text. So the
+/// canonical texts of two values of one type are equal exactly where the values are the same nested
+/// multiset.
 pub fn text_laws()
-    ensures told { (t : TypeTree) (v w : Nested) (x y : List ℕ) → IsOfType t v → IsOfType t w → Ends x → Ends y
+    ensures told { (t : TypeTree) (v w : Nested) (x y : List ℕ) → IsOfType t v → IsOfType t w
+        → Ends x → Ends y
         → written v ++ x ≡ written w ++ y → (v ≡ w) × (x ≡ y) }
     ensures same { (t : TypeTree) (v w : Nested) → IsOfType t v → IsOfType t w
         → (canonical_text v ≡ canonical_text w) ↔ Same v w }

@@ -9,13 +9,13 @@ ghost use Rattle.canon.specs.Trees.{kind_place};
 use nq_model::{Label, Value};
 use std::cmp::Ordering;
 
-/// Which of two values stands before the other in canonical order: truth values with false first, then
-/// integers by value, texts by bytes, records, and bags. Records are compared by their lists of labels
-/// and then by the first field that differs, bags by the first element that differs; a list stands
-/// before a longer one that it begins.
+/// Which of two values stands before the other in canonical order: truth values with false first,
+/// then integers by value, texts by bytes, records, and bags. Records are compared by their lists
+/// of labels and then by the first field that differs, bags by the first element that differs; a
+/// list stands before a longer one that it begins.
 ///
-/// Bags are compared as they stand. So the order is one of nested multisets where the values are sorted
-/// at every depth.
+/// Bags are compared as they stand. So the order is one of nested multisets where the values are
+/// sorted at every depth.
 #[cycle(compare)]
 #[tactic(auto, using(nq_model::proofs::Trees::nested_record, nq_model::proofs::Trees::nested_bag))]
 pub fn compare(left: &Value, right: &Value) -> Ordering
@@ -33,7 +33,8 @@ pub fn compare(left: &Value, right: &Value) -> Ordering
 
 #[cycle(compare)]
 fn compare_bags(elements: &[Value], others: &[Value]) -> Ordering
-    ensures { result ≡ value_cmp (bag_of (map nested elements.now)) (bag_of (map nested others.now)) }
+    ensures { result ≡ value_cmp (bag_of (map nested elements.now))
+        (bag_of (map nested others.now)) }
 {
     for i in 0..elements.len().min(others.len()) {
         let first = compare(&elements[i], &others[i]);
@@ -56,7 +57,8 @@ fn compare_records(left: &[(Label, Value)], right: &[(Label, Value)]) -> Orderin
 
 #[cycle(compare)]
 fn compare_fields(left: &[(Label, Value)], right: &[(Label, Value)]) -> Ordering
-    ensures { result ≡ fields_cmp (fields_of (fields_view left.now)) (fields_of (fields_view right.now)) }
+    ensures { result ≡ fields_cmp (fields_of (fields_view left.now))
+        (fields_of (fields_view right.now)) }
 {
     for i in 0..left.len().min(right.len()) {
         let first = compare(&left[i].1, &right[i].1);
@@ -68,7 +70,8 @@ fn compare_fields(left: &[(Label, Value)], right: &[(Label, Value)]) -> Ordering
 }
 
 fn compare_labels(left: &[(Label, Value)], right: &[(Label, Value)]) -> Ordering
-    ensures { result ≡ slice_cmp label_cmp (labels (fields_of (fields_view left.now))) (labels (fields_of (fields_view right.now))) }
+    ensures { result ≡ slice_cmp label_cmp (labels (fields_of (fields_view left.now)))
+        (labels (fields_of (fields_view right.now))) }
 {
     for i in 0..left.len().min(right.len()) {
         let first = left[i].0.as_str().cmp(right[i].0.as_str());

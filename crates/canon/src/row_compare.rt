@@ -21,7 +21,8 @@ pub(crate) fn end_from(rows: &Rows, first: usize, count: usize, row: usize) -> u
 fn compare_cells(rows: &Rows, first: usize, end: usize, left: usize, right: usize) -> Ordering
     requires left { end ≤ max first (length (row_at rows.now left)) }
     requires right { end ≤ max first (length (row_at rows.now right)) }
-    ensures { result ≡ slice_cmp cell_cmp (slice_range (row_at rows.now left) first end) (slice_range (row_at rows.now right) first end) }
+    ensures { result ≡ slice_cmp cell_cmp (slice_range (row_at rows.now left) first end)
+        (slice_range (row_at rows.now right) first end) }
 {
     for column in first..end {
         let order = rows.cell(left, column).cmp(&rows.cell(right, column));
@@ -32,8 +33,8 @@ fn compare_cells(rows: &Rows, first: usize, end: usize, left: usize, right: usiz
     Ordering::Equal
 }
 
-// Compares the cells of two rows from a place on, at most so many of each: fewer cells first, and as many
-// cell by cell.
+// Compares the cells of two rows from a place on, at most so many of each: fewer cells first, and
+// as many cell by cell.
 pub(crate) fn compare_rows(
     rows: &Rows,
     first: usize,
@@ -41,7 +42,8 @@ pub(crate) fn compare_rows(
     left: usize,
     right: usize,
 ) -> Ordering
-    ensures { result ≡ cells_cmp (take count (drop first (row_at rows.now left))) (take count (drop first (row_at rows.now right))) }
+    ensures { result ≡ cells_cmp (take count (drop first (row_at rows.now left)))
+        (take count (drop first (row_at rows.now right))) }
 {
     let left_end = end_from(rows, first, count, left);
     let right_end = end_from(rows, first, count, right);

@@ -23,7 +23,8 @@ fn write_bar(text: &mut String, column: usize) -> Result<(), Memory>
 
 // The line of a row.
 fn write_line(text: &mut String, rows: &Rows, row: usize) -> Result<(), Memory>
-    ensures { OnOk result (string_bytes text.new ≡ string_bytes text.old ++ row_line (row_at rows.now row)) }
+    ensures { OnOk result (string_bytes text.new
+        ≡ string_bytes text.old ++ row_line (row_at rows.now row)) }
 {
     for column in 0..rows.width(row) {
         write_bar(text, column)?;
@@ -35,7 +36,8 @@ fn write_line(text: &mut String, rows: &Rows, row: usize) -> Result<(), Memory>
 
 // The lines of the rows at these places, in their order.
 fn write_lines(text: &mut String, rows: &Rows, places: &[u32]) -> Result<(), Memory>
-    ensures { OnOk result (string_bytes text.new ≡ string_bytes text.old ++ flat_map row_line (rows_at rows.now places.now)) }
+    ensures { OnOk result (string_bytes text.new
+        ≡ string_bytes text.old ++ flat_map row_line (rows_at rows.now places.now)) }
 {
     for place in places {
         write_line(text, rows, *place as usize)?;
@@ -43,8 +45,9 @@ fn write_lines(text: &mut String, rows: &Rows, places: &[u32]) -> Result<(), Mem
     Ok(())
 }
 
-/// `rows K` and a line for each of the K rows, in the order of their cells from the left: the canonical texts of its cells,
-/// with `|` between them. The types are those of the cells. The only error is that memory wants.
+/// `rows K` and a line for each of the K rows, in the order of their cells from the left: the
+/// canonical texts of its cells, with `|` between them. The types are those of the cells. Fails
+/// only if memory runs out.
 pub fn write_row_lines(alloc: Global, rows: &Rows, types: &[ColumnType]) -> Result<List<u8>, Memory>
     requires { All (RowFits types.now) rows.now }
     ensures { IfOk result (λ text. text ≡ rows_text rows.now) }

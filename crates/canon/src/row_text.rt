@@ -22,7 +22,8 @@ const INT_SIZE: usize = 20;
 
 // Where the cells of each row's record end, if each row has one for each label.
 fn common_end(rows: &Rows, first: usize, count: usize, places: &[u32]) -> Option<usize>
-    ensures { IfSome result (λ end. (end ≡ first + count) × All (λ place. end ≤ length (row_at rows.now place)) places.now) }
+    ensures { IfSome result (λ end. (end ≡ first + count) × All
+        (λ place. end ≤ length (row_at rows.now place)) places.now) }
 {
     let end = first.checked_add(count)?;
     for place in places {
@@ -54,15 +55,17 @@ fn put_full_rows_in_order(
 ) -> Result<Vec<u32>, Memory>
     requires { All (λ place. end ≤ length (row_at rows.now place)) places.items }
     ensures permutation { IfOk result (λ sorted. IsPermutation places.items sorted.items) }
-    ensures sorted { IfOk result (λ sorted. IsSortedByKey (λ place. slice_range (row_at rows.now place) first end) cells_cmp sorted.items) }
+    ensures sorted { IfOk result
+        (λ sorted. IsSortedByKey
+        (λ place. slice_range (row_at rows.now place) first end) cells_cmp sorted.items) }
 {
     let columns = columns_between(alloc, first, end)?;
     let sorted = order_places(alloc, rows, columns.as_slice(), places)?;
     Ok(sorted)
 }
 
-// Records that tie are one, so the sort need not be stable. Where a row wants cells, all are compared as they
-// stand.
+// Records that tie are one, so the sort need not be stable. Where a row wants cells, all are
+// compared as they stand.
 fn put_rows_in_order(
     alloc: Global,
     labels: &[Label],
@@ -70,7 +73,8 @@ fn put_rows_in_order(
     rows: &Rows,
     places: Vec<u32>,
 ) -> Result<Vec<u32>, Memory>
-    ensures { IfOk result (λ sorted. map (row_record labels.now first) (rows_at rows.now sorted.items)
+    ensures { IfOk result (λ sorted.
+        map (row_record labels.now first) (rows_at rows.now sorted.items)
         ≡ sorted_by value_cmp (map (row_record labels.now first) (rows_at rows.now places.items))) }
 {
     let count = labels.len();
@@ -85,11 +89,13 @@ fn put_rows_in_order(
     Ok(sorted)
 }
 
-// Inlined, as is what it calls for a text: a cell that is passed through memory is copied there, which waits for whatever
-// was read before it. For rows in no order that is a text that is not in the cache, and each would be waited for alone.
+// Inlined, as is what it calls for a text: a cell that is passed through memory is copied there,
+// which waits for whatever was read before it. For rows in no order that is a text that is not in
+// the cache, and each would be waited for alone.
 #[inline(always)]
 pub(crate) fn write_cell(text: &mut String, cell: &CellRef<'_>) -> Result<(), Memory>
-    ensures { OnOk result (string_bytes text.new ≡ string_bytes text.old ++ cell_text (cell_seen cell.now)) }
+    ensures { OnOk result (string_bytes text.new
+        ≡ string_bytes text.old ++ cell_text (cell_seen cell.now)) }
 {
     match cell {
         CellRef::Int(number) => Ok(text.push_str(Buffer::new().format(*number))?),
@@ -106,7 +112,8 @@ fn write_row(
     rows: &Rows,
     row: usize,
 ) -> Result<(), Memory>
-    ensures { OnOk result (string_bytes text.new ≡ string_bytes text.old ++ written (row_record labels.now first (row_at rows.now row))) }
+    ensures { OnOk result (string_bytes text.new
+        ≡ string_bytes text.old ++ written (row_record labels.now first (row_at rows.now row))) }
 {
     text.push_str("(")?;
     for column in first..end_from(rows, first, labels.len(), row) {
@@ -127,7 +134,9 @@ fn write_bag_of_rows(
     rows: &Rows,
     places: &[u32],
 ) -> Result<(), Memory>
-    ensures { OnOk result (string_bytes text.new ≡ string_bytes text.old ++ written (rows_value labels.now first (rows_at rows.now places.now))) }
+    ensures { OnOk result (string_bytes text.new
+        ≡ string_bytes text.old
+        ++ written (rows_value labels.now first (rows_at rows.now places.now))) }
 {
     text.push_str("{")?;
     for (i, place) in places.iter().enumerate() {
@@ -168,8 +177,8 @@ fn row_size(labels: &[Label], first: usize, rows: &Rows, row: usize) -> usize {
     size
 }
 
-// How many bytes the bag of the rows' records is written with, at most. The text is made at this size, so
-// that it never moves while it grows. Were it too small, the text would grow all the same.
+// How many bytes the bag of the rows' records is written with, at most. The text is made at this
+// size, so that it never moves while it grows. Were it too small, the text would grow all the same.
 fn rows_size(labels: &[Label], first: usize, rows: &Rows, places: &[u32]) -> usize {
     let round = labels_size(labels);
     let mut size = 3usize;
@@ -181,9 +190,10 @@ fn rows_size(labels: &[Label], first: usize, rows: &Rows, places: &[u32]) -> usi
     size
 }
 
-/// The canonical text of the bag of flat records that the rows at these places stand for: of each row the
-/// cells from the place `first` on, beside the labels. The places are put in order, and the rows are written
-/// from where they stand, so that no value of the bag is built. The only error is that memory wants.
+/// The canonical text of the bag of flat records that the rows at these places stand for: of each
+/// row the cells from the place `first` on, beside the labels. The places are put in order, and the
+/// rows are written from where they stand, so that no value of the bag is built. Fails only if
+/// memory runs out.
 #[tactic(auto, using(crate::proofs::FlatRows::rows_canonical))]
 pub fn write_rows(
     alloc: Global,
@@ -192,7 +202,8 @@ pub fn write_rows(
     rows: &Rows,
     places: Vec<u32>,
 ) -> Result<List<u8>, Memory>
-    ensures { IfOk result (λ text. text ≡ canonical_text (rows_value labels.now first (rows_at rows.now places.items))) }
+    ensures { IfOk result (λ text.
+        text ≡ canonical_text (rows_value labels.now first (rows_at rows.now places.items))) }
 {
     // Rows are measured before they are put in order, so that they are looked up where they stand.
     let size = rows_size(labels, first, rows, places.as_slice());

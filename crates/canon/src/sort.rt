@@ -8,8 +8,8 @@ use crate::order::compare;
 use nq_model::{Label, List, Memory, Value};
 use std::alloc::Global;
 
-/// The canonical form of the value: each bag in canonical order, at every depth. The value's parts are
-/// moved and not copied. The only error is that memory wants, and the value is gone then too.
+/// The canonical form of the value: each bag in canonical order, at every depth. The value's parts
+/// are moved and not copied. Fails only if memory runs out, and the value is gone then too.
 #[cycle(sort)]
 pub fn sort_deep(alloc: Global, value: Value) -> Result<Value, Memory>
     ensures { IfOk result (λ sorted. nested sorted ≡ canonical (nested value)) }
@@ -23,7 +23,8 @@ pub fn sort_deep(alloc: Global, value: Value) -> Result<Value, Memory>
 
 #[cycle(sort)]
 fn sort_fields(alloc: Global, fields: List<(Label, Value)>) -> Result<List<(Label, Value)>, Memory>
-    ensures { IfOk result (λ sorted. fields_view sorted ≡ map (λ f. (f.0, canonical f.1)) (fields_view fields)) }
+    ensures { IfOk result (λ sorted. fields_view sorted ≡ map
+        (λ f. (f.0, canonical f.1)) (fields_view fields)) }
 {
     let mut sorted = List::with_capacity(alloc, fields.len())?;
     for (label, value) in fields.into_vec() {
@@ -34,7 +35,8 @@ fn sort_fields(alloc: Global, fields: List<(Label, Value)>) -> Result<List<(Labe
 
 #[cycle(sort)]
 fn sort_elements(alloc: Global, elements: List<Value>) -> Result<List<Value>, Memory>
-    ensures { IfOk result (λ sorted. map nested sorted ≡ sorted_by value_cmp (map canonical (map nested elements))) }
+    ensures { IfOk result (λ sorted.
+        map nested sorted ≡ sorted_by value_cmp (map canonical (map nested elements))) }
 {
     let mut sorted = Vec::with_capacity(alloc, elements.len())?;
     for element in elements.into_vec() {

@@ -10,12 +10,13 @@ use itoa::Buffer;
 use nq_model::{Label, List, Memory, Value};
 use std::alloc::Global;
 
-/// The text of the value as it stands, and a newline: records as `(a = V, b = W)`, bags as `{V, W}`,
-/// texts between single quotes, with each single quote doubled. Of a value that is sorted at every depth
-/// this is the canonical text. The only error is that memory wants.
+/// The text of the value as it stands, and a newline: records as `(a = V, b = W)`, bags as `{V,
+/// W}`, texts between single quotes, with each single quote doubled. Of a value that is sorted at
+/// every depth this is the canonical text. Fails only if memory runs out.
 pub fn write(alloc: Global, value: &Value) -> Result<List<u8>, Memory>
     ensures text { IfOk result (λ text. text ≡ written (nested value.now) ++ codes "\n") }
-    ensures canonical { IfOk result (λ text. IsSortedDeep (nested value.now) → text ≡ canonical_text (nested value.now)) }
+    ensures canonical { IfOk result
+        (λ text. IsSortedDeep (nested value.now) → text ≡ canonical_text (nested value.now)) }
 {
     let mut text = String::new(alloc);
     write_value(&mut text, value)?;
@@ -25,7 +26,8 @@ pub fn write(alloc: Global, value: &Value) -> Result<List<u8>, Memory>
 
 #[cycle(write)]
 fn write_value(text: &mut String, value: &Value) -> Result<(), Memory>
-    ensures { OnOk result (string_bytes text.new ≡ string_bytes text.old ++ written (nested value.now)) }
+    ensures { OnOk result (string_bytes text.new
+        ≡ string_bytes text.old ++ written (nested value.now)) }
 {
     match value {
         Value::Int(number) => Ok(text.push_str(Buffer::new().format(*number))?),
@@ -39,7 +41,8 @@ fn write_value(text: &mut String, value: &Value) -> Result<(), Memory>
 // The text between single quotes, with each single quote doubled.
 #[inline(always)]
 pub(crate) fn write_quoted(text: &mut String, quoted: &str) -> Result<(), Memory>
-    ensures { OnOk result (string_bytes text.new ≡ string_bytes text.old ++ cell_text (cell.Text quoted.now)) }
+    ensures { OnOk result (string_bytes text.new
+        ≡ string_bytes text.old ++ cell_text (cell.Text quoted.now)) }
 {
     text.push_str("'")?;
     let mut rest = quoted;
@@ -55,7 +58,8 @@ pub(crate) fn write_quoted(text: &mut String, quoted: &str) -> Result<(), Memory
 
 #[cycle(write)]
 fn write_record(text: &mut String, fields: &[(Label, Value)]) -> Result<(), Memory>
-    ensures { OnOk result (string_bytes text.new ≡ string_bytes text.old ++ written (rec_of (fields_view fields.now))) }
+    ensures { OnOk result (string_bytes text.new
+        ≡ string_bytes text.old ++ written (rec_of (fields_view fields.now))) }
 {
     text.push_str("(")?;
     for (i, (label, value)) in fields.iter().enumerate() {
@@ -70,7 +74,8 @@ fn write_record(text: &mut String, fields: &[(Label, Value)]) -> Result<(), Memo
 
 #[cycle(write)]
 fn write_bag(text: &mut String, elements: &[Value]) -> Result<(), Memory>
-    ensures { OnOk result (string_bytes text.new ≡ string_bytes text.old ++ written (bag_of (map nested elements.now))) }
+    ensures { OnOk result (string_bytes text.new
+        ≡ string_bytes text.old ++ written (bag_of (map nested elements.now))) }
 {
     text.push_str("{")?;
     for (i, element) in elements.iter().enumerate() {

@@ -8,7 +8,8 @@ use nq_ir::Path;
 use nq_model::{List, Memory};
 use std::alloc::Global;
 
-/// A frame for each path with its SQL text: the path and the length of the text in bytes, the text, and a line `;`.
+/// A frame for each path with its SQL text: the path and the length of the text in bytes, the text,
+/// and a line `;`.
 pub fn frames(alloc: Global, paths: &List<Path>, texts: &List<List<u8>>) -> Result<List<u8>, Memory>
     requires { length paths.now ≡ length texts.now }
     ensures { IfOk result (λ all. all ≡ frames (steps_of paths.now) texts.now) }

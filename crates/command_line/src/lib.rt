@@ -1,5 +1,5 @@
-//! The command line: the words of each command, the texts that `--help`, `--version` and `show` write, and why a command gives
-//! no text, with the status and the note line of each answer.
+//! The command line: the words of each command, the texts that `--help`, `--version` and `show`
+//! write, and why a command gives no text, with the status and the note line of each answer.
 #![tactic(auto)]
 
 mod frame;

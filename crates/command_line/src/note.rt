@@ -14,7 +14,8 @@ use table_reader::TableFault;
 
 // Puts that an input is too long.
 fn put_too_long<N: Sink>(notes: &mut N, name: &[u8], limit: u64)
-    ensures { PutsLine (N.written notes.old) (N.written notes.new) (N.faults notes.old) (N.faults notes.new)
+    ensures { PutsLine (N.written notes.old) (N.written notes.new) (N.faults notes.old)
+        (N.faults notes.new)
         (refused_note (Refused.TooLong name.now limit)) }
 {
     let mut digits = Buffer::new();
@@ -31,7 +32,8 @@ fn put_too_long<N: Sink>(notes: &mut N, name: &[u8], limit: u64)
 
 // Puts that a schema text has a fault at a place.
 fn put_schema_fault<N: Sink>(notes: &mut N, fault: &[u8], place: u64)
-    ensures { PutsLine (N.written notes.old) (N.written notes.new) (N.faults notes.old) (N.faults notes.new)
+    ensures { PutsLine (N.written notes.old) (N.written notes.new) (N.faults notes.old)
+        (N.faults notes.new)
         (schema_fault_note fault.now place) }
 {
     let mut digits = Buffer::new();
@@ -41,7 +43,8 @@ fn put_schema_fault<N: Sink>(notes: &mut N, fault: &[u8], place: u64)
 
 // Puts the fault of a schema text.
 fn put_schema<N: Sink>(notes: &mut N, fault: &SchemaFault)
-    ensures { PutsLine (N.written notes.old) (N.written notes.new) (N.faults notes.old) (N.faults notes.new)
+    ensures { PutsLine (N.written notes.old) (N.written notes.new) (N.faults notes.old)
+        (N.faults notes.new)
         (schema_note fault.now) }
 {
     match *fault {
@@ -58,7 +61,8 @@ fn put_schema<N: Sink>(notes: &mut N, fault: &SchemaFault)
 
 // Puts that a query text has a fault at a place.
 fn put_query_fault<N: Sink>(notes: &mut N, fault: &[u8], place: u64)
-    ensures { PutsLine (N.written notes.old) (N.written notes.new) (N.faults notes.old) (N.faults notes.new)
+    ensures { PutsLine (N.written notes.old) (N.written notes.new) (N.faults notes.old)
+        (N.faults notes.new)
         (query_fault_note fault.now place) }
 {
     let mut digits = Buffer::new();
@@ -68,7 +72,8 @@ fn put_query_fault<N: Sink>(notes: &mut N, fault: &[u8], place: u64)
 
 // Puts the fault of a query text.
 fn put_query<N: Sink>(notes: &mut N, fault: &SyntaxFault)
-    ensures { PutsLine (N.written notes.old) (N.written notes.new) (N.faults notes.old) (N.faults notes.new)
+    ensures { PutsLine (N.written notes.old) (N.written notes.new) (N.faults notes.old)
+        (N.faults notes.new)
         (query_note fault.now) }
 {
     match *fault {
@@ -85,7 +90,8 @@ fn put_query<N: Sink>(notes: &mut N, fault: &SyntaxFault)
 
 // Puts that a query breaks a typing rule at a place.
 fn put_ill_typed<N: Sink>(notes: &mut N, rule: u8, place: u64)
-    ensures { PutsLine (N.written notes.old) (N.written notes.new) (N.faults notes.old) (N.faults notes.new)
+    ensures { PutsLine (N.written notes.old) (N.written notes.new) (N.faults notes.old)
+        (N.faults notes.new)
         (type_note rule place) }
 {
     let mut rule_digits = Buffer::new();
@@ -97,7 +103,8 @@ fn put_ill_typed<N: Sink>(notes: &mut N, rule: u8, place: u64)
 
 // Puts that an SQL text has a fault at a place.
 fn put_sql_fault<N: Sink>(notes: &mut N, fault: &[u8], place: u64)
-    ensures { PutsLine (N.written notes.old) (N.written notes.new) (N.faults notes.old) (N.faults notes.new)
+    ensures { PutsLine (N.written notes.old) (N.written notes.new) (N.faults notes.old)
+        (N.faults notes.new)
         (sql_fault_note fault.now place) }
 {
     let mut digits = Buffer::new();
@@ -107,7 +114,8 @@ fn put_sql_fault<N: Sink>(notes: &mut N, fault: &[u8], place: u64)
 
 // Puts the fault of an SQL text.
 fn put_sql<N: Sink>(notes: &mut N, fault: &SqlFault)
-    ensures { PutsLine (N.written notes.old) (N.written notes.new) (N.faults notes.old) (N.faults notes.new)
+    ensures { PutsLine (N.written notes.old) (N.written notes.new) (N.faults notes.old)
+        (N.faults notes.new)
         (sql_note fault.now) }
 {
     match *fault {
@@ -122,7 +130,8 @@ fn put_sql<N: Sink>(notes: &mut N, fault: &SqlFault)
 
 // Puts that an SQL text breaks a rule of scope at a place.
 fn put_ill_scoped<N: Sink>(notes: &mut N, rule: u8, place: u64)
-    ensures { PutsLine (N.written notes.old) (N.written notes.new) (N.faults notes.old) (N.faults notes.new)
+    ensures { PutsLine (N.written notes.old) (N.written notes.new) (N.faults notes.old)
+        (N.faults notes.new)
         (scope_note rule place) }
 {
     let mut rule_digits = Buffer::new();
@@ -141,7 +150,8 @@ fn put_ill_scoped<N: Sink>(notes: &mut N, rule: u8, place: u64)
 
 // Puts that a row of a table text has another number of cells.
 fn put_width<N: Sink>(notes: &mut N, name: &[u8], row: u64)
-    ensures { PutsLine (N.written notes.old) (N.written notes.new) (N.faults notes.old) (N.faults notes.new)
+    ensures { PutsLine (N.written notes.old) (N.written notes.new) (N.faults notes.old)
+        (N.faults notes.new)
         (table_note name.now (TableFault.Width row)) }
 {
     let mut digits = Buffer::new();
@@ -165,7 +175,8 @@ fn put_table_fault<N: Sink>(
     more: &[u8],
     second: u64,
 )
-    ensures { PutsLine (N.written notes.old) (N.written notes.new) (N.faults notes.old) (N.faults notes.new)
+    ensures { PutsLine (N.written notes.old) (N.written notes.new) (N.faults notes.old)
+        (N.faults notes.new)
         (table_fault_note name.now words.now first more.now second) }
 {
     let mut first_digits = Buffer::new();
@@ -186,7 +197,8 @@ fn put_table_fault<N: Sink>(
 
 // Puts the fault of a table text.
 fn put_table<N: Sink>(notes: &mut N, name: &[u8], fault: &TableFault)
-    ensures { PutsLine (N.written notes.old) (N.written notes.new) (N.faults notes.old) (N.faults notes.new)
+    ensures { PutsLine (N.written notes.old) (N.written notes.new) (N.faults notes.old)
+        (N.faults notes.new)
         (table_note name.now fault.now) }
 {
     match *fault {
@@ -238,7 +250,8 @@ fn put_table<N: Sink>(notes: &mut N, name: &[u8], fault: &TableFault)
 
 // Puts what the words and the inputs are refused for.
 fn put_refused<N: Sink>(notes: &mut N, refused: &Refused)
-    ensures { PutsLine (N.written notes.old) (N.written notes.new) (N.faults notes.old) (N.faults notes.new)
+    ensures { PutsLine (N.written notes.old) (N.written notes.new) (N.faults notes.old)
+        (N.faults notes.new)
         (refused_note refused.now) }
 {
     match refused {
@@ -256,7 +269,8 @@ fn put_refused<N: Sink>(notes: &mut N, refused: &Refused)
 
 // Puts why no inputs were gathered.
 fn put_input<N: Sink>(notes: &mut N, refusal: &InputRefusal)
-    ensures { PutsLine (N.written notes.old) (N.written notes.new) (N.faults notes.old) (N.faults notes.new)
+    ensures { PutsLine (N.written notes.old) (N.written notes.new) (N.faults notes.old)
+        (N.faults notes.new)
         (input_note refusal.now) }
 {
     match refusal {
@@ -275,7 +289,8 @@ fn put_input<N: Sink>(notes: &mut N, refusal: &InputRefusal)
 
 // Puts that the text of this number was not answered.
 fn put_text_failed<N: Sink>(notes: &mut N, text: u64)
-    ensures { PutsLine (N.written notes.old) (N.written notes.new) (N.faults notes.old) (N.faults notes.new)
+    ensures { PutsLine (N.written notes.old) (N.written notes.new) (N.faults notes.old)
+        (N.faults notes.new)
         (server_note (ServerRefusal.TextFailed text)) }
 {
     let mut digits = Buffer::new();
@@ -285,7 +300,8 @@ fn put_text_failed<N: Sink>(notes: &mut N, text: u64)
 
 // Puts that an answer does not fit.
 fn put_bad_answer<N: Sink>(notes: &mut N, text: u64, row: u64, column: u64)
-    ensures { PutsLine (N.written notes.old) (N.written notes.new) (N.faults notes.old) (N.faults notes.new)
+    ensures { PutsLine (N.written notes.old) (N.written notes.new) (N.faults notes.old)
+        (N.faults notes.new)
         (server_note (ServerRefusal.BadAnswer text row column)) }
 {
     let mut text_digits = Buffer::new();
@@ -308,7 +324,8 @@ fn put_bad_answer<N: Sink>(notes: &mut N, text: u64, row: u64, column: u64)
 
 // Puts why a server gave no answer that fits.
 fn put_server<N: Sink>(notes: &mut N, refusal: &ServerRefusal)
-    ensures { PutsLine (N.written notes.old) (N.written notes.new) (N.faults notes.old) (N.faults notes.new)
+    ensures { PutsLine (N.written notes.old) (N.written notes.new) (N.faults notes.old)
+        (N.faults notes.new)
         (server_note refusal.now) }
 {
     match refusal {
@@ -330,7 +347,8 @@ fn put_server<N: Sink>(notes: &mut N, refusal: &ServerRefusal)
 
 // Puts the note line of a refusal.
 fn put_refusal<N: Sink>(notes: &mut N, refusal: &Refusal)
-    ensures { PutsLine (N.written notes.old) (N.written notes.new) (N.faults notes.old) (N.faults notes.new)
+    ensures { PutsLine (N.written notes.old) (N.written notes.new) (N.faults notes.old)
+        (N.faults notes.new)
         (note_of refusal.now) }
 {
     match refusal {
@@ -343,7 +361,8 @@ fn put_refusal<N: Sink>(notes: &mut N, refusal: &Refusal)
 
 /// Puts the note line of an answer, which is none but for a refusal.
 pub fn put_note<N: Sink>(notes: &mut N, answer: &Result<(), Refusal>)
-    ensures { Notes (N.written notes.old) (N.written notes.new) (N.faults notes.old) (N.faults notes.new) answer.now }
+    ensures { Notes (N.written notes.old) (N.written notes.new) (N.faults notes.old)
+        (N.faults notes.new) answer.now }
 {
     match answer {
         Ok(()) => {}

@@ -12,7 +12,8 @@ use nq_model::{ColumnType, List, Memory, Ty};
 use shred_types::{columns_at, paths};
 use std::alloc::Global;
 
-/// A line for each path of a type, in path order: the path, and the types of the columns of its answer.
+/// A line for each path of a type, in path order: the path, and the types of the columns of its
+/// answer.
 #[tactic(auto, unfolding(crate::specs::Paths::paths_text))]
 pub fn paths_text(alloc: Global, of: &Ty) -> Result<List<u8>, Memory>
     ensures { IfOk result (λ text. text ≡ paths_text (type_tree of.now)) }
@@ -26,7 +27,8 @@ pub fn paths_text(alloc: Global, of: &Ty) -> Result<List<u8>, Memory>
 // Puts the lines of paths.
 #[tactic(auto, using(crate::proofs::Appended::put_one))]
 fn put_lines(alloc: Global, text: &mut List<u8>, of: &Ty, paths: &List<Path>) -> Result<(), Memory>
-    ensures { OnOk result (text.new ≡ text.old ++ path_lines (type_tree of.now) (steps_of paths.now)) }
+    ensures { OnOk result (text.new
+        ≡ text.old ++ path_lines (type_tree of.now) (steps_of paths.now)) }
 {
     for at in 0..paths.len() {
         put_line(alloc, text, of, &paths.as_slice()[at])?;
@@ -47,7 +49,9 @@ fn put_line(alloc: Global, text: &mut List<u8>, of: &Ty, path: &Path) -> Result<
 
 // Puts the types of the columns of the element at a path.
 fn put_element(alloc: Global, text: &mut List<u8>, of: &Ty, path: &Path) -> Result<(), Memory>
-    ensures { OnOk result (text.new ≡ text.old ++ columns_text (element_columns (element_at (type_tree of.now) path.now.steps))) }
+    ensures { OnOk result (text.new
+        ≡ text.old ++ columns_text
+        (element_columns (element_at (type_tree of.now) path.now.steps))) }
 {
     let columns = columns_at(alloc, of, path)?;
     put_columns(text, behind_index(columns.as_slice()))

@@ -101,7 +101,8 @@ fn four_words<'a>(
     third: &'a str,
     fourth: &'a str,
 ) -> Option<Command<'a>>
-    ensures is { option_map command_view result ≡ four_words word.now second.now third.now fourth.now }
+    ensures is { option_map command_view result
+        ≡ four_words word.now second.now third.now fourth.now }
     ensures sized { IfSome result HasSize }
 {
     if word == "run" {
@@ -143,7 +144,8 @@ fn five_words<'a>(
 /// The command that words are, if they are one. It takes no memory.
 #[tactic(auto, unfolding(crate::specs::Commands::command_of))]
 pub fn command_of<'a>(words: &'a [String]) -> Option<Command<'a>>
-    ensures is { option_map command_view result ≡ command_of (map (λ word. string_bytes word) words.now) }
+    ensures is { option_map command_view result ≡ command_of (map
+        (λ word. string_bytes word) words.now) }
     ensures sized { IfSome result HasSize }
 {
     match words {

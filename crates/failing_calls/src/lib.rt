@@ -4,8 +4,8 @@
 ghost use Rattle.std.specs.Prelude.{◌≡◌};
 ghost use Rattle.failing_calls.specs.Calls.{is_listed, number_after};
 
-/// Whether the call after so many has a listed number. Calls are counted from 1, and after call 2^64 - 1 there is
-/// none that has a number.
+/// Whether the call after so many has a listed number. Calls are counted from 1, and after call
+/// 2^64 - 1 there is none that has a number.
 pub fn is_next_listed(listed: &[u64], calls: u64) -> bool
     ensures { result ≡ is_listed listed.now (number_after calls) }
 {

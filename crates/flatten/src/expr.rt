@@ -36,7 +36,9 @@ pub(crate) fn column(
     number: u64,
     column: &Label,
 ) -> Result<Expr, Memory>
-    ensures { IfOk result (λ made. expr_tree made ≡ cond outside (ExprTree.column let_alias (outer_column number column.now)) (ExprTree.column (alias number) column.now)) }
+    ensures { IfOk result (λ made.
+        expr_tree made ≡ cond outside (ExprTree.column let_alias (outer_column number column.now))
+        (ExprTree.column (alias number) column.now)) }
 {
     if outside {
         let alias = let_alias(alloc)?;
@@ -54,7 +56,8 @@ pub(crate) fn column(
     })
 }
 
-// How many levels are left below some more. The stack is memory, so a deeper tree is want of memory.
+// How many levels are left below some more. The stack is memory, so a deeper tree is want of
+// memory.
 fn below(levels: u64, more: usize) -> Result<u64, Memory> {
     match levels.checked_sub(more as u64) {
         Some(left) => Ok(left),
@@ -65,7 +68,8 @@ fn below(levels: u64, more: usize) -> Result<u64, Memory> {
 // Both hold.
 #[tactic(auto, using(crate::proofs::Built::binary_built))]
 fn both(alloc: Global, left: Expr, right: Expr) -> Result<Expr, Memory>
-    ensures { IfOk result (λ made. expr_tree made ≡ ExprTree.binary And (expr_tree left) (expr_tree right)) }
+    ensures { IfOk result (λ made.
+        expr_tree made ≡ ExprTree.binary And (expr_tree left) (expr_tree right)) }
 {
     Ok(Expr {
         place: 0,
@@ -81,7 +85,8 @@ fn both(alloc: Global, left: Expr, right: Expr) -> Result<Expr, Memory>
 #[cycle(expr)]
 #[tactic(auto, using(nq_ir::proofs::Forms::base_int, nq_ir::proofs::Forms::base_bool, nq_ir::proofs::Forms::base_text, nq_ir::proofs::Forms::base_column, nq_ir::proofs::Forms::base_unary, nq_ir::proofs::Forms::base_binary, nq_ir::proofs::Forms::base_choose, nq_ir::proofs::Forms::base_empty, nq_ir::proofs::Forms::base_count, nq_ir::proofs::Forms::base_sum, crate::proofs::Built::sum_built, crate::proofs::Built::int_built, crate::proofs::Built::bool_built, crate::proofs::Built::text_built, crate::proofs::Built::unary_built, crate::proofs::Built::binary_built, crate::proofs::Built::choose_built))]
 pub(crate) fn expr(alloc: Global, outer: &[Gen], base: &Base, levels: u64) -> Result<Expr, Memory>
-    ensures { IfOk result (λ made. expr_tree made ≡ base_expr (in_gens outer.now) (base_tree base.now)) }
+    ensures { IfOk result (λ made.
+        expr_tree made ≡ base_expr (in_gens outer.now) (base_tree base.now)) }
 {
     let levels = below(levels, 1)?;
     match base {
@@ -146,7 +151,10 @@ pub(crate) fn expr(alloc: Global, outer: &[Gen], base: &Base, levels: u64) -> Re
 #[cycle(expr)]
 #[tactic(auto, using(nq_ir::proofs::Forms::base_count, crate::proofs::Built::count_built))]
 fn count(alloc: Global, outer: &[Gen], test: &Test, levels: u64) -> Result<Expr, Memory>
-    ensures { IfOk result (λ made. expr_tree made ≡ ExprTree.total HowMany (test_picked (in_gens outer.now) (test_part test.now)).0 (test_picked (in_gens outer.now) (test_part test.now)).1 (ExprTree.int (pos 1))) }
+    ensures { IfOk result (λ made.
+        expr_tree made ≡ ExprTree.total HowMany
+        (test_picked (in_gens outer.now) (test_part test.now)).0
+        (test_picked (in_gens outer.now) (test_part test.now)).1 (ExprTree.int (pos 1))) }
 {
     let over = boxed(alloc, picked(alloc, outer, test, levels)?)?;
     Ok(Expr {
@@ -159,7 +167,8 @@ fn count(alloc: Global, outer: &[Gen], test: &Test, levels: u64) -> Result<Expr,
 #[cycle(expr)]
 #[tactic(auto, using(nq_ir::proofs::Forms::test_is, crate::proofs::Built::picked_built))]
 fn picked(alloc: Global, outer: &[Gen], test: &Test, levels: u64) -> Result<Picked, Memory>
-    ensures { IfOk result (λ made. picked_tree made ≡ test_picked (in_gens outer.now) (test_part test.now)) }
+    ensures { IfOk result (λ made.
+        picked_tree made ≡ test_picked (in_gens outer.now) (test_part test.now)) }
 {
     let from = sources(alloc, test.gens.as_slice())?;
     let keep = keep(alloc, outer, test.conds.as_slice(), levels)?;
@@ -170,7 +179,9 @@ fn picked(alloc: Global, outer: &[Gen], test: &Test, levels: u64) -> Result<Pick
 #[cycle(expr)]
 #[tactic(auto, using(crate::proofs::Built::bool_built, crate::proofs::Lists::no_tests, crate::proofs::Lists::some_tests))]
 fn emptiness(alloc: Global, outer: &[Gen], tests: &[Test], levels: u64) -> Result<Expr, Memory>
-    ensures { IfOk result (λ made. expr_tree made ≡ base_expr (in_gens outer.now) (BaseTree.empty (tests_of (map test_part tests.now)))) }
+    ensures { IfOk result (λ made.
+        expr_tree made ≡ base_expr (in_gens outer.now)
+        (BaseTree.empty (tests_of (map test_part tests.now)))) }
 {
     if tests.is_empty() {
         return Ok(Expr {
@@ -183,7 +194,8 @@ fn emptiness(alloc: Global, outer: &[Gen], tests: &[Test], levels: u64) -> Resul
 
 // No SELECT of a query has a row.
 fn not_exists(alloc: Global, selects: List<Select>) -> Result<Expr, Memory>
-    ensures { IfOk result (λ made. expr_tree made ≡ ExprTree.not_exists (query_from (map select_tree selects))) }
+    ensures { IfOk result (λ made.
+        expr_tree made ≡ ExprTree.not_exists (query_from (map select_tree selects))) }
 {
     let query = boxed(alloc, Query { selects })?;
     Ok(Expr {
@@ -200,7 +212,8 @@ fn selects(
     tests: &[Test],
     levels: u64,
 ) -> Result<List<Select>, Memory>
-    ensures { IfOk result (λ made. map select_tree made ≡ map (test_select (in_gens outer.now)) (map test_part tests.now)) }
+    ensures { IfOk result (λ made.
+        map select_tree made ≡ map (test_select (in_gens outer.now)) (map test_part tests.now)) }
 {
     let mut selects = List::with_capacity(alloc, tests.len())?;
     for test in tests {
@@ -212,7 +225,8 @@ fn selects(
 #[cycle(expr)]
 #[tactic(auto, using(nq_ir::proofs::Forms::test_is, crate::proofs::Lists::select_built))]
 fn test_select(alloc: Global, outer: &[Gen], test: &Test, levels: u64) -> Result<Select, Memory>
-    ensures { IfOk result (λ made. select_tree made ≡ test_select (in_gens outer.now) (test_part test.now)) }
+    ensures { IfOk result (λ made.
+        select_tree made ≡ test_select (in_gens outer.now) (test_part test.now)) }
 {
     let items = one_item(alloc)?;
     let from = sources(alloc, test.gens.as_slice())?;
@@ -225,8 +239,8 @@ fn test_select(alloc: Global, outer: &[Gen], test: &Test, levels: u64) -> Result
     })
 }
 
-/// What stands behind WHERE where these conditions are to hold, joined from the left, of at most so many
-/// levels.
+/// What stands behind WHERE where these conditions are to hold, joined from the left, of at most so
+/// many levels.
 #[cycle(expr)]
 pub(crate) fn keep(
     alloc: Global,
@@ -234,7 +248,8 @@ pub(crate) fn keep(
     conds: &[Base],
     levels: u64,
 ) -> Result<Option<Expr>, Memory>
-    ensures { IfOk result (λ made. keep_tree made ≡ conds_keep (in_gens outer.now) (conds_tree conds.now)) }
+    ensures { IfOk result (λ made.
+        keep_tree made ≡ conds_keep (in_gens outer.now) (conds_tree conds.now)) }
 {
     let levels = below(levels, conds.len())?;
     match conds.split_first() {

@@ -35,7 +35,8 @@ fn push_columns(
     number: u64,
     columns: &[(Label, ColumnType)],
 ) -> Result<(), Memory>
-    ensures { OnOk result (map expr_tree keys.new ≡ map expr_tree keys.old ++ column_exprs (in_gens outer.now) number columns.now) }
+    ensures { OnOk result (map expr_tree keys.new
+        ≡ map expr_tree keys.old ++ column_exprs (in_gens outer.now) number columns.now) }
 {
     let outside = is_in(outer, number);
     for named in columns {
@@ -52,7 +53,8 @@ fn push_keys(
     outer: &[Gen],
     gens: &[Gen],
 ) -> Result<(), Memory>
-    ensures { OnOk result (map expr_tree keys.new ≡ map expr_tree keys.old ++ gens_exprs schema.now.tables (in_gens outer.now) gens.now) }
+    ensures { OnOk result (map expr_tree keys.new
+        ≡ map expr_tree keys.old ++ gens_exprs schema.now.tables (in_gens outer.now) gens.now) }
 {
     for generator in gens {
         let columns = columns_of(schema, generator.table.as_str());
@@ -69,7 +71,9 @@ pub(crate) fn order_keys(
     outer: &[Gen],
     own: &[Gen],
 ) -> Result<List<Expr>, Memory>
-    ensures { IfOk result (λ keys. keys_tree keys ≡ order_keys (in_gens outer.now) (columns_in (column_names schema.now.tables) (outer.now ++ own.now))) }
+    ensures { IfOk result (λ keys.
+        keys_tree keys ≡ order_keys (in_gens outer.now)
+        (columns_in (column_names schema.now.tables) (outer.now ++ own.now))) }
 {
     let mut keys = List::new(alloc);
     push_keys(alloc, &mut keys, schema, outer, outer)?;
@@ -80,7 +84,12 @@ pub(crate) fn order_keys(
 // A column of a WITH query.
 #[tactic(auto, using(crate::proofs::Lists::plain_seen))]
 fn column_item(alloc: Global, number: u64, name: &Label) -> Result<Item, Memory>
-    ensures { IfOk result (λ item. item_view item ≡ (outer_column number name.now, plain (column_expr none_outer number name.now))) }
+    ensures { IfOk result (λ item.
+        item_view item ≡ (
+          outer_column number name.now,
+          plain
+              (column_expr none_outer number name.now),
+        )) }
 {
     let value = ItemValue::Plain(column(alloc, false, number, name)?);
     Ok(Item {
@@ -97,7 +106,8 @@ fn push_column_items(
     number: u64,
     columns: &[(Label, ColumnType)],
 ) -> Result<(), Memory>
-    ensures { OnOk result (map item_view items.new ≡ map item_view items.old ++ column_items number columns.now) }
+    ensures { OnOk result (map item_view items.new
+        ≡ map item_view items.old ++ column_items number columns.now) }
 {
     for named in columns {
         items.push(column_item(alloc, number, &named.0)?)?;
@@ -132,7 +142,10 @@ fn number_item(alloc: Global, keys: List<Expr>) -> Result<Item, Memory>
 /// The items of the WITH query of these generators: all their columns, and a number by them.
 #[tactic(auto, using(crate::proofs::Lists::let_done))]
 pub(crate) fn let_items(alloc: Global, schema: &Schema, gens: &[Gen]) -> Result<List<Item>, Memory>
-    ensures { IfOk result (λ items. items_tree items ≡ let_items (order_keys none_outer (columns_in (column_names schema.now.tables) gens.now)) (columns_in (column_names schema.now.tables) gens.now)) }
+    ensures { IfOk result (λ items.
+        items_tree items ≡ let_items
+        (order_keys none_outer (columns_in (column_names schema.now.tables) gens.now))
+        (columns_in (column_names schema.now.tables) gens.now)) }
 {
     let mut items = gens_items(alloc, schema, gens)?;
     let keys = order_keys(alloc, schema, &[], gens)?;

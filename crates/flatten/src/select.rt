@@ -17,13 +17,15 @@ use nq_model::{List, Memory, Schema};
 use sql_profile::{Expr, ExprNode, ItemValue, Select, Source};
 use std::alloc::Global;
 
-/// How many levels an expression has at most. The stack is memory, so a deeper one is want of memory.
+/// How many levels an expression has at most. The stack is memory, so a deeper one is want of
+/// memory.
 const DEEPEST: u64 = 2_000;
 
 // The let with a number, from 1, if there is one.
 #[tactic(auto, using(crate::proofs::Lists::let_found, crate::proofs::Lists::let_missing))]
 fn let_at(lets: &[LetQuery], number: u64) -> Option<&LetQuery>
-    ensures { MatchOption result (let_of (map let_tree lets.now) number ≡ no_let) (λ l. let_tree l.now ≡ let_of (map let_tree lets.now) number) }
+    ensures { MatchOption result (let_of (map let_tree lets.now) number ≡ no_let)
+        (λ l. let_tree l.now ≡ let_of (map let_tree lets.now) number) }
 {
     if number == 0 {
         return None;
@@ -94,7 +96,10 @@ fn strand_values(
     lets: &[LetQuery],
     part: &LetPart,
 ) -> Result<List<ItemValue>, Memory>
-    ensures { IfOk result (λ values. map value_tree values ≡ strand_values (column_names schema.now.tables) (around_number part.now.from) (strand_of (map let_tree lets.now) (part_tree part.now))) }
+    ensures { IfOk result (λ values.
+        map value_tree values
+        ≡ strand_values (column_names schema.now.tables) (around_number part.now.from)
+        (strand_of (map let_tree lets.now) (part_tree part.now))) }
 {
     let outer = gens_around(lets, part.from);
     let own = part.gens.as_slice();
@@ -122,7 +127,9 @@ pub(crate) fn part_select(
     lets: &[LetQuery],
     part: &LetPart,
 ) -> Result<Select, Memory>
-    ensures { IfOk result (λ made. select_tree made ≡ strand_select (column_names schema.now.tables) part.now.from (strand_of (map let_tree lets.now) (part_tree part.now))) }
+    ensures { IfOk result (λ made.
+        select_tree made ≡ strand_select (column_names schema.now.tables) part.now.from
+        (strand_of (map let_tree lets.now) (part_tree part.now))) }
 {
     let outer = gens_around(lets, part.from);
     let items = answer_items(alloc, strand_values(alloc, schema, lets, part)?)?;
@@ -139,7 +146,8 @@ pub(crate) fn part_select(
 /// The SELECT of a let.
 #[tactic(auto, using(crate::proofs::Lists::select_built))]
 pub(crate) fn let_select(alloc: Global, schema: &Schema, query: &LetQuery) -> Result<Select, Memory>
-    ensures { IfOk result (λ made. select_tree made ≡ let_select (column_names schema.now.tables) (let_tree query.now)) }
+    ensures { IfOk result (λ made.
+        select_tree made ≡ let_select (column_names schema.now.tables) (let_tree query.now)) }
 {
     let items = let_items(alloc, schema, query.gens.as_slice())?;
     let from = sources(alloc, query.gens.as_slice())?;

@@ -24,7 +24,8 @@ pub(crate) fn push_sources(
     sources: &mut List<Source>,
     gens: &[Gen],
 ) -> Result<(), Memory>
-    ensures { OnOk result (map bare_source sources.new ≡ map bare_source sources.old ++ map source_of gens.now) }
+    ensures { OnOk result (map bare_source sources.new
+        ≡ map bare_source sources.old ++ map source_of gens.now) }
 {
     for generator in gens {
         sources.push(source(alloc, generator)?)?;

@@ -33,7 +33,9 @@ fn query(selects: List<Select>) -> Query
 
 // The WITH query of the let with a number.
 fn with_query(alloc: Global, schema: &Schema, number: u64, from: &LetQuery) -> Result<With, Memory>
-    ensures { IfOk result (λ made. with_tree made ∷ [] ≡ withs_from (column_names schema.now.tables) number (let_tree from.now ∷ [])) }
+    ensures { IfOk result (λ made.
+        with_tree made ∷ [] ≡ withs_from (column_names schema.now.tables) number
+        (let_tree from.now ∷ [])) }
 {
     let name = with_name(alloc, number)?;
     let mut selects = List::with_capacity(alloc, 1)?;
@@ -47,7 +49,9 @@ fn with_query(alloc: Global, schema: &Schema, number: u64, from: &LetQuery) -> R
 
 // The WITH queries of the lets, in order.
 fn withs(alloc: Global, schema: &Schema, lets: &[LetQuery]) -> Result<List<With>, Memory>
-    ensures { IfOk result (λ made. map with_tree made ≡ withs_from (column_names schema.now.tables) 1 (map let_tree lets.now)) }
+    ensures { IfOk result (λ made.
+        map with_tree made ≡ withs_from (column_names schema.now.tables) 1
+        (map let_tree lets.now)) }
 {
     let mut withs = List::with_capacity(alloc, lets.len())?;
     for (index, from) in lets.iter().enumerate() {
@@ -81,7 +85,10 @@ fn part_selects(
     lets: &[LetQuery],
     parts: &[LetPart],
 ) -> Result<List<Select>, Memory>
-    ensures { IfOk result (λ made. map select_tree made ≡ map (part_strand_select (column_names schema.now.tables) (map let_tree lets.now)) (map part_tree parts.now)) }
+    ensures { IfOk result (λ made.
+        map select_tree made ≡ map
+        (part_strand_select (column_names schema.now.tables) (map let_tree lets.now))
+        (map part_tree parts.now)) }
 {
     let mut selects = List::with_capacity(alloc, parts.len())?;
     for part in parts {
@@ -99,7 +106,10 @@ fn main_selects(
     lets: &[LetQuery],
     parts: &[LetPart],
 ) -> Result<List<Select>, Memory>
-    ensures { IfOk result (λ made. query_from (map select_tree made) ≡ main_query (column_names schema.now.tables) columns.now (map let_tree lets.now) (map part_tree parts.now)) }
+    ensures { IfOk result (λ made.
+        query_from (map select_tree made)
+        ≡ main_query (column_names schema.now.tables) columns.now (map let_tree lets.now)
+        (map part_tree parts.now)) }
 {
     if parts.is_empty() {
         let mut selects = List::with_capacity(alloc, 1)?;
@@ -109,13 +119,13 @@ fn main_selects(
     part_selects(alloc, schema, lets, parts)
 }
 
-/// The SQL tree of a let form over a schema, whose answer has these columns: a WITH query for each let, and
-/// the SELECTs of its parts joined by UNION ALL. Its places are 0. The only error is that memory wants, as
-/// for an expression of more than 2,000 levels.
+/// The SQL tree of a let form over a schema, whose answer has these columns: a WITH query for each
+/// let, and the SELECTs of its parts joined by UNION ALL. Its places are 0. Fails only if memory
+/// runs out, as for an expression of more than 2,000 levels.
 ///
-/// Where the form is that of a shredded form over a proper schema, and the columns are those at its path, the tree is
-/// well scoped with these columns, and each answer that SQL allows to it is, laid out in columns, one that the form
-/// allows, however ties are numbered.
+/// Where the form is that of a shredded form over a proper schema, and the columns are those at its
+/// path, the tree is well scoped with these columns, and each answer that SQL allows to it is, laid
+/// out in columns, one that the form allows, however ties are numbered.
 ///
 /// After Cheney, Lindley and Wadler, "Query Shredding", SIGMOD 2014.
 pub fn flatten(
@@ -124,15 +134,23 @@ pub fn flatten(
     form: &LetForm,
     columns: &[ColumnType],
 ) -> Result<SqlText, Memory>
-    ensures is { IfOk result (λ text. sql_tree text ≡ emitted (column_names schema.now.tables) columns.now (let_form_tree form.now)) }
-    ensures scoped { IfOk result (λ text. IsProperSchema schema.now → IsLetFormOf schema.now (let_form_tree form.now)
+    ensures is { IfOk result (λ text.
+        sql_tree text ≡ emitted (column_names schema.now.tables) columns.now
+        (let_form_tree form.now)) }
+    ensures scoped { IfOk result
+        (λ text. IsProperSchema schema.now → IsLetFormOf schema.now (let_form_tree form.now)
         → columns.now ≡ answer_columns (let_form_tree form.now).element
-        → IsWellScoped (shapes_of_schema schema.now.tables) (sql_tree text) (answer_shape columns.now)) }
-    ensures rows { IfOk result (λ text. IsProperSchema schema.now → IsLetFormOf schema.now (let_form_tree form.now)
+        → IsWellScoped (shapes_of_schema schema.now.tables) (sql_tree text)
+        (answer_shape columns.now)) }
+    ensures rows { IfOk result
+        (λ text. IsProperSchema schema.now → IsLetFormOf schema.now (let_form_tree form.now)
         → columns.now ≡ answer_columns (let_form_tree form.now).element
         → (tables : List (List (List Cell))) → AreTablesOf schema.now.tables tables
-        → (answer : List (List Cell)) → TreeAllows (held_of schema.now.tables tables) (sql_tree text) answer
-        → (rows : List FlatRow) × FormGives (column_names schema.now.tables) (rows_in (database schema.now.tables tables)) (let_form_tree form.now) rows
+        → (answer : List (List Cell))
+        → TreeAllows (held_of schema.now.tables tables) (sql_tree text) answer
+        → (rows : List FlatRow)
+        × FormGives (column_names schema.now.tables) (rows_in (database schema.now.tables tables))
+        (let_form_tree form.now) rows
         × (answer ≡ map (row_cells (let_form_tree form.now).element) rows)) }
 {
     let text = text_of(alloc, schema, form, columns)?;
@@ -146,7 +164,9 @@ fn text_of(
     form: &LetForm,
     columns: &[ColumnType],
 ) -> Result<SqlText, Memory>
-    ensures { IfOk result (λ text. sql_tree text ≡ emitted (column_names schema.now.tables) columns.now (let_form_tree form.now)) }
+    ensures { IfOk result (λ text.
+        sql_tree text ≡ emitted (column_names schema.now.tables) columns.now
+        (let_form_tree form.now)) }
 {
     let lets = form.lets.as_slice();
     let withs = withs(alloc, schema, lets)?;

@@ -31,8 +31,8 @@ pub(crate) fn number(number: u64) -> Result<ItemValue, Memory>
     }
 }
 
-/// Puts the values of the element columns of a shape at the end. An index is the tag and a number by all
-/// columns of the generators that stand outside and of their own.
+/// Puts the values of the element columns of a shape at the end. An index is the tag and a number
+/// by all columns of the generators that stand outside and of their own.
 #[cycle(values)]
 #[tactic(auto, using(nq_ir::proofs::Forms::shape_plain, nq_ir::proofs::Forms::shape_rec, nq_ir::proofs::Forms::shape_index, crate::proofs::Lists::plain_seen, crate::proofs::Lists::number_seen))]
 pub(crate) fn push_values(
@@ -45,7 +45,12 @@ pub(crate) fn push_values(
     shape: &Shape,
     levels: u64,
 ) -> Result<(), Memory>
-    ensures { OnOk result (map value_tree values.new ≡ map value_tree values.old ++ shape_values (in_gens outer.now) tag (order_keys (in_gens outer.now) (columns_in (column_names schema.now.tables) (outer.now ++ own.now))) (shape_tree shape.now)) }
+    ensures { OnOk result (map value_tree values.new
+        ≡ map value_tree values.old
+        ++ shape_values (in_gens outer.now) tag
+        (order_keys (in_gens outer.now)
+        (columns_in (column_names schema.now.tables) (outer.now ++ own.now)))
+        (shape_tree shape.now)) }
 {
     match shape {
         Shape::Plain(base) => values.push(ItemValue::Plain(expr(alloc, outer, base, levels)?)),
@@ -72,7 +77,12 @@ fn push_fields(
     fields: &[(Label, Shape)],
     levels: u64,
 ) -> Result<(), Memory>
-    ensures { OnOk result (map value_tree values.new ≡ map value_tree values.old ++ shapes_values (in_gens outer.now) tag (order_keys (in_gens outer.now) (columns_in (column_names schema.now.tables) (outer.now ++ own.now))) (shapes_of (shapes_view fields.now))) }
+    ensures { OnOk result (map value_tree values.new
+        ≡ map value_tree values.old
+        ++ shapes_values (in_gens outer.now) tag
+        (order_keys (in_gens outer.now)
+        (columns_in (column_names schema.now.tables) (outer.now ++ own.now)))
+        (shapes_of (shapes_view fields.now))) }
 {
     for field in fields {
         push_values(alloc, values, schema, outer, own, tag, &field.1, levels)?;
@@ -106,7 +116,8 @@ pub(crate) fn zeros(alloc: Global, columns: &[ColumnType]) -> Result<List<ItemVa
 
 // Puts a value at the end, under the name of its column.
 fn push_item(alloc: Global, items: &mut List<Item>, value: ItemValue) -> Result<(), Memory>
-    ensures { OnOk result (map item_view items.new ≡ map item_view items.old ++ (answer_name (length items.old), value_tree value) ∷ []) }
+    ensures { OnOk result (map item_view items.new
+        ≡ map item_view items.old ++ (answer_name (length items.old), value_tree value) ∷ []) }
 {
     let name = answer_name(alloc, items.len())?;
     items.push(Item {

@@ -7,14 +7,16 @@ ghost use Rattle.foreign_answers.specs.Columns.{tags_of, with_part, with_parts};
 use nq_model::{Label, List, Memory, Ty};
 use std::alloc::Global;
 
-// How far an element is gone through: the next column, counted from 1, and those of the tags so far.
+// How far an element is gone through: the next column, counted from 1, and those of the tags so
+// far.
 #[derive(Drop)]
 struct Tags {
     next: u64,
     columns: List<u64>,
 }
 
-/// For each path of a type, in path order, the columns of the tags of the inner bags, in label order.
+/// For each path of a type, in path order, the columns of the tags of the inner bags, in label
+/// order.
 pub(crate) fn columns_of(alloc: Global, of: &Ty) -> Result<List<List<u64>>, Memory>
     ensures { IfOk result (λ columns. columns ≡ map tags_of (element_types (type_tree of.now))) }
 {

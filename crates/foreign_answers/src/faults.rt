@@ -2,7 +2,8 @@
 use nq_model::Memory;
 use thiserror::Error;
 
-/// Why the text of an answer is refused. Rows and columns are counted from 1, and the header is no row.
+/// Why the text of an answer is refused. Rows and columns are counted from 1, and the header is no
+/// row.
 #[derive(Clone, Copy, Debug, PartialEq, Eq, Error)]
 pub enum AnswerFault {
     /// Too little memory, at any text.
@@ -48,7 +49,8 @@ pub enum LinkFault {
         text: u64,
         row: u64,
     },
-    /// A row gives an inner bag, with its tag in this column, by the index of an earlier row, the first that has it.
+    /// A row gives an inner bag, with its tag in this column, by the index of an earlier row, the
+    /// first that has it.
     #[error("row {row} of answer {text} has in column {column} the index of row {earlier}")]
     Twice {
         text: u64,

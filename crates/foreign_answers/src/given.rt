@@ -7,7 +7,8 @@ use nq_model::Memory;
 use std::alloc::Global;
 use std::hash::Hash;
 
-/// The indexes that the rows of an answer give for inner bags, each with the number of the first row that gives it.
+/// The indexes that the rows of an answer give for inner bags, each with the number of the first
+/// row that gives it.
 #[derive(Drop)]
 pub(crate) struct Given<I: Eq + Hash> {
     // By the number of the inner bag and the index.
@@ -24,8 +25,8 @@ impl<I: Eq + Hash + Drop> Given<I> {
         }
     }
 
-    /// Enters the index that a row gives for an inner bag, in place of the row that was entered with it. Tells the
-    /// number of that row, if there is one.
+    /// Enters the index that a row gives for an inner bag, in place of the row that was entered
+    /// with it. Tells the number of that row, if there is one.
     pub(crate) fn enter(&mut self, slot: u64, index: I, row: u64) -> Result<Option<u64>, Memory>
         ensures earlier { IfOk result (λ earlier. earlier
             ≡ first_given I.eq self.old.firsts slot index) }

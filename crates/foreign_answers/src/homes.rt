@@ -7,8 +7,8 @@ ghost use Rattle.stitcher.specs.Linked.{homes, homes_in, homes_fields};
 use nq_model::{Label, List, Memory, Ty};
 use std::alloc::Global;
 
-/// For each path of a type, in path order, the path of the element in which its bag stands, and which of the inner
-/// bags of that element it is.
+/// For each path of a type, in path order, the path of the element in which its bag stands, and
+/// which of the inner bags of that element it is.
 pub(crate) fn homes_of(alloc: Global, of: &Ty) -> Result<List<(u64, u64)>, Memory>
     ensures { IfOk result (λ all. all ≡ homes (type_tree of.now)) }
 {
@@ -17,8 +17,8 @@ pub(crate) fn homes_of(alloc: Global, of: &Ty) -> Result<List<(u64, u64)>, Memor
     Ok(all)
 }
 
-// Puts the homes of the paths inside a part of the element at a path, behind so many inner bags. Tells how many are
-// behind the part.
+// Puts the homes of the paths inside a part of the element at a path, behind so many inner bags.
+// Tells how many are behind the part.
 #[cycle(homes)]
 #[tactic(auto, using(nq_model::proofs::Terms::type_of_record))]
 fn push_homes(part: &Ty, path: u64, slot: u64, all: &mut List<(u64, u64)>) -> Result<u64, Memory>

@@ -92,7 +92,8 @@ impl<'a, S: IndexScheme> Judge<'a, S> {
         })
     }
 
-    // Judges a row by the indexes that it gives for its inner bags, and enters them after those of the rows before.
+    // Judges a row by the indexes that it gives for its inner bags, and enters them after those of
+    // the rows before.
     fn inner(
         &self,
         alloc: Global,
@@ -134,7 +135,8 @@ impl<'a, S: IndexScheme> Judge<'a, S> {
         Ok(())
     }
 
-    // Judges the answer at a path, where those of the paths before are judged. Gives the indexes that its rows give.
+    // Judges the answer at a path, where those of the paths before are judged. Gives the indexes
+    // that its rows give.
     fn answer(
         &self,
         alloc: Global,

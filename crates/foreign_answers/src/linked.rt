@@ -17,12 +17,12 @@ use sql_profile::Answer;
 use std::alloc::Global;
 use stitcher::FlatNumbers;
 
-/// Whether the answers of a bag type are linked by tag and number: each row stands in a bag that a row of the enclosing
-/// answer gives, or in the whole value at the empty path, and no two rows of an answer give one inner bag by the same
-/// index.
+/// Whether the answers of a bag type are linked by tag and number: each row stands in a bag that a
+/// row of the enclosing answer gives, or in the whole value at the empty path, and no two rows of
+/// an answer give one inner bag by the same index.
 ///
-/// A fault is the first in path order and row order, of a row first by the bag that it stands in, then by its inner
-/// bags in label order. `LinkFault::Memory` alone may come at any answers.
+/// A fault is the first in path order and row order, of a row first by the bag that it stands in,
+/// then by its inner bags in label order. `LinkFault::Memory` alone may come at any answers.
 pub fn links(alloc: Global, of: &Ty, answers: &List<Answer>) -> Result<(), LinkFault>
     requires bag { (element : TypeTree) × (type_tree of.now ≡ bag element) }
     requires answers { AreAnswersOf (flat_numbers

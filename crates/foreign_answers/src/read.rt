@@ -45,12 +45,12 @@ fn fault_of(fault: TableFault) -> AnswerFault
     }
 }
 
-/// The rows that a text gives an answer with columns of these types, the two of the outer index first. The text is
-/// that of a table without a key whose columns are called `ot`, `on`, `c1`, `c2` and so on: CSV under a header of
-/// these names.
+/// The rows that a text gives an answer with columns of these types, the two of the outer index
+/// first. The text is that of a table without a key whose columns are called `ot`, `on`, `c1`, `c2`
+/// and so on: CSV under a header of these names.
 ///
-/// A fault is the first in reading order: the header, then row by row the number of cells and the cells from the
-/// left. `AnswerFault::Memory` alone may come at any text.
+/// A fault is the first in reading order: the header, then row by row the number of cells and the
+/// cells from the left. `AnswerFault::Memory` alone may come at any text.
 pub fn read_answer(
     alloc: Global,
     columns: &[ColumnType],

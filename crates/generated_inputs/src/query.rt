@@ -51,7 +51,8 @@ fn single(alloc: Global, element: Term) -> Result<Term, Memory>
 
 // The bag of one element where two terms are equal, and the empty one else.
 fn where_equal(alloc: Global, left: Term, right: Term, element: Term) -> Result<Term, Memory>
-    ensures { IfOk result (λ term. placed term ≡ where_equal (placed left) (placed right) (placed element)) }
+    ensures { IfOk result (λ term.
+        placed term ≡ where_equal (placed left) (placed right) (placed element)) }
 {
     let test = unplaced(Node::Binary {
         op: Binary::Eq,
@@ -68,7 +69,8 @@ fn where_equal(alloc: Global, left: Term, right: Term, element: Term) -> Result<
 // The record of two fields.
 #[tactic(auto, using(nq_model::proofs::Terms::node_record))]
 fn record_of(alloc: Global, first: (Label, Term), second: (Label, Term)) -> Result<Term, Memory>
-    ensures { IfOk result (λ term. placed term ≡ record_of ((first.0, placed first.1) ∷ (second.0, placed second.1) ∷ [])) }
+    ensures { IfOk result (λ term.
+        placed term ≡ record_of ((first.0, placed first.1) ∷ (second.0, placed second.1) ∷ [])) }
 {
     let mut fields = List::new(alloc);
     fields.push(first)?;
@@ -130,7 +132,8 @@ fn department_element(alloc: Global) -> Result<Term, Memory>
     )
 }
 
-/// The query, whatever the size: each department with its employees, and each of those with their tasks.
+/// The query, whatever the size: each department with its employees, and each of those with their
+/// tasks.
 #[tactic(auto, unfolding(crate::specs::Generated::generated_query), using(crate::proofs::ProperQuery::query_rules))]
 pub fn generated_query(alloc: Global) -> Result<Term, Memory>
     ensures is { IfOk result (λ term. placed term ≡ generated_query) }

@@ -8,7 +8,8 @@ use std::alloc::Global;
 
 // A table of these columns, without a key.
 fn keyless(alloc: Global, name: &str, columns: &[(&str, ColumnType)]) -> Result<TableShape, Memory>
-    ensures { IfOk result (λ shape. shape ≡ keyless name.now (map (λ column. (column.0.now, column.1)) columns.now)) }
+    ensures { IfOk result (λ shape.
+        shape ≡ keyless name.now (map (λ column. (column.0.now, column.1)) columns.now)) }
 {
     let mut named = List::with_capacity(alloc, columns.len())?;
     for column in columns {

@@ -7,7 +7,8 @@ use lexical::{digits_len, value_of};
 // The greatest size.
 const GREATEST: u64 = 5000;
 
-/// The size that a word names: digits alone, of which the first is not 0, that spell a number from 1 to 5000.
+/// The size that a word names: digits alone, of which the first is not 0, that spell a number from
+/// 1 to 5000.
 #[tactic(auto, using(crate::proofs::Sizes::size_rules))]
 pub fn size_of(word: &str) -> Option<u64>
     ensures size { result ≡ size_of word.now }

@@ -100,7 +100,8 @@ fn in_schema_order(alloc: Global, size: u64) -> Result<List<Loaded>, Memory>
     Ok(tables)
 }
 
-/// The tables of a size, in the order of the schema, as a server is loaded with them. The only error is that memory wants.
+/// The tables of a size, in the order of the schema, as a server is loaded with them. Fails only if
+/// memory runs out.
 pub fn generated_tables(alloc: Global, size: u64) -> Result<List<Loaded>, Memory>
     requires { IsSize size }
     ensures is { IfOk result (λ tables. tables ≡ generated_tables size) }

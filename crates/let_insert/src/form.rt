@@ -10,8 +10,9 @@ use nq_ir::{LetForm, Shredded};
 use nq_model::Memory;
 use std::alloc::Global;
 
-/// The let form of a shredded form: one let for each parent that has a strand, in the order of the parents, and none
-/// for the parent 0; each strand is a part on its parent's let, in the same order. The only error is that memory wants.
+/// The let form of a shredded form: one let for each parent that has a strand, in the order of the
+/// parents, and none for the parent 0; each strand is a part on its parent's let, in the same
+/// order. Fails only if memory runs out.
 ///
 /// After the let-insertion of Cheney, Lindley and Wadler, "Query Shredding", SIGMOD 2014.
 pub fn insert_lets(alloc: Global, shredded: &Shredded) -> Result<LetForm, Memory>

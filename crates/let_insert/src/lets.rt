@@ -9,7 +9,8 @@ use std::alloc::Global;
 
 /// A let for each run of strands with one parent, but none for the parent 0 at the front.
 pub fn lets_of(alloc: Global, strands: &[&Strand]) -> Result<List<LetQuery>, Memory>
-    ensures { IfOk result (λ lets. map let_tree lets ≡ lets_after 0 (map (λ d. strand_tree d.now) strands.now)) }
+    ensures { IfOk result (λ lets.
+        map let_tree lets ≡ lets_after 0 (map (λ d. strand_tree d.now) strands.now)) }
 {
     let mut lets = List::new(alloc);
     let mut last = 0;

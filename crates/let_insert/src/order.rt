@@ -9,7 +9,8 @@ use std::alloc::Global;
 
 /// The strands in the order of their parents, those of one parent as they stand.
 pub fn in_parent_order<'a>(alloc: Global, strands: &'a [Strand]) -> Result<Vec<&'a Strand>, Memory>
-    ensures { IfOk result (λ sorted. map (λ d. strand_tree d.now) sorted.items ≡ by_parent (map strand_tree strands.now)) }
+    ensures { IfOk result (λ sorted. map
+        (λ d. strand_tree d.now) sorted.items ≡ by_parent (map strand_tree strands.now)) }
 {
     let mut sorted = lent(alloc, strands)?;
     sorted.sort_by(|left, right| left.parent.cmp(&right.parent))?;

@@ -36,7 +36,8 @@ fn part(alloc: Global, strand: &Strand, from: u64) -> Result<LetPart, Memory>
 // The number of a parent's let, from 1; 0 for the parent 0, which has none.
 fn let_number(parents: &[u64], parent: u64) -> u64
     requires { IsRising parents.now }
-    ensures { (lets : List LetTree) → map (λ l. l.parent) lets ≡ parents.now → result ≡ let_number lets parent }
+    ensures { (lets : List LetTree) → map (λ l. l.parent) lets ≡ parents.now
+        → result ≡ let_number lets parent }
 {
     if parent == 0 {
         return 0;

@@ -9,7 +9,8 @@ const GREATEST: u64 = 9223372036854775807;
 /// The number that digits spell, unless it is above the greatest, 9223372036854775807.
 pub fn value_of(digits: &[u8]) -> Option<u64>
     requires { All IsDigit digits.now }
-    ensures { MatchOption result (GREATEST < value_from 0 digits.now) (λ value. (value ≤ GREATEST) × (value ≡ value_from 0 digits.now)) }
+    ensures { MatchOption result (GREATEST < value_from 0 digits.now)
+        (λ value. (value ≤ GREATEST) × (value ≡ value_from 0 digits.now)) }
 {
     let mut value: u64 = 0;
     for digit in digits {

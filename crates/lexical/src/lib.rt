@@ -1,4 +1,5 @@
-//! What stands at the front of a text, as far as the languages share it: white space, words, numbers, literals.
+//! What stands at the front of a text, as far as the languages share it: white space, words,
+//! numbers, literals.
 #![tactic(auto)]
 
 mod bytes;

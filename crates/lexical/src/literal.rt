@@ -4,7 +4,8 @@ ghost use Rattle.nq_model.specs.QueryTokens.{literal_len};
 
 use crate::bytes::is_quote;
 
-// Whether a literal ends before a byte: the byte before is a quote that closes, unless this is one too.
+// Whether a literal ends before a byte: the byte before is a quote that closes, unless this is one
+// too.
 fn ends(after_quote: bool, is_quote: bool) -> bool
     ensures { result ≡ (after_quote && not is_quote) }
 {
@@ -18,7 +19,8 @@ fn may_close(after_quote: bool, is_quote: bool) -> bool
     !after_quote && is_quote
 }
 
-/// How many bytes stand up to the quote that closes a literal, with this quote. A doubled quote closes none.
+/// How many bytes stand up to the quote that closes a literal, with this quote. A doubled quote
+/// closes none.
 pub fn literal_len(bytes: &[u8]) -> Option<usize>
     ensures { result ≡ literal_len false bytes.now }
 {

@@ -22,9 +22,9 @@ fn undoubled(alloc: Global, spelled: &[u8]) -> Result<Vec<u8>, Memory>
     Ok(bytes)
 }
 
-/// The text that a literal spells between its quotes. A literal that was read has its quotes in twos, so its
-/// text is UTF-8. `Memory` where there is too little memory, or the quotes are not in twos so that no UTF-8 is
-/// left.
+/// The text that a literal spells between its quotes. A literal that was read has its quotes in
+/// twos, so its text is UTF-8. `Memory` where there is too little memory, or the quotes are not in
+/// twos so that no UTF-8 is left.
 pub fn unquoted(alloc: Global, spelled: &str) -> Result<Text, Memory>
     ensures { IfOk result (λ text. text ≡ undoubled false spelled.now) }
 {

@@ -13,7 +13,8 @@ use nq_model::{Binary, Memory, Unary};
 #[cycle(put_base)]
 #[tactic(auto, using(nq_ir::proofs::Forms::base_empty, crate::proofs::Joined::named_count))]
 pub(crate) fn put_base(text: &mut String, base: &Base) -> Result<(), Memory>
-    ensures { OnOk result (string_bytes text.new ≡ string_bytes text.old ++ text_of (named_base (base_tree base.now))) }
+    ensures { OnOk result (string_bytes text.new
+        ≡ string_bytes text.old ++ text_of (named_base (base_tree base.now))) }
 {
     match base {
         Base::Int(number) => Ok(write!(text, "{number}")?),
@@ -54,7 +55,8 @@ pub(crate) fn put_base(text: &mut String, base: &Base) -> Result<(), Memory>
 // The term where a level is asked for: in parentheses where its own is weaker.
 #[cycle(put_base)]
 fn put_base_at(text: &mut String, base: &Base, asked: u64) -> Result<(), Memory>
-    ensures { OnOk result (string_bytes text.new ≡ string_bytes text.old ++ text_at asked (named_base (base_tree base.now))) }
+    ensures { OnOk result (string_bytes text.new
+        ≡ string_bytes text.old ++ text_at asked (named_base (base_tree base.now))) }
 {
     if asked <= base_level(base) {
         put_base(text, base)
@@ -110,7 +112,8 @@ pub(crate) fn put_gens(text: &mut String, gens: &[Gen]) -> Result<(), Memory>
 // `where (X) `, if there are conditions.
 #[cycle(put_base)]
 pub(crate) fn put_where(text: &mut String, conds: &[Base]) -> Result<(), Memory>
-    ensures { OnOk result (string_bytes text.new ≡ string_bytes text.old ++ where_text (conds_tree conds.now)) }
+    ensures { OnOk result (string_bytes text.new
+        ≡ string_bytes text.old ++ where_text (conds_tree conds.now)) }
 {
     if conds.is_empty() {
         return Ok(());
@@ -126,7 +129,8 @@ pub(crate) fn put_where(text: &mut String, conds: &[Base]) -> Result<(), Memory>
 #[cycle(put_base)]
 fn put_empty(text: &mut String, tests: &[Test]) -> Result<(), Memory>
     ensures { OnOk result (string_bytes text.new
-        ≡ string_bytes text.old ++ text_of (aggregate Emptiness (named_tests (tests_of (map test_part tests.now))))) }
+        ≡ string_bytes text.old
+        ++ text_of (aggregate Emptiness (named_tests (tests_of (map test_part tests.now))))) }
 {
     text.push_str("empty(")?;
     put_tests(text, tests)?;
@@ -136,7 +140,8 @@ fn put_empty(text: &mut String, tests: &[Test]) -> Result<(), Memory>
 
 #[cycle(put_base)]
 fn put_count(text: &mut String, test: &Test) -> Result<(), Memory>
-    ensures { OnOk result (string_bytes text.new ≡ string_bytes text.old ++ text_of (aggregate Count (test_term test.now))) }
+    ensures { OnOk result (string_bytes text.new
+        ≡ string_bytes text.old ++ text_of (aggregate Count (test_term test.now))) }
 {
     text.push_str("count(")?;
     put_test(text, test)?;
@@ -171,7 +176,8 @@ fn put_summed(text: &mut String, value: &Base) -> Result<(), Memory>
 // The comprehensions of a test in a union; of none the empty bag of records without fields.
 #[cycle(put_base)]
 fn put_tests(text: &mut String, tests: &[Test]) -> Result<(), Memory>
-    ensures { OnOk result (string_bytes text.new ≡ string_bytes text.old ++ text_of (named_tests (tests_of (map test_part tests.now)))) }
+    ensures { OnOk result (string_bytes text.new
+        ≡ string_bytes text.old ++ text_of (named_tests (tests_of (map test_part tests.now)))) }
 {
     if tests.is_empty() {
         return Ok(text.push_str("[: ()]")?);
@@ -186,7 +192,8 @@ fn put_tests(text: &mut String, tests: &[Test]) -> Result<(), Memory>
 // The comprehension where a level is asked for: in parentheses where its own is weaker.
 #[cycle(put_base)]
 fn put_test_at(text: &mut String, test: &Test, asked: u64) -> Result<(), Memory>
-    ensures { OnOk result (string_bytes text.new ≡ string_bytes text.old ++ text_at asked (test_term test.now)) }
+    ensures { OnOk result (string_bytes text.new
+        ≡ string_bytes text.old ++ text_at asked (test_term test.now)) }
 {
     if asked <= comp_level(test.gens.as_slice(), test.conds.as_slice()) {
         put_test(text, test)
@@ -201,7 +208,8 @@ fn put_test_at(text: &mut String, test: &Test, asked: u64) -> Result<(), Memory>
 // A comprehension of a test or a count gives records without fields.
 #[cycle(put_base)]
 fn put_test(text: &mut String, test: &Test) -> Result<(), Memory>
-    ensures { OnOk result (string_bytes text.new ≡ string_bytes text.old ++ text_of (test_term test.now)) }
+    ensures { OnOk result (string_bytes text.new
+        ≡ string_bytes text.old ++ text_of (test_term test.now)) }
 {
     put_gens(text, test.gens.as_slice())?;
     put_where(text, test.conds.as_slice())?;

@@ -10,7 +10,8 @@ use nq_model::{Label, Memory};
 
 // `nq 2; `, where a count or a sum stands in the form.
 pub(crate) fn put_header(text: &mut String, normal: &Normal) -> Result<(), Memory>
-    ensures { OnOk result (string_bytes text.new ≡ string_bytes text.old ++ header_text (form_tree normal.now)) }
+    ensures { OnOk result (string_bytes text.new
+        ≡ string_bytes text.old ++ header_text (form_tree normal.now)) }
 {
     if form_has_total(normal) {
         text.push_str("nq 2; ")?;
@@ -59,7 +60,8 @@ fn body_has_total(body: &Body) -> bool
 
 #[cycle(form_has_total)]
 fn fields_have_total(fields: &[(Label, Body)]) -> bool
-    ensures { result ≡ have_total (named_fields (bodies_of (map (λ f. (f.0, body_tree f.1)) fields.now))) }
+    ensures { result ≡ have_total
+        (named_fields (bodies_of (map (λ f. (f.0, body_tree f.1)) fields.now))) }
 {
     for field in fields {
         if body_has_total(&field.1) {

@@ -1,4 +1,5 @@
-//! Normal forms as query texts: generator k is `xk`, and parentheses stand where a part is weaker than its place asks.
+//! Normal forms as query texts: generator k is `xk`, and parentheses stand where a part is weaker
+//! than its place asks.
 #![tactic(auto)]
 
 mod bases;

@@ -21,7 +21,8 @@ use nq_model::{Label, List, Memory, Ty};
 use std::alloc::Global;
 
 fn put_no_comp(text: &mut String, element: &Ty) -> Result<(), Memory>
-    ensures { OnOk result (string_bytes text.new ≡ string_bytes text.old ++ text_of (nil (type_tree element.now))) }
+    ensures { OnOk result (string_bytes text.new
+        ≡ string_bytes text.old ++ text_of (nil (type_tree element.now))) }
 {
     text.push_str("[: ")?;
     put_type(text, element)?;
@@ -61,7 +62,8 @@ fn put_comp(text: &mut String, comp: &Comp) -> Result<(), Memory>
 #[cycle(put_form)]
 #[tactic(auto, using(nq_ir::proofs::Forms::body_plain, nq_ir::proofs::Forms::body_rec, nq_ir::proofs::Forms::body_bag))]
 fn put_body(text: &mut String, body: &Body) -> Result<(), Memory>
-    ensures { OnOk result (string_bytes text.new ≡ string_bytes text.old ++ text_of (named_body (body_tree body.now))) }
+    ensures { OnOk result (string_bytes text.new
+        ≡ string_bytes text.old ++ text_of (named_body (body_tree body.now))) }
 {
     match body {
         Body::Plain(base) => put_base(text, base),
@@ -73,7 +75,8 @@ fn put_body(text: &mut String, body: &Body) -> Result<(), Memory>
 #[cycle(put_form)]
 fn put_record(text: &mut String, fields: &[(Label, Body)]) -> Result<(), Memory>
     ensures { OnOk result (string_bytes text.new
-        ≡ string_bytes text.old ++ text_of (rec (named_fields (bodies_of (map (λ f. (f.0, body_tree f.1)) fields.now))))) }
+        ≡ string_bytes text.old
+        ++ text_of (rec (named_fields (bodies_of (map (λ f. (f.0, body_tree f.1)) fields.now))))) }
 {
     text.push_str("(")?;
     for (place, (label, body)) in fields.iter().enumerate() {
@@ -102,17 +105,20 @@ fn put_form(text: &mut String, normal: &Normal) -> Result<(), Memory>
     Ok(())
 }
 
-/// The text of a normal form: a term of the query language with the variable `xk` for the generator k, one space
-/// between words, parentheses exactly where a part is weaker than its place asks, behind `nq 2; ` exactly where a count
-/// or a sum stands in the form. Where the form is well formed over a
-/// schema and its names are words, the text spells the term at a depth of its own bytes, and the term means what the
-/// form means. The only error is that memory wants.
+/// The text of a normal form: a term of the query language with the variable `xk` for the generator
+/// k, one space between words, parentheses exactly where a part is weaker than its place asks,
+/// behind `nq 2; ` exactly where a count or a sum stands in the form. Where the form is well formed
+/// over a schema and its names are words, the text spells the term at a depth of its own bytes, and
+/// the term means what the form means. Fails only if memory runs out.
 pub fn print_normal(alloc: Global, normal: &Normal) -> Result<List<u8>, Memory>
     ensures is { IfOk result (λ bytes. bytes ≡ printed_text (form_tree normal.now)) }
     ensures spells { IfOk result (λ bytes. IsSpellable (form_tree normal.now)
-        → (tree : PlacedTerm) × Spells (length bytes) bytes tree × (bare tree ≡ printed_term (form_tree normal.now))) }
-    ensures meaning { IfOk result (λ bytes. IsSpellable (form_tree normal.now) → (tables : List FilledTable)
-        → meaning tables [] (printed_term (form_tree normal.now)) ≡ form_meaning (rows_in tables) (form_tree normal.now)) }
+        → (tree : PlacedTerm) × Spells (length bytes) bytes tree
+        × (bare tree ≡ printed_term (form_tree normal.now))) }
+    ensures meaning { IfOk result
+        (λ bytes. IsSpellable (form_tree normal.now) → (tables : List FilledTable)
+        → meaning tables [] (printed_term (form_tree normal.now))
+        ≡ form_meaning (rows_in tables) (form_tree normal.now)) }
 {
     let mut text = String::new(alloc);
     put_header(&mut text, normal)?;

@@ -10,7 +10,8 @@ use nq_model::{Label, Memory, Ty};
 #[cycle(put_type)]
 #[tactic(auto, using(nq_model::proofs::Terms::type_of_record))]
 pub(crate) fn put_type(text: &mut String, ty: &Ty) -> Result<(), Memory>
-    ensures { OnOk result (string_bytes text.new ≡ string_bytes text.old ++ type_text (type_tree ty.now)) }
+    ensures { OnOk result (string_bytes text.new
+        ≡ string_bytes text.old ++ type_text (type_tree ty.now)) }
 {
     match ty {
         Ty::Int => Ok(text.push_str("int")?),
@@ -29,7 +30,8 @@ pub(crate) fn put_type(text: &mut String, ty: &Ty) -> Result<(), Memory>
 
 #[cycle(put_type)]
 fn put_field_types(text: &mut String, fields: &[(Label, Ty)]) -> Result<(), Memory>
-    ensures { OnOk result (string_bytes text.new ≡ string_bytes text.old ++ type_text (rec (field_types_of (fields_view fields.now)))) }
+    ensures { OnOk result (string_bytes text.new
+        ≡ string_bytes text.old ++ type_text (rec (field_types_of (fields_view fields.now)))) }
 {
     text.push_str("(")?;
     for (place, (label, ty)) in fields.iter().enumerate() {

@@ -18,18 +18,20 @@ pub(crate) fn chosen(
     yes: MovedBody,
     no: MovedBody,
 ) -> Result<MovedBody, Memory>
-    ensures { IfOk result (λ r. moved_body r ≡ choice (moved_base test.now) (moved_body yes) (moved_body no)) }
+    ensures { IfOk result (λ r.
+        moved_body r ≡ choice (moved_base test.now) (moved_body yes) (moved_body no)) }
 {
     let yes = yes.opened(alloc)?;
     let no = no.opened(alloc)?;
     MovedBody::new(alloc, choice(alloc, test, yes, no)?)
 }
 
-// Of two bodies of one shape: a choice at each base part; and for each bag the comprehensions of `yes` under the
-// test, and then those of `no` under its negation.
+// Of two bodies of one shape: a choice at each base part; and for each bag the comprehensions of
+// `yes` under the test, and then those of `no` under its negation.
 #[cycle(choice)]
 fn choice(alloc: Global, test: &MovedBase, yes: RawBody, no: RawBody) -> Result<RawBody, Memory>
-    ensures { IfOk result (λ r. raw_body r ≡ choice (moved_base test.now) (raw_body yes) (raw_body no)) }
+    ensures { IfOk result (λ r.
+        raw_body r ≡ choice (moved_base test.now) (raw_body yes) (raw_body no)) }
 {
     match yes {
         RawBody::Plain(yes) => plain_choice(alloc, test, yes, no),
@@ -52,7 +54,9 @@ fn fields_choice(
     yes: List<(Label, MovedBody)>,
     no: List<(Label, MovedBody)>,
 ) -> Result<List<(Label, MovedBody)>, Memory>
-    ensures { IfOk result (λ fs. raw_fields_of fs ≡ choice_of_fields (moved_base test.now) (raw_fields_of yes) (raw_fields_of no)) }
+    ensures { IfOk result (λ fs.
+        raw_fields_of fs ≡ choice_of_fields (moved_base test.now) (raw_fields_of yes)
+        (raw_fields_of no)) }
 {
     let mut right = reversed(no);
     let mut all = List::with_capacity(alloc, yes.len())?;
@@ -69,7 +73,8 @@ fn field_choice(
     yes: (Label, MovedBody),
     no: Option<(Label, MovedBody)>,
 ) -> Result<(Label, MovedBody), Memory>
-    ensures { IfOk result (λ r. (r.0 ≡ yes.0) × MatchOption no (moved_body r.1 ≡ moved_body yes.1) (λ f. moved_body r.1 ≡ choice (moved_base test.now) (moved_body yes.1) (moved_body f.1))) }
+    ensures { IfOk result (λ r. (r.0 ≡ yes.0) × MatchOption no (moved_body r.1 ≡ moved_body yes.1)
+        (λ f. moved_body r.1 ≡ choice (moved_base test.now) (moved_body yes.1) (moved_body f.1))) }
 {
     match no {
         Some((_, no)) => {
@@ -86,7 +91,8 @@ fn plain_choice(
     yes: MovedBase,
     no: RawBody,
 ) -> Result<RawBody, Memory>
-    ensures { IfOk result (λ r. raw_body r ≡ choice (moved_base test.now) (raw_plain (moved_base yes)) (raw_body no)) }
+    ensures { IfOk result (λ r.
+        raw_body r ≡ choice (moved_base test.now) (raw_plain (moved_base yes)) (raw_body no)) }
 {
     match no {
         RawBody::Plain(no) => Ok(RawBody::Plain(choose(alloc, test.shared()?, yes, no)?)),
@@ -100,7 +106,8 @@ fn bag_choice(
     yes: List<RawComp>,
     no: RawBody,
 ) -> Result<RawBody, Memory>
-    ensures { IfOk result (λ r. raw_body r ≡ choice (moved_base test.now) (raw_bag (raw_comps yes)) (raw_body no)) }
+    ensures { IfOk result (λ r.
+        raw_body r ≡ choice (moved_base test.now) (raw_bag (raw_comps yes)) (raw_body no)) }
 {
     match no {
         RawBody::Bag(no) => {

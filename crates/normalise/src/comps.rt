@@ -40,7 +40,8 @@ pub(crate) fn one_comp(
     tables: List<Label>,
     body: MovedBody,
 ) -> Result<List<RawComp>, Memory>
-    ensures { IfOk result (λ comps. raw_comps comps ≡ raw_comp tables no_raw (moved_body body) no_raw_comp) }
+    ensures { IfOk result (λ comps.
+        raw_comps comps ≡ raw_comp tables no_raw (moved_body body) no_raw_comp) }
 {
     let mut comps = List::with_capacity(alloc, 1)?;
     comps.push(RawComp {
@@ -73,12 +74,14 @@ pub(crate) fn reversed<T>(list: List<T>) -> List<T>
 
 /// These comprehensions, and then those.
 pub(crate) fn append(left: List<RawComp>, right: List<RawComp>) -> Result<List<RawComp>, Memory>
-    ensures { IfOk result (λ comps. raw_comps comps ≡ append_raw (raw_comps left) (raw_comps right)) }
+    ensures { IfOk result (λ comps.
+        raw_comps comps ≡ append_raw (raw_comps left) (raw_comps right)) }
 {
     joined(left, right)
 }
 
-/// Each of `parts` inside the generators and conditions of `outer`, put behind `all`. The last takes them as they stand.
+/// Each of `parts` inside the generators and conditions of `outer`, put behind `all`. The last
+/// takes them as they stand.
 #[inline(never)]
 pub(crate) fn put_inside(
     alloc: Global,
@@ -86,7 +89,10 @@ pub(crate) fn put_inside(
     outer: RawTest,
     parts: List<RawComp>,
 ) -> Result<(), Memory>
-    ensures { OnOk result (map comp_part all.new ≡ map comp_part all.old ++ map (inside_part (test_part outer).tables (test_part outer).conds) (map comp_part parts)) }
+    ensures { OnOk result (map comp_part all.new
+        ≡ map comp_part all.old
+        ++ map (inside_part (test_part outer).tables (test_part outer).conds)
+        (map comp_part parts)) }
 {
     let mut parts = parts;
     match parts.pop() {
@@ -106,7 +112,10 @@ fn put_each_inside(
     outer: &RawTest,
     parts: List<RawComp>,
 ) -> Result<(), Memory>
-    ensures { OnOk result (map comp_part all.new ≡ map comp_part all.old ++ map (inside_part (test_part outer.now).tables (test_part outer.now).conds) (map comp_part parts)) }
+    ensures { OnOk result (map comp_part all.new
+        ≡ map comp_part all.old
+        ++ map (inside_part (test_part outer.now).tables (test_part outer.now).conds)
+        (map comp_part parts)) }
 {
     for part in parts.into_vec() {
         let outer = shared_test(alloc, outer)?;
@@ -116,7 +125,9 @@ fn put_each_inside(
 }
 
 fn inside_one(alloc: Global, outer: RawTest, part: RawComp) -> Result<RawComp, Memory>
-    ensures { IfOk result (λ comp. comp_part comp ≡ inside_part (test_part outer).tables (test_part outer).conds (comp_part part)) }
+    ensures { IfOk result (λ comp.
+        comp_part comp ≡ inside_part (test_part outer).tables (test_part outer).conds
+        (comp_part part)) }
 {
     let RawComp {
         tables,
@@ -145,7 +156,9 @@ fn inside_one(alloc: Global, outer: RawTest, part: RawComp) -> Result<RawComp, M
 
 /// A comprehension without its body inside the generators and conditions of `outer`.
 pub(crate) fn inside_test(alloc: Global, outer: RawTest, part: RawTest) -> Result<RawTest, Memory>
-    ensures { IfOk result (λ test. test_part test ≡ test_inside (test_part outer).tables (test_part outer).conds (test_part part)) }
+    ensures { IfOk result (λ test.
+        test_part test ≡ test_inside (test_part outer).tables (test_part outer).conds
+        (test_part part)) }
 {
     let more = part.tables.len() as u64;
     let RawTest {
@@ -171,7 +184,9 @@ pub(crate) fn inside_test(alloc: Global, outer: RawTest, part: RawTest) -> Resul
 
 /// One condition, and no generators.
 pub(crate) fn condition(alloc: Global, cond: MovedBase) -> Result<RawTest, Memory>
-    ensures { IfOk result (λ test. ((test_part test).tables ≡ []) × ((test_part test).conds ≡ and_raw (moved_base cond) no_raw)) }
+    ensures { IfOk result (λ test.
+        ((test_part test).tables ≡ [])
+        × ((test_part test).conds ≡ and_raw (moved_base cond) no_raw)) }
 {
     let deepest = cond.depth;
     let mut conds = List::with_capacity(alloc, 1)?;

@@ -1,14 +1,18 @@
-// How deep bodies are. The stack is memory, and what comes after recurses over the form that is built.
+// How deep bodies are. The stack is memory, and what comes after recurses over the form that is
+// built.
 //
-// Depths multiply: a body that is used in another stands below what stands there. So the depth of what is built is
-// counted, and not that of the term. It stands beside each part, so that no part is walked to tell it.
+// Depths multiply: a body that is used in another stands below what stands there. So the depth of
+// what is built is counted, and not that of the term. It stands beside each part, so that no part
+// is walked to tell it.
 use crate::raw::{MovedBase, MovedBody, RawBody, RawComp, RawTest};
 use nq_model::{Label, Memory};
 
-/// The deepest parts of a body that is built, conditions counted as they are joined, one over the other.
+/// The deepest parts of a body that is built, conditions counted as they are joined, one over the
+/// other.
 pub(crate) const DEEPEST: u64 = 2_000;
 
-/// The depth of what stands over parts that are so deep; want of memory where they are deeper than `DEEPEST`.
+/// The depth of what stands over parts that are so deep; want of memory where they are deeper than
+/// `DEEPEST`.
 pub(crate) fn level_above(below: u64) -> Result<u64, Memory> {
     if below <= DEEPEST {
         Ok(below + 1)

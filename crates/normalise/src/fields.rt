@@ -40,7 +40,10 @@ pub(crate) fn field_in(alloc: Global, label: &Label, body: &MovedBody) -> Result
 
 // Where the first field of that label stands.
 fn find(fields: &[(Label, MovedBody)], label: &Label) -> Option<usize>
-    ensures { MatchOption result (raw_field_among label.now (raw_fields_of fields.now) ≡ no_raw_body) (λ i. (i < length fields.now) × (Some (raw_field_among label.now (raw_fields_of fields.now)) ≡ option_map (λ f. moved_body f.1) (slice_get fields.now i))) }
+    ensures { MatchOption result (raw_field_among label.now (raw_fields_of fields.now)
+        ≡ no_raw_body) (λ i. (i < length fields.now)
+        × (Some (raw_field_among label.now (raw_fields_of fields.now)) ≡ option_map
+        (λ f. moved_body f.1) (slice_get fields.now i))) }
 {
     for i in 0..fields.len() {
         if label.as_str() == fields[i].0.as_str() {

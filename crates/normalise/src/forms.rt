@@ -54,7 +54,8 @@ pub(crate) fn binary(
     left: MovedBase,
     right: MovedBase,
 ) -> Result<MovedBody, Memory>
-    ensures { IfOk result (λ b. moved_body b ≡ raw_plain (raw_binary op (moved_base left) (moved_base right))) }
+    ensures { IfOk result (λ b.
+        moved_body b ≡ raw_plain (raw_binary op (moved_base left) (moved_base right))) }
 {
     let base = operation(alloc, op, left, right)?;
     MovedBody::new(alloc, RawBody::Plain(base))
@@ -65,7 +66,8 @@ pub(crate) fn with_fields(
     alloc: Global,
     fields: List<(Label, MovedBody)>,
 ) -> Result<MovedBody, Memory>
-    ensures { IfOk result (λ b. moved_body b ≡ raw_rec (fields_of (by_label (fields_view fields)))) }
+    ensures { IfOk result (λ b.
+        moved_body b ≡ raw_rec (fields_of (by_label (fields_view fields)))) }
 {
     let sorted = in_label_order(fields)?;
     MovedBody::new(alloc, RawBody::Rec(sorted))
@@ -91,7 +93,8 @@ pub(crate) fn bag(alloc: Global, comps: List<RawComp>) -> Result<MovedBody, Memo
 
 #[inline(never)]
 pub(crate) fn single(alloc: Global, of: MovedBody) -> Result<MovedBody, Memory>
-    ensures { IfOk result (λ b. moved_body b ≡ raw_bag (raw_comp [] no_raw (moved_body of) no_raw_comp)) }
+    ensures { IfOk result (λ b.
+        moved_body b ≡ raw_bag (raw_comp [] no_raw (moved_body of) no_raw_comp)) }
 {
     let comps = one_comp(alloc, List::new(alloc), of)?;
     bag(alloc, comps)
@@ -103,7 +106,8 @@ pub(crate) fn union(
     left: List<RawComp>,
     right: List<RawComp>,
 ) -> Result<MovedBody, Memory>
-    ensures { IfOk result (λ b. moved_body b ≡ raw_bag (append_raw (raw_comps left) (raw_comps right))) }
+    ensures { IfOk result (λ b.
+        moved_body b ≡ raw_bag (append_raw (raw_comps left) (raw_comps right))) }
 {
     let comps = append(left, right)?;
     bag(alloc, comps)
@@ -115,7 +119,8 @@ pub(crate) fn guard(
     test: MovedBase,
     rest: List<RawComp>,
 ) -> Result<MovedBody, Memory>
-    ensures { IfOk result (λ b. moved_body b ≡ raw_bag (where_raw (moved_base test) (raw_comps rest))) }
+    ensures { IfOk result (λ b.
+        moved_body b ≡ raw_bag (where_raw (moved_base test) (raw_comps rest))) }
 {
     let comps = guarded(alloc, test, rest)?;
     bag(alloc, comps)

@@ -49,7 +49,8 @@ impl MovedBase {
     }
 
     fn moved(&self, more: u64, from: u64) -> Result<MovedBase, Memory>
-        ensures { IfOk result (λ m. moved_base m ≡ up_base more from (raw_base self.now.base.value)) }
+        ensures { IfOk result (λ m.
+            moved_base m ≡ up_base more from (raw_base self.now.base.value)) }
     {
         Ok(MovedBase {
             base: self.base.clone()?,
@@ -80,7 +81,8 @@ pub(crate) fn choose(
     yes: MovedBase,
     no: MovedBase,
 ) -> Result<MovedBase, Memory>
-    ensures { IfOk result (λ m. moved_base m ≡ raw_choose (moved_base test) (moved_base yes) (moved_base no)) }
+    ensures { IfOk result (λ m.
+        moved_base m ≡ raw_choose (moved_base test) (moved_base yes) (moved_base no)) }
 {
     let below = test.depth.max(yes.depth).max(no.depth);
     MovedBase::new(alloc, RawBase::Choose { test, yes, no }, below)

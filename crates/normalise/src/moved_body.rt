@@ -49,7 +49,8 @@ impl MovedBody {
     }
 
     fn moved(&self, more: u64, from: u64) -> Result<MovedBody, Memory>
-        ensures { IfOk result (λ m. moved_body m ≡ up_body more from (raw_body self.now.body.value)) }
+        ensures { IfOk result (λ m.
+            moved_body m ≡ up_body more from (raw_body self.now.body.value)) }
     {
         Ok(MovedBody {
             body: self.body.clone()?,
@@ -120,7 +121,8 @@ fn fields_under(
     more: u64,
     from: u64,
 ) -> Result<List<(Label, MovedBody)>, Memory>
-    ensures { IfOk result (λ moved. fields_view moved ≡ map (λ f. (f.0, up_body more from f.1)) (fields_view fields.now)) }
+    ensures { IfOk result (λ moved. fields_view moved ≡ map
+        (λ f. (f.0, up_body more from f.1)) (fields_view fields.now)) }
 {
     let mut moved = List::with_capacity(alloc, fields.len())?;
     for field in fields {
@@ -138,7 +140,8 @@ fn comps_under(
     more: u64,
     from: u64,
 ) -> Result<List<RawComp>, Memory>
-    ensures { IfOk result (λ moved. map comp_part moved ≡ map (up_comp more from) (map comp_part comps.now)) }
+    ensures { IfOk result (λ moved.
+        map comp_part moved ≡ map (up_comp more from) (map comp_part comps.now)) }
 {
     let mut moved = List::with_capacity(alloc, comps.len())?;
     for comp in comps {

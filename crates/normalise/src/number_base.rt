@@ -20,7 +20,9 @@ fn number_base(
     next: u64,
     scope: &Numbers,
 ) -> Result<(Base, u64), Memory>
-    ensures { IfOk result (λ r. (base_tree r.0 ≡ number_base next (numbers scope.now) (raw_base raw.now)) × (r.1 ≡ next + gens_in_base (raw_base raw.now))) }
+    ensures { IfOk result (λ r.
+        (base_tree r.0 ≡ number_base next (numbers scope.now) (raw_base raw.now))
+        × (r.1 ≡ next + gens_in_base (raw_base raw.now))) }
 {
     match raw {
         RawBase::Int(number) => Ok((Base::Int(*number), next)),
@@ -78,7 +80,9 @@ pub(crate) fn number_moved(
     next: u64,
     scope: &Numbers,
 ) -> Result<(Base, u64), Memory>
-    ensures { IfOk result (λ r. (base_tree r.0 ≡ number_base next (numbers scope.now) (moved_base moved.now)) × (r.1 ≡ next + gens_in_base (moved_base moved.now))) }
+    ensures { IfOk result (λ r.
+        (base_tree r.0 ≡ number_base next (numbers scope.now) (moved_base moved.now))
+        × (r.1 ≡ next + gens_in_base (moved_base moved.now))) }
 {
     let inner = scope.without(moved.more, moved.from);
     number_base(alloc, &moved.base, next, &inner)
@@ -92,7 +96,9 @@ fn number_boxed(
     next: u64,
     scope: &Numbers,
 ) -> Result<(Box<Base>, u64), Memory>
-    ensures { IfOk result (λ r. (base_tree r.0.value ≡ number_base next (numbers scope.now) (moved_base moved.now)) × (r.1 ≡ next + gens_in_base (moved_base moved.now))) }
+    ensures { IfOk result (λ r.
+        (base_tree r.0.value ≡ number_base next (numbers scope.now) (moved_base moved.now))
+        × (r.1 ≡ next + gens_in_base (moved_base moved.now))) }
 {
     let (base, after) = number_moved(alloc, moved, next, scope)?;
     Ok((boxed(alloc, base)?, after))
@@ -106,7 +112,9 @@ pub(crate) fn number_conds(
     first: u64,
     scope: &Numbers,
 ) -> Result<(List<Base>, u64), Memory>
-    ensures { IfOk result (λ r. (map base_tree r.0 ≡ bases_numbered first (numbers scope.now) (map moved_base conds.now)) × (r.1 ≡ first + gens_in_bases (map moved_base conds.now))) }
+    ensures { IfOk result (λ r.
+        (map base_tree r.0 ≡ bases_numbered first (numbers scope.now) (map moved_base conds.now))
+        × (r.1 ≡ first + gens_in_bases (map moved_base conds.now))) }
 {
     let mut numbered = List::with_capacity(alloc, conds.len())?;
     let mut next = first;
@@ -125,7 +133,9 @@ fn number_tests(
     first: u64,
     scope: &Numbers,
 ) -> Result<(List<Test>, u64), Memory>
-    ensures { IfOk result (λ r. (map numbered_part r.0 ≡ tests_numbered first (numbers scope.now) (map test_part tests.now)) × (r.1 ≡ first + gens_in_parts (map test_part tests.now))) }
+    ensures { IfOk result (λ r.
+        (map numbered_part r.0 ≡ tests_numbered first (numbers scope.now) (map test_part tests.now))
+        × (r.1 ≡ first + gens_in_parts (map test_part tests.now))) }
 {
     let mut numbered = List::with_capacity(alloc, tests.len())?;
     let mut next = first;
@@ -144,7 +154,9 @@ fn number_test(
     next: u64,
     scope: &Numbers,
 ) -> Result<(Test, u64), Memory>
-    ensures { IfOk result (λ r. (numbered_part r.0 ≡ test_numbered next (numbers scope.now) (test_part test.now)) × (r.1 ≡ next + gens_in_test (test_part test.now))) }
+    ensures { IfOk result (λ r.
+        (numbered_part r.0 ≡ test_numbered next (numbers scope.now) (test_part test.now))
+        × (r.1 ≡ next + gens_in_test (test_part test.now))) }
 {
     let count = test.tables.len() as u64;
     let start = plus(next, count)?;

@@ -33,10 +33,13 @@ fn few(next: u64) -> Result<(), Memory>
     }
 }
 
-/// A whole form with tags and numbers from 1 on, of which there are fewer than 2^63; `ty` is the bag of its elements.
+/// A whole form with tags and numbers from 1 on, of which there are fewer than 2^63; `ty` is the
+/// bag of its elements.
 pub(crate) fn number_form(alloc: Global, comps: &[RawComp], ty: &Ty) -> Result<Normal, Memory>
     ensures element { IfOk result (λ n. (form_tree n).element ≡ element_type (type_tree ty.now)) }
-    ensures comps { IfOk result (λ n. (form_tree n).comps ≡ number_comps 1 1 [] (element_type (type_tree ty.now)) (raw_comps comps.now)) }
+    ensures comps { IfOk result
+        (λ n. (form_tree n).comps
+        ≡ number_comps 1 1 [] (element_type (type_tree ty.now)) (raw_comps comps.now)) }
     ensures tags { IfOk result (λ n. tags_in_comps (raw_comps comps.now) < 2 ^ 63) }
     ensures gens { IfOk result (λ n. gens_in_form (raw_comps comps.now) < 2 ^ 63) }
 {
@@ -49,8 +52,8 @@ pub(crate) fn number_form(alloc: Global, comps: &[RawComp], ty: &Ty) -> Result<N
     Ok(Normal { element, parts })
 }
 
-/// A body with tags and numbers from `next` on, and those after its last. Each bag takes its element type from the
-/// type of the whole.
+/// A body with tags and numbers from `next` on, and those after its last. Each bag takes its
+/// element type from the type of the whole.
 #[cycle(number_body)]
 fn number_body(
     alloc: Global,
@@ -59,7 +62,10 @@ fn number_body(
     next: Next,
     scope: &Numbers,
 ) -> Result<(Body, Next), Memory>
-    ensures { IfOk result (λ r. (body_tree r.0 ≡ number_body next.tag next.number (numbers scope.now) (type_tree ty.now) (raw_body raw.now)) × (r.1.tag ≡ next.tag + tags_in_body (raw_body raw.now)) × (r.1.number ≡ next.number + gens_in_body (raw_body raw.now))) }
+    ensures { IfOk result (λ r.
+        (body_tree r.0 ≡ number_body next.tag next.number (numbers scope.now) (type_tree ty.now)
+        (raw_body raw.now)) × (r.1.tag ≡ next.tag + tags_in_body (raw_body raw.now))
+        × (r.1.number ≡ next.number + gens_in_body (raw_body raw.now))) }
 {
     match raw {
         RawBody::Plain(base) => {
@@ -93,7 +99,10 @@ fn number_moved_body(
     next: Next,
     scope: &Numbers,
 ) -> Result<(Body, Next), Memory>
-    ensures { IfOk result (λ r. (body_tree r.0 ≡ number_body next.tag next.number (numbers scope.now) (type_tree ty.now) (moved_body moved.now)) × (r.1.tag ≡ next.tag + tags_in_body (moved_body moved.now)) × (r.1.number ≡ next.number + gens_in_body (moved_body moved.now))) }
+    ensures { IfOk result (λ r.
+        (body_tree r.0 ≡ number_body next.tag next.number (numbers scope.now) (type_tree ty.now)
+        (moved_body moved.now)) × (r.1.tag ≡ next.tag + tags_in_body (moved_body moved.now))
+        × (r.1.number ≡ next.number + gens_in_body (moved_body moved.now))) }
 {
     let inner = scope.without(moved.more, moved.from);
     number_body(alloc, &moved.body, ty, next, &inner)
@@ -107,7 +116,12 @@ fn number_fields(
     first: Next,
     scope: &Numbers,
 ) -> Result<(List<(Label, Body)>, Next), Memory>
-    ensures { IfOk result (λ r. (map (λ f. (f.0, body_tree f.1)) r.0 ≡ fields_numbered first.tag first.number (numbers scope.now) (field_types_of (types_view types.now)) (fields_view fields.now)) × (r.1.tag ≡ first.tag + tags_in_list (fields_view fields.now)) × (r.1.number ≡ first.number + gens_in_list (fields_view fields.now))) }
+    ensures { IfOk result (λ r.
+        (map (λ f. (f.0, body_tree f.1)) r.0
+        ≡ fields_numbered first.tag first.number (numbers scope.now)
+        (field_types_of (types_view types.now)) (fields_view fields.now))
+        × (r.1.tag ≡ first.tag + tags_in_list (fields_view fields.now))
+        × (r.1.number ≡ first.number + gens_in_list (fields_view fields.now))) }
 {
     let mut numbered = List::with_capacity(alloc, fields.len())?;
     let mut next = first;
@@ -131,7 +145,11 @@ fn number_field(
     next: Next,
     scope: &Numbers,
 ) -> Result<(Body, Next), Memory>
-    ensures { IfOk result (λ r. (body_tree r.0 ≡ number_body next.tag next.number (numbers scope.now) (first_type (field_types_of (types_view (drop at types.now)))) (moved_body raw.now)) × (r.1.tag ≡ next.tag + tags_in_body (moved_body raw.now)) × (r.1.number ≡ next.number + gens_in_body (moved_body raw.now))) }
+    ensures { IfOk result (λ r.
+        (body_tree r.0 ≡ number_body next.tag next.number (numbers scope.now)
+        (first_type (field_types_of (types_view (drop at types.now)))) (moved_body raw.now))
+        × (r.1.tag ≡ next.tag + tags_in_body (moved_body raw.now))
+        × (r.1.number ≡ next.number + gens_in_body (moved_body raw.now))) }
 {
     match types.get(at) {
         Some(typed) => number_moved_body(alloc, raw, &typed.1, next, scope),
@@ -148,7 +166,11 @@ fn number_comps(
     first: Next,
     scope: &Numbers,
 ) -> Result<(List<Comp>, Next), Memory>
-    ensures { IfOk result (λ r. (map numbered_part r.0 ≡ comps_numbered first.tag first.number (numbers scope.now) (type_tree element.now) (map comp_part comps.now)) × (r.1.tag ≡ first.tag + tags_in_parts (map comp_part comps.now)) × (r.1.number ≡ first.number + gens_in_comps (map comp_part comps.now))) }
+    ensures { IfOk result (λ r.
+        (map numbered_part r.0
+        ≡ comps_numbered first.tag first.number (numbers scope.now) (type_tree element.now)
+        (map comp_part comps.now)) × (r.1.tag ≡ first.tag + tags_in_parts (map comp_part comps.now))
+        × (r.1.number ≡ first.number + gens_in_comps (map comp_part comps.now))) }
 {
     let mut numbered = List::with_capacity(alloc, comps.len())?;
     let mut next = first;
@@ -168,7 +190,11 @@ fn number_comp(
     next: Next,
     scope: &Numbers,
 ) -> Result<(Comp, Next), Memory>
-    ensures { IfOk result (λ r. (numbered_part r.0 ≡ comp_numbered next.tag next.number (numbers scope.now) (type_tree element.now) (comp_part comp.now)) × (r.1.tag ≡ next.tag + tags_in_part (comp_part comp.now)) × (r.1.number ≡ next.number + gens_in_comp (comp_part comp.now))) }
+    ensures { IfOk result (λ r.
+        (numbered_part r.0 ≡ comp_numbered next.tag next.number (numbers scope.now)
+        (type_tree element.now) (comp_part comp.now))
+        × (r.1.tag ≡ next.tag + tags_in_part (comp_part comp.now))
+        × (r.1.number ≡ next.number + gens_in_comp (comp_part comp.now))) }
 {
     let count = comp.tables.len() as u64;
     let start = plus(next.number, count)?;

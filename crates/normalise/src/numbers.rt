@@ -5,8 +5,8 @@ ghost use Rattle.normalise.specs.Numbers.{numbers, without};
 use crate::raw_copy::{index_under, plus};
 use nq_model::Memory;
 
-/// The numbers of the generators in scope, of which those of one comprehension follow one another. `Without` leaves out
-/// `count` numbers behind the first `from`.
+/// The numbers of the generators in scope, of which those of one comprehension follow one another.
+/// `Without` leaves out `count` numbers behind the first `from`.
 #[derive(Clone, Copy)]
 pub(crate) enum Numbers<'a> {
     Top,
@@ -38,7 +38,8 @@ impl<'a> Numbers<'a> {
         }
     }
 
-    /// The number of the generator with so many between, or 0 where there is none, as in no typed term.
+    /// The number of the generator with so many between, or 0 where there is none, as in no typed
+    /// term.
     pub(crate) fn at(&self, back: u64) -> Result<u64, Memory>
         ensures { IfOk result (λ n. n ≡ get_or (numbers self.now) back 0) }
     {

@@ -2,8 +2,8 @@
 use nq_model::{Binary, Label, List, Text, Unary};
 use std::rc::Rc;
 
-/// A base term. `Column` names its generator by how many stand between it and its use, so that a body which is used
-/// more than once has generators of its own at each use.
+/// A base term. `Column` names its generator by how many stand between it and its use, so that a
+/// body which is used more than once has generators of its own at each use.
 #[cycle(raw)]
 #[derive(Drop)]
 pub(crate) enum RawBase {
@@ -37,8 +37,9 @@ pub(crate) enum RawBase {
     Moved(MovedBase),
 }
 
-/// A base term under `more` generators, which stand outside the first `from` around it. It is shared where it is used
-/// more than once, and numbered as if it were moved, so that it is neither copied nor walked before.
+/// A base term under `more` generators, which stand outside the first `from` around it. It is
+/// shared where it is used more than once, and numbered as if it were moved, so that it is neither
+/// copied nor walked before.
 #[cycle(raw)]
 #[derive(Drop)]
 pub(crate) struct MovedBase {
@@ -48,8 +49,8 @@ pub(crate) struct MovedBase {
     pub depth: u64,
 }
 
-/// A comprehension without its body, as in an emptiness test, a count or a sum: the tables of its generators, outermost
-/// first, and its conditions, of which the deepest is so deep.
+/// A comprehension without its body, as in an emptiness test, a count or a sum: the tables of its
+/// generators, outermost first, and its conditions, of which the deepest is so deep.
 #[cycle(raw)]
 #[derive(Drop)]
 pub(crate) struct RawTest {
@@ -58,7 +59,8 @@ pub(crate) struct RawTest {
     pub deepest: u64,
 }
 
-/// The body of a term: a base term, the bodies of a record's fields in label order, or comprehensions.
+/// The body of a term: a base term, the bodies of a record's fields in label order, or
+/// comprehensions.
 #[cycle(raw_body)]
 #[derive(Drop)]
 pub(crate) enum RawBody {
@@ -67,7 +69,8 @@ pub(crate) enum RawBody {
     Bag(List<RawComp>),
 }
 
-/// A body under `more` generators, which stand outside the first `from` around it, shared as a base term is.
+/// A body under `more` generators, which stand outside the first `from` around it, shared as a base
+/// term is.
 #[cycle(raw_body)]
 #[derive(Drop)]
 pub(crate) struct MovedBody {
@@ -77,8 +80,8 @@ pub(crate) struct MovedBody {
     pub depth: u64,
 }
 
-/// A comprehension: the tables of its generators, outermost first, its conditions, of which the deepest is so deep, and
-/// its body.
+/// A comprehension: the tables of its generators, outermost first, its conditions, of which the
+/// deepest is so deep, and its body.
 #[cycle(raw_body)]
 #[derive(Drop)]
 pub(crate) struct RawComp {

@@ -46,7 +46,8 @@ pub(crate) fn conds_under(
     more: u64,
     from: u64,
 ) -> Result<List<MovedBase>, Memory>
-    ensures { IfOk result (λ moved. map moved_base moved ≡ map (up_base more from) (map moved_base conds.now)) }
+    ensures { IfOk result (λ moved.
+        map moved_base moved ≡ map (up_base more from) (map moved_base conds.now)) }
 {
     let mut moved = List::with_capacity(alloc, conds.len())?;
     for cond in conds {
@@ -74,7 +75,8 @@ pub(crate) fn all_under(
     conds: List<MovedBase>,
     more: u64,
 ) -> Result<List<MovedBase>, Memory>
-    ensures { IfOk result (λ moved. map moved_base moved ≡ map (up_base more 0) (map moved_base conds)) }
+    ensures { IfOk result (λ moved.
+        map moved_base moved ≡ map (up_base more 0) (map moved_base conds)) }
 {
     if more == 0 {
         Ok(conds)

@@ -10,8 +10,8 @@ use crate::raw_copy::plus;
 use nq_model::Memory;
 use std::alloc::Global;
 
-/// The bodies of the variables, the innermost first. `Under` stands for `count` more generators around all that it
-/// holds.
+/// The bodies of the variables, the innermost first. `Under` stands for `count` more generators
+/// around all that it holds.
 #[derive(Clone, Copy)]
 pub(crate) enum Scope<'a> {
     Top,
@@ -35,7 +35,8 @@ impl<'a> Scope<'a> {
 
     /// The body of the variable `k`, under `more` generators.
     fn body_of(&self, alloc: Global, k: u64, more: u64) -> Result<MovedBody, Memory>
-        ensures { IfOk result (λ b. moved_body b ≡ up_body more 0 (get_or (bodies self.now) k no_raw_body)) }
+        ensures { IfOk result (λ b.
+            moved_body b ≡ up_body more 0 (get_or (bodies self.now) k no_raw_body)) }
     {
         match self {
             Scope::Top => no_body(alloc),

@@ -14,7 +14,10 @@ use std::alloc::Global;
 
 /// The record of the columns at each row of a table.
 pub(crate) fn table_body(alloc: Global, schema: &Schema, name: &Label) -> Result<MovedBody, Memory>
-    ensures { IfOk result (λ b. moved_body b ≡ raw_bag (raw_comp (name.now ∷ []) no_raw (raw_rec (columns_body (table_columns schema.now.tables name.now))) no_raw_comp)) }
+    ensures { IfOk result (λ b.
+        moved_body b ≡ raw_bag
+        (raw_comp (name.now ∷ []) no_raw
+        (raw_rec (columns_body (table_columns schema.now.tables name.now))) no_raw_comp)) }
 {
     let mut tables = List::with_capacity(alloc, 1)?;
     tables.push(name.copy(alloc)?)?;
@@ -28,7 +31,8 @@ fn columns_of(
     schema: &Schema,
     name: &Label,
 ) -> Result<List<(Label, MovedBody)>, Memory>
-    ensures { IfOk result (λ fs. raw_fields_of fs ≡ columns_body (table_columns schema.now.tables name.now)) }
+    ensures { IfOk result (λ fs.
+        raw_fields_of fs ≡ columns_body (table_columns schema.now.tables name.now)) }
 {
     match shape_of(schema, name) {
         Some(shape) => columns_at(alloc, shape.columns.as_slice()),
@@ -49,7 +53,8 @@ fn each_column(
     alloc: Global,
     columns: &[(Label, ColumnType)],
 ) -> Result<List<(Label, MovedBody)>, Memory>
-    ensures { IfOk result (λ fs. fields_view fs ≡ map (λ c. (c.0, raw_plain (raw_column 0 c.0))) columns.now) }
+    ensures { IfOk result (λ fs. fields_view fs ≡ map
+        (λ c. (c.0, raw_plain (raw_column 0 c.0))) columns.now) }
 {
     let mut fields = List::with_capacity(alloc, columns.len())?;
     for column in columns {
@@ -60,7 +65,8 @@ fn each_column(
 
 // A column of the innermost generator.
 fn column_field(alloc: Global, label: &Label) -> Result<(Label, MovedBody), Memory>
-    ensures { IfOk result (λ f. (f.0 ≡ label.now) × (moved_body f.1 ≡ raw_plain (raw_column 0 label.now))) }
+    ensures { IfOk result (λ f.
+        (f.0 ≡ label.now) × (moved_body f.1 ≡ raw_plain (raw_column 0 label.now))) }
 {
     let column = label.copy(alloc)?;
     let body = plain(alloc, RawBase::Column { back: 0, column })?;

@@ -1,5 +1,5 @@
-// Comprehensions without bodies, as emptiness tests and counts have them: one behind the other, and inside generators
-// and conditions.
+// Comprehensions without bodies, as emptiness tests and counts have them: one behind the other, and
+// inside generators and conditions.
 ghost use Rattle.std.specs.Prelude.{◌≡◌, ◌++◌, ◌∷◌, [], IfOk, OnOk, map, option_map};
 ghost use Rattle.nq_ir.specs.RawForms.{no_raw, no_raw_test, raw_test, raw_tests_of};
 ghost use Rattle.normalise.specs.Raw.{append_tests, bodiless, comp_part, moved_base, moved_body, raw_comps, raw_tests, test_inside, test_part, where_tests};
@@ -43,12 +43,14 @@ pub(crate) fn append_tests(
     left: List<RawTest>,
     right: List<RawTest>,
 ) -> Result<List<RawTest>, Memory>
-    ensures { IfOk result (λ tests. raw_tests tests ≡ append_tests (raw_tests left) (raw_tests right)) }
+    ensures { IfOk result (λ tests.
+        raw_tests tests ≡ append_tests (raw_tests left) (raw_tests right)) }
 {
     joined(left, right)
 }
 
-/// Each of `parts` inside the generators and conditions of `outer`, put behind `all`. The last takes them as they stand.
+/// Each of `parts` inside the generators and conditions of `outer`, put behind `all`. The last
+/// takes them as they stand.
 #[inline(never)]
 pub(crate) fn put_tests_inside(
     alloc: Global,
@@ -56,7 +58,10 @@ pub(crate) fn put_tests_inside(
     outer: RawTest,
     parts: List<RawTest>,
 ) -> Result<(), Memory>
-    ensures { OnOk result (map test_part all.new ≡ map test_part all.old ++ map (test_inside (test_part outer).tables (test_part outer).conds) (map test_part parts)) }
+    ensures { OnOk result (map test_part all.new
+        ≡ map test_part all.old
+        ++ map (test_inside (test_part outer).tables (test_part outer).conds)
+        (map test_part parts)) }
 {
     let mut parts = parts;
     match parts.pop() {
@@ -76,7 +81,10 @@ fn put_each_test_inside(
     outer: &RawTest,
     parts: List<RawTest>,
 ) -> Result<(), Memory>
-    ensures { OnOk result (map test_part all.new ≡ map test_part all.old ++ map (test_inside (test_part outer.now).tables (test_part outer.now).conds) (map test_part parts)) }
+    ensures { OnOk result (map test_part all.new
+        ≡ map test_part all.old
+        ++ map (test_inside (test_part outer.now).tables (test_part outer.now).conds)
+        (map test_part parts)) }
 {
     for part in parts.into_vec() {
         let outer = shared_test(alloc, outer)?;
@@ -100,8 +108,8 @@ pub(crate) fn guarded_tests(
     Ok(all)
 }
 
-/// The choice between two: of two bags the comprehensions of `yes` under the test, and then those of `no` under its
-/// negation; otherwise it is `yes`.
+/// The choice between two: of two bags the comprehensions of `yes` under the test, and then those
+/// of `no` under its negation; otherwise it is `yes`.
 #[inline(never)]
 pub(crate) fn chosen_tests(
     alloc: Global,
@@ -109,7 +117,9 @@ pub(crate) fn chosen_tests(
     yes: Option<List<RawTest>>,
     no: Option<List<RawTest>>,
 ) -> Result<Option<List<RawTest>>, Memory>
-    ensures { IfOk result (λ found. option_map raw_tests found ≡ choice_of_tests (moved_base test) (option_map raw_tests yes) (option_map raw_tests no)) }
+    ensures { IfOk result (λ found.
+        option_map raw_tests found
+        ≡ choice_of_tests (moved_base test) (option_map raw_tests yes) (option_map raw_tests no)) }
 {
     match yes {
         Some(yes) => match no {

@@ -1,5 +1,5 @@
-// Counts and sums: one for each comprehension, joined by `+` from the left. Joined, they are as deep as there are
-// comprehensions, since what comes after recurses over them.
+// Counts and sums: one for each comprehension, joined by `+` from the left. Joined, they are as
+// deep as there are comprehensions, since what comes after recurses over them.
 ghost use Rattle.std.specs.Prelude.{◌≡◌, IfOk, map, option_map};
 ghost use Rattle.nq_ir.specs.RawForms.{of_each, plus_all, raw_plain, raw_sum};
 ghost use Rattle.normalise.specs.Raw.{comp_part, count_in, moved_base, moved_body, raw_comps, raw_tests, sum_in, test_part};
@@ -25,7 +25,8 @@ pub(crate) fn count(alloc: Global, tests: List<RawTest>) -> Result<MovedBody, Me
 /// The sum of the bodies over the elements that the comprehensions give.
 #[inline(never)]
 pub(crate) fn sum(alloc: Global, comps: List<RawComp>) -> Result<MovedBody, Memory>
-    ensures { IfOk result (λ b. moved_body b ≡ raw_plain (plus_all (of_each raw_sum (raw_comps comps)))) }
+    ensures { IfOk result (λ b.
+        moved_body b ≡ raw_plain (plus_all (of_each raw_sum (raw_comps comps)))) }
 {
     let all = plus_all(alloc, each_sum(alloc, comps)?)?;
     MovedBody::new(alloc, RawBody::Plain(all))
@@ -83,7 +84,8 @@ fn plus_all(alloc: Global, parts: List<MovedBase>) -> Result<MovedBase, Memory>
 }
 
 fn plus_one(alloc: Global, left: Option<MovedBase>, right: MovedBase) -> Result<MovedBase, Memory>
-    ensures { IfOk result (λ b. moved_base b ≡ plus_more (option_map moved_base left) (moved_base right)) }
+    ensures { IfOk result (λ b.
+        moved_base b ≡ plus_more (option_map moved_base left) (moved_base right)) }
 {
     match left {
         Some(left) => operation(alloc, Binary::Add, left, right),

@@ -26,7 +26,8 @@ use std::alloc::Global;
 /// The body of a plain term, where the variables have these bodies.
 #[cycle(body)]
 fn body(alloc: Global, schema: &Schema, term: &Term, scope: &Scope) -> Result<MovedBody, Memory>
-    ensures { IfOk result (λ b. moved_body b ≡ raw_form schema.now.tables (term_tree term.now) (bodies scope.now)) }
+    ensures { IfOk result (λ b.
+        moved_body b ≡ raw_form schema.now.tables (term_tree term.now) (bodies scope.now)) }
 {
     match &term.node {
         Node::Var(k) => scope.variable(alloc, *k),
@@ -84,7 +85,9 @@ fn body(alloc: Global, schema: &Schema, term: &Term, scope: &Scope) -> Result<Mo
 // The base term of a part.
 #[cycle(body)]
 fn base(alloc: Global, schema: &Schema, term: &Term, scope: &Scope) -> Result<MovedBase, Memory>
-    ensures { IfOk result (λ b. moved_base b ≡ raw_base_in (raw_form schema.now.tables (term_tree term.now) (bodies scope.now))) }
+    ensures { IfOk result (λ b.
+        moved_base b ≡ raw_base_in
+        (raw_form schema.now.tables (term_tree term.now) (bodies scope.now))) }
 {
     let of = body(alloc, schema, term, scope)?;
     base_in(alloc, &of)
@@ -98,7 +101,9 @@ pub(crate) fn comps(
     term: &Term,
     scope: &Scope,
 ) -> Result<List<RawComp>, Memory>
-    ensures { IfOk result (λ cs. raw_comps cs ≡ raw_comps_in (raw_form schema.now.tables (term_tree term.now) (bodies scope.now))) }
+    ensures { IfOk result (λ cs.
+        raw_comps cs ≡ raw_comps_in
+        (raw_form schema.now.tables (term_tree term.now) (bodies scope.now))) }
 {
     let of = body(alloc, schema, term, scope)?;
     comps_in(alloc, of)
@@ -113,7 +118,10 @@ fn for_comps(
     source: List<RawComp>,
     scope: &Scope,
 ) -> Result<List<RawComp>, Memory>
-    ensures { IfOk result (λ cs. raw_comps cs ≡ each_comp (raw_comps source) (λ gs e. raw_comps_in (raw_form schema.now.tables (term_tree rest.now) (e ∷ map (up_body (length gs) 0) (bodies scope.now))))) }
+    ensures { IfOk result (λ cs. raw_comps cs ≡ each_comp (raw_comps source)
+        (λ gs e. raw_comps_in
+        (raw_form schema.now.tables (term_tree rest.now)
+        (e ∷ map (up_body (length gs) 0) (bodies scope.now))))) }
 {
     let mut all = List::new(alloc);
     for comp in source.into_vec() {
@@ -139,7 +147,9 @@ fn tests(
     term: &Term,
     scope: &Scope,
 ) -> Result<List<RawTest>, Memory>
-    ensures { IfOk result (λ ts. raw_tests ts ≡ raw_tests_of (raw_comps_in (raw_form schema.now.tables (term_tree term.now) (bodies scope.now)))) }
+    ensures { IfOk result (λ ts.
+        raw_tests ts ≡ raw_tests_of
+        (raw_comps_in (raw_form schema.now.tables (term_tree term.now) (bodies scope.now)))) }
 {
     match bag_tests(alloc, schema, term, scope)? {
         Some(tests) => Ok(tests),
@@ -147,8 +157,8 @@ fn tests(
     }
 }
 
-/// The same; `None` where the term has another shape, as in no typed term, since a choice goes by the shapes of its
-/// branches.
+/// The same; `None` where the term has another shape, as in no typed term, since a choice goes by
+/// the shapes of its branches.
 #[cycle(body)]
 fn bag_tests(
     alloc: Global,
@@ -156,7 +166,9 @@ fn bag_tests(
     term: &Term,
     scope: &Scope,
 ) -> Result<Option<List<RawTest>>, Memory>
-    ensures { IfOk result (λ found. option_map raw_tests found ≡ bag_tests (raw_form schema.now.tables (term_tree term.now) (bodies scope.now))) }
+    ensures { IfOk result (λ found.
+        option_map raw_tests found
+        ≡ bag_tests (raw_form schema.now.tables (term_tree term.now) (bodies scope.now))) }
 {
     match &term.node {
         Node::Table(name) => Ok(Some(test_of_table(alloc, name)?)),
@@ -188,7 +200,8 @@ fn bag_tests(
     }
 }
 
-/// For each comprehension of the source of a `for`, those of `rest` inside it, without their bodies.
+/// For each comprehension of the source of a `for`, those of `rest` inside it, without their
+/// bodies.
 #[cycle(body)]
 fn for_tests(
     alloc: Global,
@@ -197,7 +210,11 @@ fn for_tests(
     source: List<RawComp>,
     scope: &Scope,
 ) -> Result<List<RawTest>, Memory>
-    ensures { IfOk result (λ ts. raw_tests ts ≡ raw_tests_of (each_comp (raw_comps source) (λ gs e. raw_comps_in (raw_form schema.now.tables (term_tree rest.now) (e ∷ map (up_body (length gs) 0) (bodies scope.now)))))) }
+    ensures { IfOk result (λ ts.
+        raw_tests ts ≡ raw_tests_of (each_comp (raw_comps source)
+        (λ gs e. raw_comps_in
+        (raw_form schema.now.tables (term_tree rest.now)
+        (e ∷ map (up_body (length gs) 0) (bodies scope.now)))))) }
 {
     let mut all = List::new(alloc);
     for comp in source.into_vec() {
@@ -222,7 +239,8 @@ fn fields_of(
     fields: &[(Label, Term)],
     scope: &Scope,
 ) -> Result<List<(Label, MovedBody)>, Memory>
-    ensures { IfOk result (λ fs. fields_view fs ≡ map (λ f. (f.0, raw_form schema.now.tables f.1 (bodies scope.now))) (terms_view fields.now)) }
+    ensures { IfOk result (λ fs. fields_view fs ≡ map
+        (λ f. (f.0, raw_form schema.now.tables f.1 (bodies scope.now))) (terms_view fields.now)) }
 {
     let mut all = List::with_capacity(alloc, fields.len())?;
     for field in fields {

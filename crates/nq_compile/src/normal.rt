@@ -27,20 +27,28 @@ use std::alloc::Global;
 /// The greatest number that a text can hold.
 const NUMBERS: u64 = 9_223_372_036_854_775_807;
 
-/// The SQL texts of a normal form, one for each path of its type. They shred the form: over all tables of the schema,
-/// whatever answers SQL allows to them, those are linked, and tag and number read them, so stitching them gives the
-/// form's meaning. The only error is that memory wants.
+/// The SQL texts of a normal form, one for each path of its type. They shred the form: over all
+/// tables of the schema, whatever answers SQL allows to them, those are linked, and tag and number
+/// read them, so stitching them gives the form's meaning. Fails only if memory runs out.
 pub fn compile_normal(alloc: Global, schema: &Schema, normal: &Normal) -> Result<Compiled, Memory>
     requires proper { IsProperSchema schema.now }
     requires well_formed { IsWellFormed schema.now.tables (form_tree normal.now) }
-    ensures result { IfOk result (λ compiled. type_tree compiled.result ≡ bag (form_tree normal.now).element) }
-    ensures paths { IfOk result (λ compiled. steps_of compiled.paths ≡ paths (bag (form_tree normal.now).element)) }
+    ensures result { IfOk result
+        (λ compiled. type_tree compiled.result ≡ bag (form_tree normal.now).element) }
+    ensures paths { IfOk result
+        (λ compiled. steps_of compiled.paths ≡ paths (bag (form_tree normal.now).element)) }
     ensures columns { IfOk result (λ compiled. compiled.columns
-        ≡ map (columns_at (bag (form_tree normal.now).element)) (paths (bag (form_tree normal.now).element))) }
-    ensures texts { IfOk result (λ compiled. compiled.texts ≡ texts_of schema.now (form_tree normal.now)) }
-    ensures read { IfOk result (λ compiled. TagAndNumberRead schema.now (form_tree normal.now) compiled.texts) }
-    ensures shreds { IfOk result (λ compiled. Shreds schema.now (form_tree normal.now).element compiled.texts (form_means (form_tree normal.now))) }
-    ensures linked { IfOk result (λ compiled. AnswersLink schema.now (type_tree compiled.result) compiled.texts) }
+        ≡ map (columns_at (bag (form_tree normal.now).element))
+        (paths (bag (form_tree normal.now).element))) }
+    ensures texts { IfOk result
+        (λ compiled. compiled.texts ≡ texts_of schema.now (form_tree normal.now)) }
+    ensures read { IfOk result
+        (λ compiled. TagAndNumberRead schema.now (form_tree normal.now) compiled.texts) }
+    ensures shreds { IfOk result
+        (λ compiled. Shreds schema.now (form_tree normal.now).element compiled.texts
+        (form_means (form_tree normal.now))) }
+    ensures linked { IfOk result
+        (λ compiled. AnswersLink schema.now (type_tree compiled.result) compiled.texts) }
 {
     let result = result_type(alloc, normal)?;
     let paths = paths(alloc, &result)?;
@@ -84,9 +92,12 @@ fn texts_of(
 ) -> Result<List<List<u8>>, Memory>
     requires proper { IsProperSchema schema.now }
     requires forms { All (λ form. IsShreddedOf schema.now (shredded_tree form)) forms.now }
-    requires columns { columns.now ≡ map (λ form. answer_columns (shredded_tree form).element) forms.now }
-    ensures are { IfOk result (λ texts. texts ≡ map (λ form. text_of schema.now (shredded_tree form)) forms.now) }
-    ensures spell { IfOk result (λ texts. All (λ form. SpellsItself schema.now (shredded_tree form)) forms.now) }
+    requires columns { columns.now ≡ map
+        (λ form. answer_columns (shredded_tree form).element) forms.now }
+    ensures are { IfOk result
+        (λ texts. texts ≡ map (λ form. text_of schema.now (shredded_tree form)) forms.now) }
+    ensures spell { IfOk result
+        (λ texts. All (λ form. SpellsItself schema.now (shredded_tree form)) forms.now) }
 {
     let mut texts = List::with_capacity(alloc, forms.len())?;
     for at in 0..forms.len() {
@@ -103,7 +114,8 @@ fn texts_of(
 
 // Whether there are numbers for all lets and columns.
 fn has_numbers(form: &LetForm, columns: &[ColumnType]) -> bool
-    ensures { IsTrue result → (length (let_form_tree form.now).lets < 2 ^ 63) × (length columns.now < 2 ^ 63) }
+    ensures { IsTrue result → (length (let_form_tree form.now).lets < 2 ^ 63)
+        × (length columns.now < 2 ^ 63) }
 {
     form.lets.len() as u64 <= NUMBERS && columns.len() as u64 <= NUMBERS
 }

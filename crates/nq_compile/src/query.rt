@@ -23,26 +23,43 @@ use nq_model::{Memory, Schema, Term};
 use std::alloc::Global;
 use unfold::unfold;
 
-/// The SQL texts of an accepted query, one for each path of its type. They shred the query: over all tables of the
-/// schema, whatever answers SQL allows to them, in any order and with ties numbered in any way, those are linked, and
-/// stitching them by tag and number gives the nested multiset that the query means. The only error is that memory
-/// wants.
+/// The SQL texts of an accepted query, one for each path of its type. They shred the query: over
+/// all tables of the schema, whatever answers SQL allows to them, in any order and with ties
+/// numbered in any way, those are linked, and stitching them by tag and number gives the nested
+/// multiset that the query means. Fails only if memory runs out.
 ///
 /// After Cheney, Lindley and Wadler, "Query Shredding", SIGMOD 2014.
 pub fn compile(alloc: Global, schema: &Schema, term: Term) -> Result<Compiled, Memory>
     requires schema { IsProperSchema schema.now }
     requires proper { IsProperTerm (term_tree term) }
-    requires accepted { (element : TypeTree) × IsAccepted schema.now (term_tree term) (bag element) }
-    ensures result { IfOk result (λ compiled. (type : TypeTree) → IsAccepted schema.now (term_tree term) type → type_tree compiled.result ≡ type) }
-    ensures paths { IfOk result (λ compiled. steps_of compiled.paths ≡ paths (type_tree compiled.result)) }
-    ensures columns { IfOk result (λ compiled. compiled.columns ≡ map (columns_at (type_tree compiled.result)) (paths (type_tree compiled.result))) }
-    ensures texts { IfOk result (λ compiled. (element : TypeTree) (plain : PlacedTerm) → IsAccepted schema.now (term_tree term) (bag element)
-        → Unfolds (placed term) plain → compiled.texts ≡ texts_of schema.now (normal_form schema.now.tables element (bare plain))) }
-    ensures read { IfOk result (λ compiled. (element : TypeTree) (plain : PlacedTerm) → IsAccepted schema.now (term_tree term) (bag element)
-        → Unfolds (placed term) plain → TagAndNumberRead schema.now (normal_form schema.now.tables element (bare plain)) compiled.texts) }
-    ensures shreds { IfOk result (λ compiled. (element : TypeTree) → IsAccepted schema.now (term_tree term) (bag element)
-        → Shreds schema.now element compiled.texts (λ tables value. Means tables (placed term) value)) }
-    ensures linked { IfOk result (λ compiled. AnswersLink schema.now (type_tree compiled.result) compiled.texts) }
+    requires accepted { (element : TypeTree)
+        × IsAccepted schema.now (term_tree term) (bag element) }
+    ensures result { IfOk result
+        (λ compiled. (type : TypeTree) → IsAccepted schema.now (term_tree term) type
+        → type_tree compiled.result ≡ type) }
+    ensures paths { IfOk result
+        (λ compiled. steps_of compiled.paths ≡ paths (type_tree compiled.result)) }
+    ensures columns { IfOk result
+        (λ compiled. compiled.columns
+        ≡ map (columns_at (type_tree compiled.result)) (paths (type_tree compiled.result))) }
+    ensures texts { IfOk result
+        (λ compiled. (element : TypeTree) (plain : PlacedTerm)
+        → IsAccepted schema.now (term_tree term) (bag element)
+        → Unfolds (placed term) plain
+        → compiled.texts ≡ texts_of schema.now
+        (normal_form schema.now.tables element (bare plain))) }
+    ensures read { IfOk result
+        (λ compiled. (element : TypeTree) (plain : PlacedTerm)
+        → IsAccepted schema.now (term_tree term) (bag element)
+        → Unfolds (placed term) plain
+        → TagAndNumberRead schema.now (normal_form schema.now.tables element (bare plain))
+        compiled.texts) }
+    ensures shreds { IfOk result
+        (λ compiled. (element : TypeTree) → IsAccepted schema.now (term_tree term) (bag element)
+        → Shreds schema.now element compiled.texts
+        (λ tables value. Means tables (placed term) value)) }
+    ensures linked { IfOk result
+        (λ compiled. AnswersLink schema.now (type_tree compiled.result) compiled.texts) }
 {
     let plain = unfold(alloc, schema, term)?;
     let normal = normalise(alloc, schema, &plain)?;

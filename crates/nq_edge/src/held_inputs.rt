@@ -31,7 +31,8 @@ impl HeldInputs {
     ) -> Result<HeldInputs, Memory>
         requires { AreDistinct (map (λ file. file.0) files) }
         ensures held { IfOk result (λ inputs. ⟦<HeldInputs as Inputs>⟧.held inputs ≡ Some files) }
-        ensures fetched { IfOk result (λ inputs. ⟦<HeldInputs as Inputs>⟧.fetched inputs ≡ Some []) }
+        ensures fetched { IfOk result
+            (λ inputs. ⟦<HeldInputs as Inputs>⟧.fetched inputs ≡ Some []) }
         ensures faults { IfOk result (λ inputs. ⟦<HeldInputs as Inputs>⟧.faults inputs ≡ 0) }
         ensures failing { IfOk result (λ inputs. held_failing inputs ≡ failing) }
     {

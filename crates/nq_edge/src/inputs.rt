@@ -38,8 +38,8 @@ pub trait Inputs {
     /// How many calls failed.
     ghost faults: { Self → ℕ };
 
-    /// The bytes under a name, of which there are at most `limit`. `Failed` comes where the input was
-    /// not read, and `Long` where it has more bytes. A call that finds too little memory is not
+    /// The bytes under a name, of which there are at most `limit`. `Failed` comes where the input
+    /// was not read, and `Long` where it has more bytes. A call that finds too little memory is not
     /// among the told names.
     fn fetch(&mut self, alloc: Global, name: &str, limit: u64) -> Result<List<u8>, FetchFault>
         ensures bound { IfOk result (λ bytes. length bytes ≤ limit) }

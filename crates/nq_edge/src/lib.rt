@@ -1,5 +1,5 @@
-//! What is read and what is written, as two traits, with fakes in memory and adapters over files and
-//! writers.
+//! What is read and what is written, as two traits, with fakes in memory and adapters over files
+//! and writers.
 #![tactic(auto)]
 
 mod file_inputs;

@@ -100,7 +100,8 @@ pub fn put_seven<N: Sink>(
 )
     ensures { PutsLine (N.written notes.old) (N.written notes.new)
         (N.faults notes.old) (N.faults notes.new)
-        (first.now ++ (second.now ++ (third.now ++ (fourth.now ++ (fifth.now ++ (sixth.now ++ seventh.now)))))) }
+        (first.now ++ (second.now
+        ++ (third.now ++ (fourth.now ++ (fifth.now ++ (sixth.now ++ seventh.now)))))) }
 {
     match notes.put(first) {
         Ok(()) => put_six(notes, second, third, fourth, fifth, sixth, seventh),

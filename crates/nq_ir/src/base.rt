@@ -1,4 +1,5 @@
-// Base terms of normal forms, generators, and comprehensions that are tested, counted or summed over.
+// Base terms of normal forms, generators, and comprehensions that are tested, counted or summed
+// over.
 ghost use Rattle.std.specs.Prelude.{◌≡◌, IfOk, map};
 ghost use Rattle.nq_ir.specs.Trees.{base_tree, test_part};
 
@@ -24,9 +25,10 @@ impl Gen {
     }
 }
 
-/// A term of a base type. `Column` names a generator in scope by its number, and a column of its table.
-/// An `Int` is from 0 to 2^63 - 1. `Empty` tests whether none of its comprehensions gives an element. `Count` is how
-/// many elements one comprehension gives, and `Sum` the sum of a value over them, at 64 bits.
+/// A term of a base type. `Column` names a generator in scope by its number, and a column of its
+/// table. An `Int` is from 0 to 2^63 - 1. `Empty` tests whether none of its comprehensions gives an
+/// element. `Count` is how many elements one comprehension gives, and `Sum` the sum of a value over
+/// them, at 64 bits.
 ///
 /// After Cheney, Lindley and Wadler, "Query Shredding", SIGMOD 2014.
 #[cycle(base)]
@@ -62,8 +64,8 @@ pub enum Base {
 }
 
 /// A comprehension that is tested, counted or summed over: its generators, outermost first, and its
-/// conditions. It has no tag and no body: a test and a count look at no element, and a sum has its value
-/// beside it.
+/// conditions. It has no tag and no body: a test and a count look at no element, and a sum has its
+/// value beside it.
 #[cycle(base)]
 #[derive(Drop)]
 pub struct Test {

@@ -4,8 +4,8 @@ use nq_model::{Label, List, Ty};
 
 /// A query without functions as a union of comprehensions, with the type of its elements.
 ///
-/// After Cheney, Lindley and Wadler, "Query Shredding", SIGMOD 2014, and Cooper, "The script-writer's
-/// dream", DBPL 2009.
+/// After Cheney, Lindley and Wadler, "Query Shredding", SIGMOD 2014, and Cooper, "The
+/// script-writer's dream", DBPL 2009.
 #[cycle(normal)]
 #[derive(Drop)]
 pub struct Normal {
@@ -13,8 +13,8 @@ pub struct Normal {
     pub parts: List<Comp>,
 }
 
-/// A comprehension: its generators, outermost first, its conditions, and the body that each kept choice
-/// of rows gives. The tags of a form's comprehensions differ.
+/// A comprehension: its generators, outermost first, its conditions, and the body that each kept
+/// choice of rows gives. The tags of a form's comprehensions differ.
 #[cycle(normal)]
 #[derive(Drop)]
 pub struct Comp {

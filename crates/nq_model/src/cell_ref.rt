@@ -13,8 +13,8 @@ use std::alloc::Global;
 use std::cmp::Ordering;
 use std::hash::{Hash, Hasher};
 
-/// A cell that is lent to be read. In their order truth values stand first, with false before true, then
-/// integers by value, and then texts by bytes.
+/// A cell that is lent to be read. In their order truth values stand first, with false before true,
+/// then integers by value, and then texts by bytes.
 #[derive(Clone, Copy)]
 pub enum CellRef<'a> {
     Int(i64),

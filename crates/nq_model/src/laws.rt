@@ -6,7 +6,8 @@ ghost use Rattle.std.specs.Cmp.{IsTotalOrder};
 ghost use Rattle.nq_model.specs.Canonical.{value_cmp, canonical};
 ghost use Rattle.nq_model.specs.Values.{Nested, Elements, bag, bag_of, elements, Same, same};
 
-/// To be the same nested multiset is what counting decides, an equivalence, and a congruence for bags.
+/// To be the same nested multiset is what counting decides, an equivalence, and a congruence for
+/// bags.
 pub fn sameness_laws()
     ensures counting_decides { (v w : Nested) → Decides (same v w) (Same v w) }
     ensures reflexive { (v : Nested) → Same v v }
@@ -17,8 +18,8 @@ pub fn sameness_laws()
         → count_by (same u) (elements vs) ≡ count_by (same u) (elements ws) }
 {}
 
-/// The canonical order is a strict total order, and the canonical form of a value is the same nested
-/// multiset, which sameness determines.
+/// The canonical order is a strict total order, and the canonical form of a value is the same
+/// nested multiset, which sameness determines.
 pub fn canonical_laws()
     ensures total { IsTotalOrder value_cmp }
     ensures ties { (v w : Nested) → value_cmp v w ≡ Equal → v ≡ w }

@@ -86,14 +86,15 @@ impl<T> List<T> {
 
     /// Takes the last element off, if there is one.
     pub fn pop(&mut self) -> Option<T>
-        ensures { MatchOption result ((self.old ≡ []) × (self.new ≡ [])) (λ last. self.old ≡ self.new ++ last ∷ []) }
+        ensures { MatchOption result ((self.old ≡ []) × (self.new ≡ []))
+            (λ last. self.old ≡ self.new ++ last ∷ []) }
     {
         self.items.pop()
     }
 }
 
 impl<T: Drop> List<T> {
-    /// Puts an element at the end; where memory wants, the list stays and the element is dropped.
+    /// Puts an element at the end; if memory runs out, the list stays and the element is dropped.
     pub fn push(&mut self, item: T) -> Result<(), Memory>
         ensures ok { OnOk result (self.new ≡ self.old ++ item ∷ []) }
         ensures err { OnErr result (self.new ≡ self.old) }
@@ -112,7 +113,7 @@ impl<T: Copy> List<T> {
         Ok(List { items })
     }
 
-    /// Puts elements at the end; where memory wants, the list stays.
+    /// Puts elements at the end; if memory runs out, the list stays.
     pub fn extend_from_slice(&mut self, items: &[T]) -> Result<(), Memory>
         ensures ok { OnOk result (self.new ≡ self.old ++ items.now) }
         ensures err { OnErr result (self.new ≡ self.old) }

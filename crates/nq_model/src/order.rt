@@ -51,8 +51,8 @@ pub fn label_order<T>(alloc: Global, fields: &[(Label, T)]) -> Result<List<usize
     Ok(List::from_vec(order))
 }
 
-/// The fields in the byte order of their labels; of equal labels the earlier field first. The only error is that
-/// memory wants.
+/// The fields in the byte order of their labels; of equal labels the earlier field first. Fails
+/// only if memory runs out.
 pub fn in_label_order(fields: List<(Label, Ty)>) -> Result<List<(Label, Ty)>, Memory>
     ensures { IfOk result (λ sorted. fields_view sorted ≡ by_label (fields_view fields)) }
 {

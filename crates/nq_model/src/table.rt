@@ -14,8 +14,8 @@ pub enum ColumnType {
     Text,
 }
 
-/// The name of a table, its columns in the order of the schema, and the columns of its key. An empty
-/// key means that the table has none.
+/// The name of a table, its columns in the order of the schema, and the columns of its key. An
+/// empty key means that the table has none.
 #[derive(Drop)]
 pub struct TableShape {
     pub name: Label,

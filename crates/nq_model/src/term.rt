@@ -36,9 +36,9 @@ pub struct Term {
     pub node: Node,
 }
 
-/// What a term is. `Var(k)` names the k-th binder outwards, from 0 (de Bruijn, 1972): `Fun`, the body of
-/// `For` and the body of `Bind` bind one variable each. An `Int` is from 0 to 2^63 - 1. The fields of a
-/// `Rec` keep the order of the text.
+/// What a term is. `Var(k)` names the k-th binder outwards, from 0 (de Bruijn, 1972): `Fun`, the
+/// body of `For` and the body of `Bind` bind one variable each. An `Int` is from 0 to 2^63 - 1. The
+/// fields of a `Rec` keep the order of the text.
 #[cycle(term)]
 #[derive(Drop)]
 pub enum Node {

@@ -48,7 +48,8 @@ impl Ty {
         }
     }
 
-    /// Whether the two are one type. Records are, where they have the same labels with the same types.
+    /// Whether the two are one type. Records are, where they have the same labels with the same
+    /// types.
     #[cycle(same)]
     #[tactic(auto, using(crate::proofs::Terms::type_of_record))]
     pub fn same(&self, other: &Ty) -> bool
@@ -101,7 +102,8 @@ fn fields_plain(fields: &[(Label, Ty)]) -> bool
 
 #[cycle(same)]
 fn same_fields(left: &[(Label, Ty)], right: &[(Label, Ty)]) -> bool
-    ensures { result ≡ field_types_eq (field_types_of (fields_view left.now)) (field_types_of (fields_view right.now)) }
+    ensures { result ≡ field_types_eq (field_types_of (fields_view left.now))
+        (field_types_of (fields_view right.now)) }
 {
     if left.len() != right.len() {
         return false;

@@ -7,8 +7,8 @@ use crate::memory::Memory;
 use crate::text::{Label, Text};
 use std::alloc::Global;
 
-/// A value. The labels of a record differ and stand in byte order; the elements of a bag stand in any
-/// order, each as often as it is in the bag.
+/// A value. The labels of a record differ and stand in byte order; the elements of a bag stand in
+/// any order, each as often as it is in the bag.
 #[derive(Drop)]
 pub enum Value {
     Int(i64),
@@ -19,10 +19,12 @@ pub enum Value {
 }
 
 impl Value {
-    /// Whether the two are the same nested multiset: equal but for the order of the elements in each bag.
+    /// Whether the two are the same nested multiset: equal but for the order of the elements in
+    /// each bag.
     ///
-    /// This is the plain program, which counts: it compares each element of a bag with each other one, at
-    /// every depth. The fast way is to put both values into canonical form and to compare these.
+    /// This is the plain program, which counts: it compares each element of a bag with each other
+    /// one, at every depth. The fast way is to put both values into canonical form and to compare
+    /// these.
     #[cycle(same)]
     #[tactic(auto, using(crate::proofs::Trees::nested_record, crate::proofs::Trees::nested_bag))]
     pub fn same(&self, other: &Value) -> bool
@@ -58,7 +60,8 @@ impl Value {
 
 #[cycle(same)]
 fn same_fields(left: &[(Label, Value)], right: &[(Label, Value)]) -> bool
-    ensures { result ≡ same_fields (fields_of (map (λ f. (f.0, nested f.1)) left.now)) (fields_of (map (λ f. (f.0, nested f.1)) right.now)) }
+    ensures { result ≡ same_fields (fields_of (map (λ f. (f.0, nested f.1)) left.now))
+        (fields_of (map (λ f. (f.0, nested f.1)) right.now)) }
 {
     if left.len() != right.len() {
         return false;
@@ -74,7 +77,8 @@ fn same_fields(left: &[(Label, Value)], right: &[(Label, Value)]) -> bool
 // Whether each of the first elements is the same as as many of the first as of the second.
 #[cycle(same)]
 fn same_counts(left: &[Value], right: &[Value]) -> bool
-    ensures { result ≡ same_counts (elements_of (map nested left.now)) (map nested left.now) (map nested right.now) }
+    ensures { result ≡ same_counts (elements_of (map nested left.now)) (map nested left.now)
+        (map nested right.now) }
 {
     for value in left {
         if count_same(value, left) != count_same(value, right) {

@@ -14,13 +14,15 @@ ghost use Rattle.nq_model.specs.Values.{Nested, IsProper};
 ghost use Rattle.nq_model.specs.declared.table.Cell.{Cell};
 ghost use Rattle.nq_model.specs.declared.table.Schema.{Schema};
 
-/// Over tables of a schema, what a typed plain term means is of the term's type, where the values of the
-/// variables are of theirs. The labels of a value rise where those of its type do. A query means one value
-/// at most.
+/// Over tables of a schema, what a typed plain term means is of the term's type, where the values
+/// of the variables are of theirs. The labels of a value rise where those of its type do. A query
+/// means one value at most.
 pub fn meaning_laws()
-    ensures typed { (schema : Schema) (tables : List (List (List Cell))) → AreTablesOf schema.tables tables
+    ensures typed { (schema : Schema) (tables : List (List (List Cell)))
+        → AreTablesOf schema.tables tables
         → (context : List TypeTree) (env : List Nested) → AllZip IsOfType context env
-        → (t : TermTree) (a : TypeTree) → IsProperTerm t → IsPlainTerm t → HasType schema context t a
+        → (t : TermTree) (a : TypeTree) → IsProperTerm t → IsPlainTerm t
+        → HasType schema context t a
         → IsOfType a (meaning (database schema.tables tables) env t) }
     ensures proper { (a : TypeTree) (v : Nested) → IsOrdered a → IsOfType a v → IsProper v }
     ensures one { (tables : List FilledTable) (query : PlacedTerm) (v w : Nested)

@@ -30,7 +30,8 @@ pub fn start(
     stack: &mut Stack,
     token: Token<'_>,
 ) -> Result<Option<Position>, Memory>
-    ensures { Leads result (frames stack.new.levels) (start (edition_view edition) (frames stack.old.levels) (token_view token.entry)) }
+    ensures { Leads result (frames stack.new.levels)
+        (start (edition_view edition) (frames stack.old.levels) (token_view token.entry)) }
 {
     let place = token.place;
     match token.symbol {
@@ -75,7 +76,9 @@ pub fn start(
 // `(` and `)` are the record with no fields.
 #[tactic(auto, using(crate::proofs::Stepping::no_paren_closing))]
 fn no_fields(alloc: Global, stack: &mut Stack, closing: u64) -> Result<Option<Position>, Memory>
-    ensures { (edition : AnyEdition) → Leads result (frames stack.new.levels) (start edition (frames stack.old.levels) (Sign closing Closing)) }
+    ensures { (edition : AnyEdition)
+        → Leads result (frames stack.new.levels)
+        (start edition (frames stack.old.levels) (Sign closing Closing)) }
 {
     match stack.take_paren() {
         Some(opening) => have(alloc, Syntax::NoFields { opening, closing }, 1, 0),
@@ -86,7 +89,9 @@ fn no_fields(alloc: Global, stack: &mut Stack, closing: u64) -> Result<Option<Po
 // `[` and `:` begin an empty bag.
 #[tactic(auto, using(crate::proofs::Stepping::no_bag_colon))]
 fn nil_type(alloc: Global, stack: &mut Stack, colon: u64) -> Result<Option<Position>, Memory>
-    ensures { (edition : AnyEdition) → Leads result (frames stack.new.levels) (start edition (frames stack.old.levels) (Sign colon Colon)) }
+    ensures { (edition : AnyEdition)
+        → Leads result (frames stack.new.levels)
+        (start edition (frames stack.old.levels) (Sign colon Colon)) }
 {
     match stack.take_bag() {
         Some(opening) => {
@@ -102,7 +107,8 @@ fn nil_type(alloc: Global, stack: &mut Stack, colon: u64) -> Result<Option<Posit
 
 // `-` or `!`, where one may begin an expression.
 fn start_prefix(stack: &mut Stack, place: u64, op: Unary) -> Result<Option<Position>, Memory>
-    ensures { Leads result (frames stack.new.levels) (start_prefix (frames stack.old.levels) place op) }
+    ensures { Leads result (frames stack.new.levels)
+        (start_prefix (frames stack.old.levels) place op) }
 {
     if asks(stack) <= 8 {
         wants(stack, Form::Prefix { place, op })
@@ -120,7 +126,8 @@ fn start_word(
     place: u64,
     word: &str,
 ) -> Result<Option<Position>, Memory>
-    ensures { Leads result (frames stack.new.levels) (start_word (edition_view edition) (frames stack.old.levels) place word.now) }
+    ensures { Leads result (frames stack.new.levels)
+        (start_word (edition_view edition) (frames stack.old.levels) place word.now) }
 {
     match stack.take_paren() {
         Some(opening) => {
@@ -140,7 +147,8 @@ fn begin_word(
     place: u64,
     word: &str,
 ) -> Result<Option<Position>, Memory>
-    ensures { Leads result (frames stack.new.levels) (begin_word (kind_view kind) (frames stack.old.levels) place word.now) }
+    ensures { Leads result (frames stack.new.levels)
+        (begin_word (kind_view kind) (frames stack.old.levels) place word.now) }
 {
     match kind {
         WordKind::Name => {
@@ -161,14 +169,17 @@ fn begin_word(
 
 // A form of this level begins, where no higher one is asked for.
 fn begin_form(stack: &Stack, level: u64, at: Position) -> Option<Position>
-    ensures { Stands result (frames stack.now.levels) (cond (leb (asks (frames stack.now.levels)) level) (Some (position_view at (frames stack.now.levels))) None) }
+    ensures { Stands result (frames stack.now.levels)
+        (cond (leb (asks (frames stack.now.levels)) level)
+        (Some (position_view at (frames stack.now.levels))) None) }
 {
     let begins = asks(stack) <= level;
     begins.then_some(at)
 }
 
 fn begin_if(stack: &mut Stack, place: u64) -> Result<Option<Position>, Memory>
-    ensures { Leads result (frames stack.new.levels) (begin_word IsIf (frames stack.old.levels) place []) }
+    ensures { Leads result (frames stack.new.levels)
+        (begin_word IsIf (frames stack.old.levels) place []) }
 {
     if asks(stack) <= 1 {
         wants(stack, Form::If { place })

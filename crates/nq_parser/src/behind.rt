@@ -22,7 +22,8 @@ use nq_model::Memory;
 use query_syntax::{Operator, Symbol, Token};
 use std::alloc::Global;
 
-/// A token behind an expression: forms that are open to the right end before it, and another goes on.
+/// A token behind an expression: forms that are open to the right end before it, and another goes
+/// on.
 pub fn after(
     alloc: Global,
     edition: Edition,
@@ -30,7 +31,9 @@ pub fn after(
     part: Part,
     token: Token<'_>,
 ) -> Result<Option<Position>, Memory>
-    ensures { Leads result (frames stack.new.levels) (after (edition_view edition) (frames stack.old.levels) (part_view part) (token_view token.entry)) }
+    ensures { Leads result (frames stack.new.levels)
+        (after (edition_view edition) (frames stack.old.levels) (part_view part)
+        (token_view token.entry)) }
 {
     let part = settle(alloc, stack, part, token)?;
     shift(alloc, edition, stack, part, token)
@@ -44,7 +47,9 @@ fn shift(
     part: Part,
     token: Token<'_>,
 ) -> Result<Option<Position>, Memory>
-    ensures { Leads result (frames stack.new.levels) (shift (edition_view edition) (frames stack.old.levels) (part_view part) (token_view token.entry)) }
+    ensures { Leads result (frames stack.new.levels)
+        (shift (edition_view edition) (frames stack.old.levels) (part_view part)
+        (token_view token.entry)) }
 {
     let place = token.place;
     match token.symbol {
@@ -75,7 +80,9 @@ fn shift_operator(
     place: u64,
     op: Operator,
 ) -> Result<Option<Position>, Memory>
-    ensures { (edition : AnyEdition) → Leads result (frames stack.new.levels) (shift edition (frames stack.old.levels) (part_view left) (Oper place (operator_view op))) }
+    ensures { (edition : AnyEdition)
+        → Leads result (frames stack.new.levels)
+        (shift edition (frames stack.old.levels) (part_view left) (Oper place (operator_view op))) }
 {
     if left_level(op) <= level_of(&left.syntax) {
         wants(stack, Form::Right { left, place, op })
@@ -86,7 +93,9 @@ fn shift_operator(
 
 // A `(` applies the expression, where it may be a function.
 fn shift_opening(stack: &mut Stack, func: Part, opening: u64) -> Result<Option<Position>, Memory>
-    ensures { (edition : AnyEdition) → Leads result (frames stack.new.levels) (shift edition (frames stack.old.levels) (part_view func) (Sign opening Opening)) }
+    ensures { (edition : AnyEdition)
+        → Leads result (frames stack.new.levels)
+        (shift edition (frames stack.old.levels) (part_view func) (Sign opening Opening)) }
 {
     if 9 <= level_of(&func.syntax) {
         wants(stack, Form::Argument { func, opening })
@@ -97,7 +106,8 @@ fn shift_opening(stack: &mut Stack, func: Part, opening: u64) -> Result<Option<P
 
 // A `.` takes a field of the expression, where it may have one.
 fn shift_dot(of: Part, dot: u64) -> Option<Position>
-    ensures { (edition : AnyEdition) (k : List Frame) → Stands result k (shift edition k (part_view of) (Sign dot Dot)) }
+    ensures { (edition : AnyEdition) (k : List Frame)
+        → Stands result k (shift edition k (part_view of) (Sign dot Dot)) }
 {
     if 9 <= level_of(&of.syntax) {
         Some(Position::AtDot { of, dot })
@@ -108,7 +118,9 @@ fn shift_dot(of: Part, dot: u64) -> Option<Position>
 
 // The end of the text behind a whole program.
 fn shift_end(stack: &Stack, part: Part, end: u64) -> Option<Position>
-    ensures { (edition : AnyEdition) → Stands result (frames stack.now.levels) (shift edition (frames stack.now.levels) (part_view part) (End end)) }
+    ensures { (edition : AnyEdition)
+        → Stands result (frames stack.now.levels)
+        (shift edition (frames stack.now.levels) (part_view part) (End end)) }
 {
     if stack.height() == 0 {
         Some(Position::Ready { part, end })

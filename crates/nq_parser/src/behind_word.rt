@@ -29,7 +29,9 @@ pub fn at_word(
     word: Variable,
     token: Token<'_>,
 ) -> Result<Option<Position>, Memory>
-    ensures { Leads result (frames stack.new.levels) (at_word (edition_view edition) opening word.place word.name (frames stack.old.levels) (token_view token.entry)) }
+    ensures { Leads result (frames stack.new.levels)
+        (at_word (edition_view edition) opening word.place word.name (frames stack.old.levels)
+        (token_view token.entry)) }
 {
     match token.symbol {
         Symbol::Assign => wants(
@@ -54,7 +56,9 @@ fn no_label(
     word: Variable,
     token: Token<'_>,
 ) -> Result<Option<Position>, Memory>
-    ensures { Leads result (frames stack.new.levels) (no_label (edition_view edition) (kind (edition_view edition) word.name) opening word.place word.name (frames stack.old.levels) (token_view token.entry)) }
+    ensures { Leads result (frames stack.new.levels)
+        (no_label (edition_view edition) (kind (edition_view edition) word.name)
+        opening word.place word.name (frames stack.old.levels) (token_view token.entry)) }
 {
     stack.push(Form::Paren { opening })?;
     let Variable { place, name } = word;

@@ -46,7 +46,9 @@ pub fn at_aggregate(
     place: u64,
     token: Token<'_>,
 ) -> Result<Option<Position>, Memory>
-    ensures { Leads result (frames stack.new.levels) (at_aggregate (aggregate_view aggregate) place (frames stack.old.levels) (token_view token.entry)) }
+    ensures { Leads result (frames stack.new.levels)
+        (at_aggregate (aggregate_view aggregate) place (frames stack.old.levels)
+        (token_view token.entry)) }
 {
     match token.symbol {
         Symbol::Opening => wants(
@@ -76,7 +78,8 @@ pub fn at_for(place: u64, token: Token<'_>) -> Option<Position>
 
 /// The `(` behind `where`.
 pub fn at_where(stack: &mut Stack, place: u64, token: Token<'_>) -> Result<Option<Position>, Memory>
-    ensures { Leads result (frames stack.new.levels) (at_where place (frames stack.old.levels) (token_view token.entry)) }
+    ensures { Leads result (frames stack.new.levels)
+        (at_where place (frames stack.old.levels) (token_view token.entry)) }
 {
     match token.symbol {
         Symbol::Opening => wants(
@@ -111,7 +114,9 @@ pub fn at_for_open(
     opening: u64,
     token: Token<'_>,
 ) -> Result<Option<Position>, Memory>
-    ensures { (k : List Frame) → Leads result k (at_for_open (edition_view edition) place opening k (token_view token.entry)) }
+    ensures { (k : List Frame)
+        → Leads result k (at_for_open (edition_view edition) place opening k
+        (token_view token.entry)) }
 {
     match token.symbol {
         Symbol::Word(word) => {
@@ -141,7 +146,9 @@ pub fn at_fun_open(
     opening: u64,
     token: Token<'_>,
 ) -> Result<Option<Position>, Memory>
-    ensures { (k : List Frame) → Leads result k (at_fun_open (edition_view edition) place opening k (token_view token.entry)) }
+    ensures { (k : List Frame)
+        → Leads result k (at_fun_open (edition_view edition) place opening k
+        (token_view token.entry)) }
 {
     match token.symbol {
         Symbol::Word(word) => {
@@ -170,7 +177,8 @@ pub fn at_let(
     place: u64,
     token: Token<'_>,
 ) -> Result<Option<Position>, Memory>
-    ensures { (k : List Frame) → Leads result k (at_let (edition_view edition) place k (token_view token.entry)) }
+    ensures { (k : List Frame)
+        → Leads result k (at_let (edition_view edition) place k (token_view token.entry)) }
 {
     match token.symbol {
         Symbol::Word(word) => {
@@ -216,7 +224,9 @@ pub fn at_for_name(
     variable: Variable,
     token: Token<'_>,
 ) -> Result<Option<Position>, Memory>
-    ensures { Leads result (frames stack.new.levels) (at_for_name place opening variable.place variable.name (frames stack.old.levels) (token_view token.entry)) }
+    ensures { Leads result (frames stack.new.levels)
+        (at_for_name place opening variable.place variable.name (frames stack.old.levels)
+        (token_view token.entry)) }
 {
     match token.symbol {
         Symbol::From => wants(
@@ -240,7 +250,9 @@ pub fn at_fun_name(
     variable: Variable,
     token: Token<'_>,
 ) -> Option<Position>
-    ensures { (k : List Frame) → Stands result k (at_fun_name place opening variable.place variable.name k (token_view token.entry)) }
+    ensures { (k : List Frame)
+        → Stands result k (at_fun_name place opening variable.place variable.name k
+        (token_view token.entry)) }
 {
     match token.symbol {
         Symbol::Colon => {
@@ -270,7 +282,9 @@ pub fn at_fun_close(
     closing: u64,
     token: Token<'_>,
 ) -> Result<Option<Position>, Memory>
-    ensures { Leads result (frames stack.new.levels) (at_fun_close place opening variable.place variable.name colon (type_view taken.ty) closing (frames stack.old.levels) (token_view token.entry)) }
+    ensures { Leads result (frames stack.new.levels)
+        (at_fun_close place opening variable.place variable.name colon (type_view taken.ty) closing
+        (frames stack.old.levels) (token_view token.entry)) }
 {
     match token.symbol {
         Symbol::Arrow => wants(
@@ -296,7 +310,9 @@ pub fn at_let_name(
     variable: Variable,
     token: Token<'_>,
 ) -> Result<Option<Position>, Memory>
-    ensures { Leads result (frames stack.new.levels) (at_let_name place variable.place variable.name (frames stack.old.levels) (token_view token.entry)) }
+    ensures { Leads result (frames stack.new.levels)
+        (at_let_name place variable.place variable.name (frames stack.old.levels)
+        (token_view token.entry)) }
 {
     match token.symbol {
         Symbol::Assign => wants(
@@ -318,7 +334,8 @@ pub fn at_comma(
     comma: u64,
     token: Token<'_>,
 ) -> Result<Option<Position>, Memory>
-    ensures { (k : List Frame) → Leads result k (at_comma (fields_view fields) comma k (token_view token.entry)) }
+    ensures { (k : List Frame)
+        → Leads result k (at_comma (fields_view fields) comma k (token_view token.entry)) }
 {
     match token.symbol {
         Symbol::Word(word) => {
@@ -344,7 +361,9 @@ pub fn at_label(
     label: Variable,
     token: Token<'_>,
 ) -> Result<Option<Position>, Memory>
-    ensures { Leads result (frames stack.new.levels) (at_label (fields_view fields) comma label.place label.name (frames stack.old.levels) (token_view token.entry)) }
+    ensures { Leads result (frames stack.new.levels)
+        (at_label (fields_view fields) comma label.place label.name (frames stack.old.levels)
+        (token_view token.entry)) }
 {
     match token.symbol {
         Symbol::Assign => wants(
@@ -367,7 +386,8 @@ pub fn at_dot(
     dot: u64,
     token: Token<'_>,
 ) -> Result<Option<Position>, Memory>
-    ensures { (k : List Frame) → Leads result k (at_dot (part_view of) dot k (token_view token.entry)) }
+    ensures { (k : List Frame)
+        → Leads result k (at_dot (part_view of) dot k (token_view token.entry)) }
 {
     match token.symbol {
         Symbol::Word(word) => {

@@ -21,7 +21,8 @@ pub struct Hole {
     pub types: u64,
 }
 
-/// Whether a program of at most this depth, with types of at most this depth, begins with what was read.
+/// Whether a program of at most this depth, with types of at most this depth, begins with what was
+/// read.
 #[tactic(auto, using(crate::proofs::Needs::fits_is))]
 pub fn fits(state: &State, limit: u64) -> Result<bool, Memory>
     ensures { IfOk result (λ fit. fit ≡ fits limit (state_view state.now)) }
@@ -40,8 +41,10 @@ pub fn fits(state: &State, limit: u64) -> Result<bool, Memory>
 
 // What was begun inside the unfinished forms.
 fn hole_at(at: &Position, stack: &Stack) -> Result<Hole, Memory>
-    ensures depth { IfOk result (λ h. h.depth ≡ hole (position_view at.now (frames stack.now.levels))) }
-    ensures types { IfOk result (λ h. h.types ≡ hole_types (position_view at.now (frames stack.now.levels))) }
+    ensures depth { IfOk result
+        (λ h. h.depth ≡ hole (position_view at.now (frames stack.now.levels))) }
+    ensures types { IfOk result
+        (λ h. h.types ≡ hole_types (position_view at.now (frames stack.now.levels))) }
 {
     match at {
         Position::Want => Ok(want(stack)),
@@ -147,7 +150,8 @@ fn want_type_in(form: &TypeForm) -> u64
 // A type of this depth was begun.
 fn type_hole(ty: &TypeState, inner: u64) -> Result<Hole, Memory>
     ensures depth { IfOk result (λ h. h.depth ≡ around_depth (around_view ty.now.around)) }
-    ensures types { IfOk result (λ h. h.types ≡ over_types (type_frames ty.now.forms.levels) inner) }
+    ensures types { IfOk result
+        (λ h. h.types ≡ over_types (type_frames ty.now.forms.levels) inner) }
 {
     let depth = match ty.around {
         Around::Nil { .. } => 1,

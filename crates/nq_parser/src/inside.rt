@@ -29,7 +29,9 @@ pub fn close(
     part: Part,
     closing: u64,
 ) -> Result<Option<Position>, Memory>
-    ensures { (edition : AnyEdition) → Leads result (frames stack.new.levels) (shift edition (frames stack.old.levels) (part_view part) (Sign closing Closing)) }
+    ensures { (edition : AnyEdition)
+        → Leads result (frames stack.new.levels)
+        (shift edition (frames stack.old.levels) (part_view part) (Sign closing Closing)) }
 {
     match stack.pop() {
         Some(form) => close_form(alloc, stack, form, part, closing),
@@ -44,7 +46,10 @@ fn close_form(
     part: Part,
     closing: u64,
 ) -> Result<Option<Position>, Memory>
-    ensures { (edition : AnyEdition) → Leads result (frames stack.new.levels) (shift edition (form_view form ∷ frames stack.old.levels) (part_view part) (Sign closing Closing)) }
+    ensures { (edition : AnyEdition)
+        → Leads result (frames stack.new.levels)
+        (shift edition (form_view form ∷ frames stack.old.levels) (part_view part)
+        (Sign closing Closing)) }
 {
     match form {
         Form::Source {
@@ -135,7 +140,9 @@ fn asked(
     of: Part,
     closing: u64,
 ) -> Result<Part, Memory>
-    ensures { IfOk result (λ whole. part_view whole ≡ Aggregated (aggregate_view aggregate) place opening (part_view of) closing) }
+    ensures { IfOk result (λ whole.
+        part_view whole ≡ Aggregated (aggregate_view aggregate) place opening (part_view of)
+        closing) }
 {
     let depth = deeper(of.depth)?;
     let types = of.types;
@@ -150,7 +157,8 @@ fn asked(
 }
 
 fn apply(alloc: Global, func: Part, opening: u64, arg: Part, closing: u64) -> Result<Part, Memory>
-    ensures { IfOk result (λ whole. part_view whole ≡ Apply (part_view func) opening (part_view arg) closing) }
+    ensures { IfOk result (λ whole.
+        part_view whole ≡ Apply (part_view func) opening (part_view arg) closing) }
 {
     let depth = deeper(func.depth.max(arg.depth))?;
     let types = func.types.max(arg.types);
@@ -172,7 +180,9 @@ fn record(
     last: Part,
     closing: u64,
 ) -> Result<Part, Memory>
-    ensures { IfOk result (λ whole. part_view whole ≡ Rec (put_field (head_view head) place label mark (part_view last)) closing) }
+    ensures { IfOk result (λ whole.
+        part_view whole ≡ Rec (put_field (head_view head) place label mark (part_view last))
+        closing) }
 {
     let fields = put_field(alloc, head, place, label, mark, last)?;
     let depth = deeper(fields.depth)?;
@@ -193,7 +203,9 @@ pub fn close_bag(
     part: Part,
     closing: u64,
 ) -> Result<Option<Position>, Memory>
-    ensures { (edition : AnyEdition) → Leads result (frames stack.new.levels) (shift edition (frames stack.old.levels) (part_view part) (Sign closing ClosingBag)) }
+    ensures { (edition : AnyEdition)
+        → Leads result (frames stack.new.levels)
+        (shift edition (frames stack.old.levels) (part_view part) (Sign closing ClosingBag)) }
 {
     match stack.pop() {
         Some(form) => close_bag_form(alloc, stack, form, part, closing),
@@ -208,7 +220,10 @@ fn close_bag_form(
     part: Part,
     closing: u64,
 ) -> Result<Option<Position>, Memory>
-    ensures { (edition : AnyEdition) → Leads result (frames stack.new.levels) (shift edition (form_view form ∷ frames stack.old.levels) (part_view part) (Sign closing ClosingBag)) }
+    ensures { (edition : AnyEdition)
+        → Leads result (frames stack.new.levels)
+        (shift edition (form_view form ∷ frames stack.old.levels) (part_view part)
+        (Sign closing ClosingBag)) }
 {
     match form {
         Form::Bag { opening } => {
@@ -258,7 +273,9 @@ pub fn word_behind(
     place: u64,
     word: &str,
 ) -> Result<Option<Position>, Memory>
-    ensures { Leads result (frames stack.new.levels) (shift (edition_view edition) (frames stack.old.levels) (part_view part) (Word place word.now)) }
+    ensures { Leads result (frames stack.new.levels)
+        (shift (edition_view edition) (frames stack.old.levels) (part_view part)
+        (Word place word.now)) }
 {
     match stack.pop() {
         Some(form) => word_form(edition, stack, form, part, place, word),
@@ -274,7 +291,9 @@ fn word_form(
     behind: u64,
     word: &str,
 ) -> Result<Option<Position>, Memory>
-    ensures { Leads result (frames stack.new.levels) (shift (edition_view edition) (form_view form ∷ frames stack.old.levels) (part_view part) (Word behind word.now)) }
+    ensures { Leads result (frames stack.new.levels)
+        (shift (edition_view edition) (form_view form ∷ frames stack.old.levels) (part_view part)
+        (Word behind word.now)) }
 {
     match form {
         Form::If { place } => then_behind(stack, place, part, behind, kind_of(edition, word)),
@@ -319,7 +338,8 @@ fn then_behind(
     then_place: u64,
     kind: WordKind,
 ) -> Result<Option<Position>, Memory>
-    ensures { Leads result (frames stack.new.levels) (then_word (kind_view kind) place (part_view test) then_place (frames stack.old.levels)) }
+    ensures { Leads result (frames stack.new.levels)
+        (then_word (kind_view kind) place (part_view test) then_place (frames stack.old.levels)) }
 {
     match kind {
         WordKind::Then => wants(
@@ -353,7 +373,9 @@ fn else_behind(
     else_place: u64,
     kind: WordKind,
 ) -> Result<Option<Position>, Memory>
-    ensures { Leads result (frames stack.new.levels) (else_word (kind_view kind) place (part_view test) then_place (part_view yes) else_place (frames stack.old.levels)) }
+    ensures { Leads result (frames stack.new.levels)
+        (else_word (kind_view kind) place (part_view test) then_place (part_view yes) else_place
+        (frames stack.old.levels)) }
 {
     match kind {
         WordKind::Else => wants(
@@ -386,7 +408,9 @@ pub fn semicolon_behind(
     value: Part,
     semicolon: u64,
 ) -> Result<Option<Position>, Memory>
-    ensures { (edition : AnyEdition) → Leads result (frames stack.new.levels) (shift edition (frames stack.old.levels) (part_view value) (Sign semicolon Semicolon)) }
+    ensures { (edition : AnyEdition)
+        → Leads result (frames stack.new.levels)
+        (shift edition (frames stack.old.levels) (part_view value) (Sign semicolon Semicolon)) }
 {
     match stack.pop() {
         Some(form) => semicolon_form(stack, form, value, semicolon),
@@ -400,7 +424,10 @@ fn semicolon_form(
     value: Part,
     semicolon: u64,
 ) -> Result<Option<Position>, Memory>
-    ensures { (edition : AnyEdition) → Leads result (frames stack.new.levels) (shift edition (form_view form ∷ frames stack.old.levels) (part_view value) (Sign semicolon Semicolon)) }
+    ensures { (edition : AnyEdition)
+        → Leads result (frames stack.new.levels)
+        (shift edition (form_view form ∷ frames stack.old.levels) (part_view value)
+        (Sign semicolon Semicolon)) }
 {
     match form {
         Form::LetValue {
@@ -446,7 +473,9 @@ pub fn comma_behind(
     part: Part,
     comma: u64,
 ) -> Result<Option<Position>, Memory>
-    ensures { (edition : AnyEdition) → Leads result (frames stack.new.levels) (shift edition (frames stack.old.levels) (part_view part) (Sign comma Comma)) }
+    ensures { (edition : AnyEdition)
+        → Leads result (frames stack.new.levels)
+        (shift edition (frames stack.old.levels) (part_view part) (Sign comma Comma)) }
 {
     match stack.pop() {
         Some(form) => comma_form(alloc, stack, form, part, comma),
@@ -461,7 +490,10 @@ fn comma_form(
     part: Part,
     comma: u64,
 ) -> Result<Option<Position>, Memory>
-    ensures { (edition : AnyEdition) → Leads result (frames stack.new.levels) (shift edition (form_view form ∷ frames stack.old.levels) (part_view part) (Sign comma Comma)) }
+    ensures { (edition : AnyEdition)
+        → Leads result (frames stack.new.levels)
+        (shift edition (form_view form ∷ frames stack.old.levels) (part_view part)
+        (Sign comma Comma)) }
 {
     match form {
         Form::Field {

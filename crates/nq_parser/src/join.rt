@@ -154,7 +154,8 @@ pub fn put_field(
     mark: u64,
     last: Part,
 ) -> Result<Fields, Memory>
-    ensures { IfOk result (λ fs. fields_view fs ≡ put_field (head_view head) place label mark (part_view last)) }
+    ensures { IfOk result (λ fs.
+        fields_view fs ≡ put_field (head_view head) place label mark (part_view last)) }
 {
     match head {
         FieldHead::First { opening } => {
@@ -208,7 +209,8 @@ pub fn put_type(
     mark: u64,
     last: TypePart,
 ) -> Result<TypeFields, Memory>
-    ensures { IfOk result (λ fs. type_fields_view fs ≡ put_type (type_head_view head) place label mark (type_view last.ty)) }
+    ensures { IfOk result (λ fs.
+        type_fields_view fs ≡ put_type (type_head_view head) place label mark (type_view last.ty)) }
 {
     let TypePart { ty, depth } = last;
     match head {

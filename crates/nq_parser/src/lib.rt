@@ -1,7 +1,7 @@
 //! Reads query texts: their tokens one after the other, with a stack of unfinished forms.
 //!
-//! Where a form or a state is let go, `drop` says so: its parts are then dropped by one call, which the check reads once,
-//! and not at each place.
+//! Where a form or a state is let go, `drop` says so: its parts are then dropped by one call, which
+//! the check reads once, and not at each place.
 #![tactic(auto)]
 
 mod begin;

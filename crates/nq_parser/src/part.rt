@@ -33,8 +33,10 @@ pub struct Fields {
     pub others: List<(FieldName, Syntax)>,
     pub depth: u64,
     pub types: u64,
-    ghost measured: { depth ≡ fields_depth (record_fields first_name (syntax_view first.value) (named others)) },
-    ghost types_measured: { types ≡ fields_deepest (record_fields first_name (syntax_view first.value) (named others)) },
+    ghost measured: { depth
+        ≡ fields_depth (record_fields first_name (syntax_view first.value) (named others)) },
+    ghost types_measured: { types
+        ≡ fields_deepest (record_fields first_name (syntax_view first.value) (named others)) },
 }
 
 /// The fields of a record type that were read, and how deep their types are.
@@ -44,7 +46,8 @@ pub struct TypeFields {
     pub first: Box<TypeSyntax>,
     pub others: List<(FieldName, TypeSyntax)>,
     pub depth: u64,
-    ghost measured: { depth ≡ type_fields_depth (type_fields first_name (type_view first.value) (typed others)) },
+    ghost measured: { depth
+        ≡ type_fields_depth (type_fields first_name (type_view first.value) (typed others)) },
 }
 
 /// One more; no memory holds a tree that is too deep for a `u64`.

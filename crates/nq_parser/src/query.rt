@@ -10,11 +10,12 @@ use query_syntax::{SyntaxFault, lower, tokens};
 use std::alloc::Global;
 use std::str;
 
-/// The term that a query text spells at a depth, with the place of each node. A text that begins with `nq 2;` is
-/// of the second edition, and every other of the first. Parentheses count for the depth and leave no node. The
-/// faults come in this order, each at its first place in the text: `NotUtf8`; `Token` and `IntRange`;
-/// `Unexpected` and `Deep`, at the first token with which no program of that edition and depth begins; `Unbound`
-/// and `TwiceLabel`. `Memory` where there is too little memory.
+/// The term that a query text spells at a depth, with the place of each node. A text that begins
+/// with `nq 2;` is of the second edition, and every other of the first. Parentheses count for the
+/// depth and leave no node. The faults come in this order, each at its first place in the text:
+/// `NotUtf8`; `Token` and `IntRange`; `Unexpected` and `Deep`, at the first token with which no
+/// program of that edition and depth begins; `Unbound` and `TwiceLabel`. `Memory` where there is
+/// too little memory.
 #[tactic(auto, using(crate::proofs::ProperTerms::spelled_proper, crate::proofs::ProperTerms::spelled_closed))]
 pub fn parse(alloc: Global, text: &[u8], depth: u64) -> Result<Term, SyntaxFault>
     ensures parsed { Parsed result depth text.now }

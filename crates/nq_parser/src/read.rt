@@ -15,9 +15,9 @@ use crate::step::step;
 use query_syntax::{Syntax, SyntaxFault, Token};
 use std::alloc::Global;
 
-/// The program that the tokens of a text spell at a depth, in the edition that they begin with. `Unexpected`
-/// and `Deep` come at the first token with which the tokens begin no program of that edition and depth;
-/// `Memory` where there is too little memory.
+/// The program that the tokens of a text spell at a depth, in the edition that they begin with.
+/// `Unexpected` and `Deep` come at the first token with which the tokens begin no program of that
+/// edition and depth; `Memory` where there is too little memory.
 #[tactic(auto, using(crate::proofs::Programs::reads_first))]
 pub fn read(alloc: Global, tokens: &[Token<'_>], depth: u64) -> Result<Syntax, SyntaxFault>
     requires { Ends (map token_view tokens.now) }
@@ -29,8 +29,8 @@ pub fn read(alloc: Global, tokens: &[Token<'_>], depth: u64) -> Result<Syntax, S
     }
 }
 
-// The program that the tokens spell behind a header at a place. No program is of depth 0, so there the header
-// begins none.
+// The program that the tokens spell behind a header at a place. No program is of depth 0, so there
+// the header begins none.
 #[tactic(auto, using(crate::proofs::Programs::behind_deep, crate::proofs::Programs::behind_reads))]
 fn read_behind(
     alloc: Global,
@@ -39,7 +39,9 @@ fn read_behind(
     depth: u64,
 ) -> Result<Syntax, SyntaxFault>
     requires { Ends (map token_view tokens.now) }
-    ensures { (number : ℕ) (semicolon : ℕ) → Reads result depth (header_tokens Second (place, number, semicolon) (map token_view tokens.now)) }
+    ensures { (number : ℕ) (semicolon : ℕ)
+        → Reads result depth (header_tokens Second (place, number, semicolon)
+        (map token_view tokens.now)) }
 {
     if depth == 0 {
         return Err(SyntaxFault::Deep { place });
@@ -49,8 +51,8 @@ fn read_behind(
 
 // The program that the tokens behind a header spell.
 //
-// After Knuth, "On the translation of languages from left to right", Information and Control 1965: each
-// token shifts, or first reduces the unfinished forms that end before it.
+// After Knuth, "On the translation of languages from left to right", Information and Control 1965:
+// each token shifts, or first reduces the unfinished forms that end before it.
 fn read_body(
     alloc: Global,
     edition: Edition,
@@ -81,7 +83,8 @@ fn advance(
     token: Token<'_>,
     depth: u64,
 ) -> Result<State, SyntaxFault>
-    ensures { Advances (edition_view edition) result depth (state_view state) (token_view token.entry) }
+    ensures { Advances (edition_view edition) result depth (state_view state)
+        (token_view token.entry) }
 {
     let place = token.place;
     match step(alloc, edition, state, token)? {

@@ -28,7 +28,8 @@ fn top_ends(stack: &Stack, token: Token<'_>) -> bool
 
 // The innermost form, where it ends before the token.
 fn take_ending(stack: &mut Stack, token: Token<'_>) -> Option<Form>
-    ensures taken { Taken result (frames stack.old.levels) (frames stack.new.levels) (token_view token.entry) }
+    ensures taken { Taken result (frames stack.old.levels) (frames stack.new.levels)
+        (token_view token.entry) }
     ensures shorter { OnSome result (length stack.new.levels + 1 ≡ length stack.old.levels) }
 {
     if top_ends(stack, token) {
@@ -45,7 +46,8 @@ pub fn settle(
     first: Part,
     token: Token<'_>,
 ) -> Result<Part, Memory>
-    ensures { (edition : Edition) → IfOk result (λ whole. after edition (frames stack.old.levels) (part_view first) (token_view token.entry)
+    ensures { (edition : Edition) → IfOk result
+        (λ whole. after edition (frames stack.old.levels) (part_view first) (token_view token.entry)
         ≡ shift edition (frames stack.new.levels) (part_view whole) (token_view token.entry)) }
 {
     let mut part = first;

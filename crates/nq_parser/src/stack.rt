@@ -146,7 +146,8 @@ impl Stack {
 
     /// With one more form, inside the others.
     pub fn push(&mut self, form: Form) -> Result<(), Memory>
-        ensures { IfOk result (λ u. frames self.new.levels ≡ form_view form ∷ frames self.old.levels) }
+        ensures { IfOk result (λ u.
+            frames self.new.levels ≡ form_view form ∷ frames self.old.levels) }
     {
         match self.needs_with(&form) {
             Ok(needs) => {

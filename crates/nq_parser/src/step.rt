@@ -29,7 +29,8 @@ pub fn step(
     state: State,
     token: Token<'_>,
 ) -> Result<Option<State>, Memory>
-    ensures { Steps result (step (edition_view edition) (state_view state) (token_view token.entry)) }
+    ensures { Steps result (step (edition_view edition) (state_view state)
+        (token_view token.entry)) }
 {
     let State { stack, at } = state;
     let mut stack = stack;
@@ -47,7 +48,9 @@ fn step_at(
     at: Position,
     token: Token<'_>,
 ) -> Result<Option<Position>, Memory>
-    ensures { Leads result (frames stack.new.levels) (step (edition_view edition) (position_view at (frames stack.old.levels)) (token_view token.entry)) }
+    ensures { Leads result (frames stack.new.levels)
+        (step (edition_view edition) (position_view at (frames stack.old.levels))
+        (token_view token.entry)) }
 {
     match at {
         Position::Want => start(alloc, edition, stack, token),

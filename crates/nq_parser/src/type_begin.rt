@@ -27,7 +27,9 @@ pub fn start_type(
     ty: TypeState,
     token: Token<'_>,
 ) -> Result<Option<Position>, Memory>
-    ensures { (k : List Frame) → Leads result k (start_type (edition_view edition) (type_frames ty.forms.levels) (around_view ty.around) k (token_view token.entry)) }
+    ensures { (k : List Frame)
+        → Leads result k (start_type (edition_view edition) (type_frames ty.forms.levels)
+        (around_view ty.around) k (token_view token.entry)) }
 {
     let place = token.place;
     match token.symbol {
@@ -54,7 +56,9 @@ pub fn start_type(
 // `(` and `)` are the record type with no fields.
 #[tactic(auto, using(crate::proofs::TypeStepping::no_paren_closing))]
 fn no_types(ty: TypeState, closing: u64) -> Option<Position>
-    ensures { (edition : AnyEdition) (k : List Frame) → Stands result k (start_type edition (type_frames ty.forms.levels) (around_view ty.around) k (Sign closing Closing)) }
+    ensures { (edition : AnyEdition) (k : List Frame)
+        → Stands result k (start_type edition (type_frames ty.forms.levels) (around_view ty.around)
+        k (Sign closing Closing)) }
 {
     let mut ty = ty;
     match ty.forms.take_paren() {
@@ -78,7 +82,9 @@ fn start_base(
     place: u64,
     word: &str,
 ) -> Result<Option<Position>, Memory>
-    ensures { (k : List Frame) → Leads result k (start_base (edition_view edition) (type_frames ty.forms.levels) (around_view ty.around) k place word.now) }
+    ensures { (k : List Frame)
+        → Leads result k (start_base (edition_view edition) (type_frames ty.forms.levels)
+        (around_view ty.around) k place word.now) }
 {
     let mut ty = ty;
     match ty.forms.take_paren() {
@@ -93,7 +99,9 @@ fn start_base(
 
 // The name of a base type.
 fn begin_base(ty: TypeState, kind: WordKind, place: u64) -> Option<Position>
-    ensures { (k : List Frame) → Stands result k (begin_base (kind_view kind) (type_frames ty.forms.levels) (around_view ty.around) k place) }
+    ensures { (k : List Frame)
+        → Stands result k (begin_base (kind_view kind) (type_frames ty.forms.levels)
+        (around_view ty.around) k place) }
 {
     match kind {
         WordKind::Base(base) => {

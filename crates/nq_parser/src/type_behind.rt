@@ -28,7 +28,9 @@ pub fn after_type(
     ty: TypeState,
     token: Token<'_>,
 ) -> Result<Option<Position>, Memory>
-    ensures { (k : List Frame) → Leads result k (after_type (type_frames ty.forms.levels) (type_view part.ty) (around_view ty.around) k (token_view token.entry)) }
+    ensures { (k : List Frame)
+        → Leads result k (after_type (type_frames ty.forms.levels) (type_view part.ty)
+        (around_view ty.around) k (token_view token.entry)) }
 {
     let place = token.place;
     match token.symbol {
@@ -53,7 +55,9 @@ fn close(
     ty: TypeState,
     closing: u64,
 ) -> Result<Option<Position>, Memory>
-    ensures { (k : List Frame) → Leads result k (after_type (type_frames ty.forms.levels) (type_view part.ty) (around_view ty.around) k (Sign closing Closing)) }
+    ensures { (k : List Frame)
+        → Leads result k (after_type (type_frames ty.forms.levels) (type_view part.ty)
+        (around_view ty.around) k (Sign closing Closing)) }
 {
     let mut ty = ty;
     let (part, end) = settle_type(alloc, &mut ty.forms, part)?;
@@ -67,7 +71,9 @@ fn close_end(
     ty: TypeState,
     closing: u64,
 ) -> Result<Option<Position>, Memory>
-    ensures { (k : List Frame) → Leads result k (after_type (end_view end (type_frames ty.forms.levels)) (type_view part.ty) (around_view ty.around) k (Sign closing Closing)) }
+    ensures { (k : List Frame)
+        → Leads result k (after_type (end_view end (type_frames ty.forms.levels))
+        (type_view part.ty) (around_view ty.around) k (Sign closing Closing)) }
 {
     match end {
         TypeEnd::Paren { opening } => {
@@ -90,7 +96,9 @@ fn close_end(
 
 // The `)` behind the type of a function's variable.
 fn close_around(taken: TypePart, around: Around, closing: u64) -> Option<Position>
-    ensures { (k : List Frame) → Stands result k (after_around (around_view around) (type_view taken.ty) k (Sign closing Closing)) }
+    ensures { (k : List Frame)
+        → Stands result k (after_around (around_view around) (type_view taken.ty) k
+        (Sign closing Closing)) }
 {
     match around {
         Around::Fun {
@@ -113,7 +121,8 @@ fn close_around(taken: TypePart, around: Around, closing: u64) -> Option<Positio
 }
 
 fn paren(alloc: Global, opening: u64, inner: TypePart, closing: u64) -> Result<TypePart, Memory>
-    ensures { IfOk result (λ whole. type_view whole.ty ≡ TParen opening (type_view inner.ty) closing) }
+    ensures { IfOk result (λ whole.
+        type_view whole.ty ≡ TParen opening (type_view inner.ty) closing) }
 {
     let depth = deeper(inner.depth)?;
     let inner = boxed(alloc, inner.ty)?;
@@ -134,7 +143,9 @@ fn record(
     last: TypePart,
     closing: u64,
 ) -> Result<TypePart, Memory>
-    ensures { IfOk result (λ whole. type_view whole.ty ≡ TRec (put_type (type_head_view head) place label mark (type_view last.ty)) closing) }
+    ensures { IfOk result (λ whole.
+        type_view whole.ty ≡ TRec
+        (put_type (type_head_view head) place label mark (type_view last.ty)) closing) }
 {
     let fields = put_type(alloc, head, place, label, mark, last)?;
     let depth = deeper(fields.depth)?;
@@ -154,7 +165,9 @@ fn close_bag(
     ty: TypeState,
     closing: u64,
 ) -> Result<Option<Position>, Memory>
-    ensures { (k : List Frame) → Leads result k (after_type (type_frames ty.forms.levels) (type_view part.ty) (around_view ty.around) k (Sign closing ClosingBag)) }
+    ensures { (k : List Frame)
+        → Leads result k (after_type (type_frames ty.forms.levels) (type_view part.ty)
+        (around_view ty.around) k (Sign closing ClosingBag)) }
 {
     let mut ty = ty;
     let (part, end) = settle_type(alloc, &mut ty.forms, part)?;
@@ -168,7 +181,9 @@ fn close_bag_end(
     ty: TypeState,
     closing: u64,
 ) -> Result<Option<Position>, Memory>
-    ensures { (k : List Frame) → Leads result k (after_type (end_view end (type_frames ty.forms.levels)) (type_view part.ty) (around_view ty.around) k (Sign closing ClosingBag)) }
+    ensures { (k : List Frame)
+        → Leads result k (after_type (end_view end (type_frames ty.forms.levels))
+        (type_view part.ty) (around_view ty.around) k (Sign closing ClosingBag)) }
 {
     match end {
         TypeEnd::Bag { opening } => {
@@ -181,7 +196,8 @@ fn close_bag_end(
 }
 
 fn bag(alloc: Global, opening: u64, element: TypePart, closing: u64) -> Result<TypePart, Memory>
-    ensures { IfOk result (λ whole. type_view whole.ty ≡ TBag opening (type_view element.ty) closing) }
+    ensures { IfOk result (λ whole.
+        type_view whole.ty ≡ TBag opening (type_view element.ty) closing) }
 {
     let depth = deeper(element.depth)?;
     let element = boxed(alloc, element.ty)?;
@@ -200,7 +216,9 @@ fn close_nil(
     around: Around,
     closing: u64,
 ) -> Result<Option<Position>, Memory>
-    ensures { (k : List Frame) → Leads result k (after_around (around_view around) (type_view element.ty) k (Sign closing ClosingBag)) }
+    ensures { (k : List Frame)
+        → Leads result k (after_around (around_view around) (type_view element.ty) k
+        (Sign closing ClosingBag)) }
 {
     match around {
         Around::Nil { opening, colon } => {
@@ -224,7 +242,9 @@ fn comma_behind(
     ty: TypeState,
     comma: u64,
 ) -> Result<Option<Position>, Memory>
-    ensures { (k : List Frame) → Leads result k (after_type (type_frames ty.forms.levels) (type_view part.ty) (around_view ty.around) k (Sign comma Comma)) }
+    ensures { (k : List Frame)
+        → Leads result k (after_type (type_frames ty.forms.levels) (type_view part.ty)
+        (around_view ty.around) k (Sign comma Comma)) }
 {
     let mut ty = ty;
     let (part, end) = settle_type(alloc, &mut ty.forms, part)?;
@@ -239,7 +259,9 @@ fn comma_end(
     ty: TypeState,
     comma: u64,
 ) -> Result<Option<Position>, Memory>
-    ensures { (k : List Frame) → Leads result k (after_type (end_view end (type_frames ty.forms.levels)) (type_view part.ty) (around_view ty.around) k (Sign comma Comma)) }
+    ensures { (k : List Frame)
+        → Leads result k (after_type (end_view end (type_frames ty.forms.levels))
+        (type_view part.ty) (around_view ty.around) k (Sign comma Comma)) }
 {
     match end {
         TypeEnd::Field {

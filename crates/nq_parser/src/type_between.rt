@@ -28,7 +28,9 @@ pub fn at_type_comma(
     ty: TypeState,
     token: Token<'_>,
 ) -> Result<Option<Position>, Memory>
-    ensures { (k : List Frame) → Leads result k (at_type_comma (type_fields_view fields) comma (type_frames ty.forms.levels) (around_view ty.around) k (token_view token.entry)) }
+    ensures { (k : List Frame)
+        → Leads result k (at_type_comma (type_fields_view fields) comma
+        (type_frames ty.forms.levels) (around_view ty.around) k (token_view token.entry)) }
 {
     match token.symbol {
         Symbol::Word(word) => {
@@ -55,7 +57,9 @@ pub fn at_type_label(
     ty: TypeState,
     token: Token<'_>,
 ) -> Result<Option<Position>, Memory>
-    ensures { (k : List Frame) → Leads result k (at_type_label (type_fields_view fields) comma label.place label.name (type_frames ty.forms.levels) (around_view ty.around) k (token_view token.entry)) }
+    ensures { (k : List Frame)
+        → Leads result k (at_type_label (type_fields_view fields) comma label.place label.name
+        (type_frames ty.forms.levels) (around_view ty.around) k (token_view token.entry)) }
 {
     match token.symbol {
         Symbol::Colon => {
@@ -80,7 +84,9 @@ pub fn at_type_word(
     ty: TypeState,
     token: Token<'_>,
 ) -> Result<Option<Position>, Memory>
-    ensures { (k : List Frame) → Leads result k (at_type_word (edition_view edition) opening word.place word.name (type_frames ty.forms.levels) (around_view ty.around) k (token_view token.entry)) }
+    ensures { (k : List Frame)
+        → Leads result k (at_type_word (edition_view edition) opening word.place word.name
+        (type_frames ty.forms.levels) (around_view ty.around) k (token_view token.entry)) }
 {
     match token.symbol {
         Symbol::Colon => {
@@ -105,7 +111,9 @@ fn no_label(
     ty: TypeState,
     token: Token<'_>,
 ) -> Result<Option<Position>, Memory>
-    ensures { (k : List Frame) → Leads result k (no_type_label (kind (edition_view edition) word.name) opening word.place (type_frames ty.forms.levels) (around_view ty.around) k (token_view token.entry)) }
+    ensures { (k : List Frame)
+        → Leads result k (no_type_label (kind (edition_view edition) word.name) opening word.place
+        (type_frames ty.forms.levels) (around_view ty.around) k (token_view token.entry)) }
 {
     let kind = kind_of(edition, word.name.as_str());
     base_behind(alloc, opening, kind, word.place, ty, token)
@@ -120,7 +128,9 @@ fn base_behind(
     ty: TypeState,
     token: Token<'_>,
 ) -> Result<Option<Position>, Memory>
-    ensures { (k : List Frame) → Leads result k (no_type_label (kind_view kind) opening place (type_frames ty.forms.levels) (around_view ty.around) k (token_view token.entry)) }
+    ensures { (k : List Frame)
+        → Leads result k (no_type_label (kind_view kind) opening place (type_frames ty.forms.levels)
+        (around_view ty.around) k (token_view token.entry)) }
 {
     match kind {
         WordKind::Base(base) => {

@@ -36,7 +36,9 @@ pub fn settle_type(
     forms: &mut TypeStack,
     first: TypePart,
 ) -> Result<(TypePart, TypeEnd), Memory>
-    ensures { IfOk result (λ r. SameBehind (type_frames forms.old.levels) (type_view first.ty) (end_view r.1 (type_frames forms.new.levels)) (type_view r.0.ty)) }
+    ensures { IfOk result (λ r.
+        SameBehind (type_frames forms.old.levels) (type_view first.ty)
+        (end_view r.1 (type_frames forms.new.levels)) (type_view r.0.ty)) }
 {
     let mut part = first;
     'joining: loop {
@@ -66,7 +68,8 @@ pub fn settle_type(
 }
 
 fn function(alloc: Global, taken: TypePart, arrow: u64, given: TypePart) -> Result<TypePart, Memory>
-    ensures { IfOk result (λ whole. type_view whole.ty ≡ TFun (type_view taken.ty) arrow (type_view given.ty)) }
+    ensures { IfOk result (λ whole.
+        type_view whole.ty ≡ TFun (type_view taken.ty) arrow (type_view given.ty)) }
 {
     let depth = deeper(taken.depth.max(given.depth))?;
     let taken = boxed(alloc, taken.ty)?;

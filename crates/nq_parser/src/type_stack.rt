@@ -69,7 +69,8 @@ impl TypeStack {
 
     // How deep the type is at least with this form inside the others.
     fn needs_with(&self, form: &TypeForm) -> Result<u64, Memory>
-        ensures { IfOk result (λ deep. deep ≡ type_needs (type_form_view form.now ∷ type_frames self.now.levels)) }
+        ensures { IfOk result (λ deep.
+            deep ≡ type_needs (type_form_view form.now ∷ type_frames self.now.levels)) }
     {
         match held(form).checked_add(self.height() as u64) {
             Some(deep) => Ok(self.needs().max(deeper(deep)?)),
@@ -79,7 +80,8 @@ impl TypeStack {
 
     /// With one more form, inside the others.
     pub fn push(&mut self, form: TypeForm) -> Result<(), Memory>
-        ensures { IfOk result (λ u. type_frames self.new.levels ≡ type_form_view form ∷ type_frames self.old.levels) }
+        ensures { IfOk result (λ u.
+            type_frames self.new.levels ≡ type_form_view form ∷ type_frames self.old.levels) }
     {
         match self.needs_with(&form) {
             Ok(needs) => self.levels.push(TypeLevel { form, needs }),
@@ -112,7 +114,8 @@ impl TypeStack {
 
     /// Takes the innermost form off where it is a parenthesis, and says where that begins.
     pub fn take_paren(&mut self) -> Option<u64>
-        ensures { TakenTypeParen result (type_frames self.old.levels) (type_frames self.new.levels) }
+        ensures { TakenTypeParen result (type_frames self.old.levels)
+            (type_frames self.new.levels) }
     {
         match self.top() {
             Some(TypeForm::Paren { opening }) => {

@@ -13,7 +13,8 @@ use nq_model::Memory;
 
 /// An expression has to begin, inside one form more.
 pub fn wants(stack: &mut Stack, form: Form) -> Result<Option<Position>, Memory>
-    ensures { Leads result (frames stack.new.levels) (Some (Want (form_view form ∷ frames stack.old.levels))) }
+    ensures { Leads result (frames stack.new.levels)
+        (Some (Want (form_view form ∷ frames stack.old.levels))) }
 {
     stack.push(form)?;
     Ok(Some(Position::Want))
@@ -21,7 +22,9 @@ pub fn wants(stack: &mut Stack, form: Form) -> Result<Option<Position>, Memory>
 
 /// A type has to begin, inside one form more.
 pub fn wants_type(ty: TypeState, form: TypeForm) -> Result<Option<Position>, Memory>
-    ensures { (k : List Frame) → Leads result k (Some (WantType (type_form_view form ∷ type_frames ty.forms.levels) (around_view ty.around) k)) }
+    ensures { (k : List Frame)
+        → Leads result k (Some
+        (WantType (type_form_view form ∷ type_frames ty.forms.levels) (around_view ty.around) k)) }
 {
     let mut ty = ty;
     ty.forms.push(form)?;

@@ -35,7 +35,8 @@ pub fn type_line(alloc: Global, ty: &Ty) -> Result<List<u8>, Memory>
 fn normal_of(alloc: Global, schema: &Schema, term: Term) -> Result<Normal, Memory>
     requires schema { IsProperSchema schema.now }
     requires proper { IsProperTerm (term_tree term) }
-    requires accepted { (element : TypeTree) × IsAccepted schema.now (term_tree term) (bag element) }
+    requires accepted { (element : TypeTree)
+        × IsAccepted schema.now (term_tree term) (bag element) }
     ensures { IfOk result (λ normal. (plain : PlainReading) (type : TypeTree)
         → type_read schema.now (placed term) ≡ Ok type
         → form_tree normal ≡ shown_form plain schema.now (placed term) type) }

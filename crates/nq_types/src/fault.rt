@@ -4,8 +4,8 @@ ghost use Rattle.nq_types.specs.declared.fault.CheckFault.TheVariants.{Memory as
 
 use nq_model::Memory;
 
-/// Why a program is not accepted: the number of the first broken typing rule in judging order, and the
-/// place of the node that breaks it. `Memory` where there is too little memory.
+/// Why a program is not accepted: the number of the first broken typing rule in judging order, and
+/// the place of the node that breaks it. `Memory` where there is too little memory.
 #[derive(Clone, Copy, Debug, PartialEq, Eq)]
 pub enum CheckFault {
     Memory,

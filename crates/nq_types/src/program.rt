@@ -25,19 +25,21 @@ fn judge(alloc: Global, schema: &Schema, term: &Term) -> Result<Ty, CheckFault>
     body(23, term.place, ty)
 }
 
-/// The type of a program over a schema, which is a plain bag and the only type that it has; or the first
-/// broken typing rule and its place. `Memory` where there is too little memory.
+/// The type of a program over a schema, which is a plain bag and the only type that it has; or the
+/// first broken typing rule and its place. `Memory` where there is too little memory.
 ///
 /// After Cheney, Lindley and Wadler, "Query Shredding", SIGMOD 2014.
 pub fn check(alloc: Global, schema: &Schema, term: &Term) -> Result<Ty, CheckFault>
     ensures ok { IfOk result (λ ty. IsAccepted schema.now (term_tree term.now) (type_tree ty)) }
-    ensures only { IfOk result (λ ty. (a : TypeTree) → HasType schema.now [] (term_tree term.now) a → a ≡ type_tree ty) }
+    ensures only { IfOk result
+        (λ ty. (a : TypeTree) → HasType schema.now [] (term_tree term.now) a → a ≡ type_tree ty) }
     ensures err { IfErr result (HasCause schema.now (placed term.now)) }
 
     // The other way round, but for want of memory.
     ensures accepted { (a : TypeTree) → IsAccepted schema.now (term_tree term.now) a
         → MatchResult result (λ ty. type_tree ty ≡ a) (λ e. e ≡ CheckFault.Memory) }
-    ensures refused { (rule place : ℕ) → program_judged schema.now (placed term.now) ≡ Err (broken rule place)
+    ensures refused { (rule place : ℕ)
+        → program_judged schema.now (placed term.now) ≡ Err (broken rule place)
         → IsErrAnd result (IsIll rule place) }
 {
     judge(alloc, schema, term)

@@ -52,7 +52,8 @@ pub(crate) fn unary(op: Unary, place: u64, of: &Ty) -> Result<Ty, CheckFault>
 
 // What an operator gives on operands of these types, if they are base types that it takes.
 fn operated(op: Binary, left: &Ty, right: &Ty) -> Option<Ty>
-    ensures { option_map type_tree result ≡ binary_given op (type_tree left.now) (type_tree right.now) }
+    ensures { option_map type_tree result
+        ≡ binary_given op (type_tree left.now) (type_tree right.now) }
 {
     match (base_of(left), base_of(right)) {
         (Some(left), Some(right)) => match binary_type(op, left, right) {
@@ -64,7 +65,8 @@ fn operated(op: Binary, left: &Ty, right: &Ty) -> Option<Ty>
 }
 
 pub(crate) fn binary(op: Binary, place: u64, left: &Ty, right: &Ty) -> Result<Ty, CheckFault>
-    ensures { Gives result (by_rule (binary_rule op) place (binary_given op (type_tree left.now) (type_tree right.now))) }
+    ensures { Gives result (by_rule (binary_rule op) place
+        (binary_given op (type_tree left.now) (type_tree right.now))) }
 {
     match operated(op, left, right) {
         Some(given) => Ok(given),
@@ -76,7 +78,8 @@ pub(crate) fn binary(op: Binary, place: u64, left: &Ty, right: &Ty) -> Result<Ty
 }
 
 pub(crate) fn choice(place: u64, test: &Ty, yes: Ty, no: &Ty) -> Result<Ty, CheckFault>
-    ensures { Gives result (by_rule 11 place (choice_given (type_tree test.now) (type_tree yes) (type_tree no.now))) }
+    ensures { Gives result (by_rule 11 place
+        (choice_given (type_tree test.now) (type_tree yes) (type_tree no.now))) }
 {
     if test.same(&Ty::Bool) && yes.same(no) {
         Ok(yes)
@@ -97,7 +100,8 @@ pub(crate) fn parameter(place: u64, taken: &Ty) -> Result<(), CheckFault>
 }
 
 pub(crate) fn application(place: u64, func: Ty, arg: &Ty) -> Result<Ty, CheckFault>
-    ensures { Gives result (by_rule 13 place (application_given (type_tree func) (type_tree arg.now))) }
+    ensures { Gives result (by_rule 13 place
+        (application_given (type_tree func) (type_tree arg.now))) }
 {
     match func {
         Ty::Fun(taken, given) => {

@@ -8,7 +8,7 @@ use nq_model::{Label, List, Memory, Ty};
 use std::alloc::Global;
 
 /// The type as text: `int`, `bool`, `text`, bags as `[T]`, records as `(a: T, b: U)`, functions as
-/// `T -> U`. The only error is that memory wants.
+/// `T -> U`. Fails only if memory runs out.
 pub fn write_type(alloc: Global, ty: &Ty) -> Result<List<u8>, Memory>
     ensures { IfOk result (λ text. text ≡ written_type (type_tree ty.now)) }
 {
@@ -20,7 +20,8 @@ pub fn write_type(alloc: Global, ty: &Ty) -> Result<List<u8>, Memory>
 #[cycle(put)]
 #[tactic(auto, using(nq_model::proofs::Terms::type_of_record))]
 fn put_type(text: &mut String, ty: &Ty) -> Result<(), Memory>
-    ensures { OnOk result (string_bytes text.new ≡ string_bytes text.old ++ written_type (type_tree ty.now)) }
+    ensures { OnOk result (string_bytes text.new
+        ≡ string_bytes text.old ++ written_type (type_tree ty.now)) }
 {
     match ty {
         Ty::Int => Ok(text.push_str("int")?),
@@ -38,7 +39,8 @@ fn put_type(text: &mut String, ty: &Ty) -> Result<(), Memory>
 
 #[cycle(put)]
 fn put_bag(text: &mut String, element: &Ty) -> Result<(), Memory>
-    ensures { OnOk result (string_bytes text.new ≡ string_bytes text.old ++ written_type (bag (type_tree element.now))) }
+    ensures { OnOk result (string_bytes text.new
+        ≡ string_bytes text.old ++ written_type (bag (type_tree element.now))) }
 {
     text.push_str("[")?;
     put_type(text, element)?;
@@ -50,7 +52,9 @@ fn put_bag(text: &mut String, element: &Ty) -> Result<(), Memory>
 #[cycle(put)]
 fn put_taken(text: &mut String, taken: &Ty) -> Result<(), Memory>
     ensures { OnOk result (string_bytes text.new
-        ≡ string_bytes text.old ++ in_parentheses (is_function (type_tree taken.now)) (written_type (type_tree taken.now))) }
+        ≡ string_bytes text.old
+        ++ in_parentheses (is_function (type_tree taken.now))
+        (written_type (type_tree taken.now))) }
 {
     if is_function(taken) {
         text.push_str("(")?;
@@ -73,7 +77,8 @@ fn is_function(ty: &Ty) -> bool
 
 #[cycle(put)]
 fn put_record(text: &mut String, fields: &[(Label, Ty)]) -> Result<(), Memory>
-    ensures { OnOk result (string_bytes text.new ≡ string_bytes text.old ++ written_type (rec (field_types_of (fields_view fields.now)))) }
+    ensures { OnOk result (string_bytes text.new
+        ≡ string_bytes text.old ++ written_type (rec (field_types_of (fields_view fields.now)))) }
 {
     text.push_str("(")?;
     for (i, (label, ty)) in fields.iter().enumerate() {

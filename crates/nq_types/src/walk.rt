@@ -36,7 +36,8 @@ fn check_node(
     place: u64,
     node: &Node,
 ) -> Result<Ty, CheckFault>
-    ensures { Gives result (node_judged tables.now.schema.now (types_in scope.now) place (placed_node node.now)) }
+    ensures { Gives result (node_judged tables.now.schema.now (types_in scope.now) place
+        (placed_node node.now)) }
 {
     match node {
         Node::Var(k) => check_variable(alloc, scope, place, *k),
@@ -125,7 +126,8 @@ fn check_field(
     of: &Term,
     label: &Label,
 ) -> Result<Ty, CheckFault>
-    ensures { Gives result (node_judged tables.now.schema.now (types_in scope.now) place (PlacedNode.field (placed of.now) label.now)) }
+    ensures { Gives result (node_judged tables.now.schema.now (types_in scope.now) place
+        (PlacedNode.field (placed of.now) label.now)) }
 {
     match &of.node {
         Node::Var(k) => match scope.get(*k) {
@@ -173,8 +175,11 @@ fn check_fields(
     scope: &Scope<'_>,
     fields: &[(Label, Term)],
 ) -> Result<List<(Label, Ty)>, CheckFault>
-    ensures ok { IfOk result (λ types. listed tables.now.schema.now (types_in scope.now) (placed_fields fields.now) ≡ Ok (types_view types)) }
-    ensures err { IfErr result (Faults (listed tables.now.schema.now (types_in scope.now) (placed_fields fields.now))) }
+    ensures ok { IfOk result (λ types.
+        listed tables.now.schema.now (types_in scope.now) (placed_fields fields.now)
+        ≡ Ok (types_view types)) }
+    ensures err { IfErr result
+        (Faults (listed tables.now.schema.now (types_in scope.now) (placed_fields fields.now))) }
 {
     let mut types = List::with_capacity(alloc, fields.len())?;
     for field in fields {

@@ -73,7 +73,8 @@ fn literal_front<'a>(text: &'a str, place: usize, rest: &'a [u8]) -> Front<'a>
     }
 }
 
-// What stands at a place of a text, where this is the byte there and these are the bytes from there on.
+// What stands at a place of a text, where this is the byte there and these are the bytes from there
+// on.
 fn front_of<'a>(
     text: &'a str,
     place: usize,
@@ -108,7 +109,8 @@ fn front_of<'a>(
 pub fn front_at(text: &str, place: usize) -> Front<'_>
     requires within { place < length text.now }
     requires fits { length text.now < 2 ^ 64 }
-    ensures { (b : ℕ) (rest : List ℕ) → drop place text.now ≡ b ∷ rest → front_view result ≡ front place b rest }
+    ensures { (b : ℕ) (rest : List ℕ) → drop place text.now ≡ b ∷ rest
+        → front_view result ≡ front place b rest }
 {
     let (_, bytes) = text.as_bytes().split_at(place);
     match bytes.split_first() {

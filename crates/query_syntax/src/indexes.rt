@@ -16,12 +16,14 @@ use lexical::unquoted;
 use nq_model::{Label, List, Node, Term, boxed};
 use std::alloc::Global;
 
-/// The term of a syntax tree, in which the index of a variable is how many binders stand inside its own.
-/// `Unbound` or `TwiceLabel` at the first variable in the text that has no binder, or label that stands
-/// earlier in the same record or record type; `Memory` where there is too little memory, or the tree is one
-/// that no text spells: a literal whose quotes are not in twos so that no UTF-8 is left.
+/// The term of a syntax tree, in which the index of a variable is how many binders stand inside its
+/// own. `Unbound` or `TwiceLabel` at the first variable in the text that has no binder, or label
+/// that stands earlier in the same record or record type; `Memory` where there is too little
+/// memory, or the tree is one that no text spells: a literal whose quotes are not in twos so that
+/// no UTF-8 is left.
 ///
-/// After de Bruijn, "Lambda calculus notation with nameless dummies", Indagationes Mathematicae 1972.
+/// After de Bruijn, "Lambda calculus notation with nameless dummies", Indagationes Mathematicae
+/// 1972.
 #[tactic(auto, using(crate::proofs::Lowering::whole_walk))]
 pub fn lower(alloc: Global, syntax: Syntax) -> Result<Term, SyntaxFault>
     ensures { Lowered result (syntax_view syntax) }
@@ -175,7 +177,8 @@ fn lower_box(
     syntax: Box<Syntax>,
     scope: &mut List<Label>,
 ) -> Result<Box<Term>, SyntaxFault>
-    ensures gives { Gives (λ t. placed t.value) result (lowered (syntax_view syntax.value) (reverse scope.old)) }
+    ensures gives { Gives (λ t.
+        placed t.value) result (lowered (syntax_view syntax.value) (reverse scope.old)) }
     ensures scope { OnOk result (scope.new ≡ scope.old) }
 {
     let term = lower_under(alloc, Box::into_inner(syntax), scope)?;
@@ -192,7 +195,8 @@ fn lower_inside(
     syntax: Box<Syntax>,
     scope: &mut List<Label>,
 ) -> Result<Box<Term>, SyntaxFault>
-    ensures gives { Gives (λ t. placed t.value) result (lowered (syntax_view syntax.value) (name ∷ reverse scope.old)) }
+    ensures gives { Gives (λ t.
+        placed t.value) result (lowered (syntax_view syntax.value) (name ∷ reverse scope.old)) }
     ensures scope { OnOk result (scope.new ≡ scope.old) }
 {
     scope.push(name)?;
@@ -211,7 +215,8 @@ fn lower_fields(
     scope: &mut List<Label>,
 ) -> Result<List<(Label, Term)>, SyntaxFault>
     ensures gives { (syntax : Written) → lowered syntax (reverse scope.old) ≡ Ok (placed first)
-        → Gives places_view result (fields_lowered (record_fields first_name syntax (named others)) (reverse scope.old)) }
+        → Gives places_view result
+        (fields_lowered (record_fields first_name syntax (named others)) (reverse scope.old)) }
     ensures scope { OnOk result (scope.new ≡ scope.old) }
 {
     let mut labels = lower_labels::only(alloc, first_name.label.as_str())?;
@@ -232,7 +237,8 @@ fn term(place: u64, node: Node) -> Term
 }
 
 fn asked(aggregate: Aggregate, of: Box<Term>) -> Node
-    ensures { placed_node result ≡ PlacedNode.aggregate (aggregate_view aggregate) (placed of.value) }
+    ensures { placed_node result
+        ≡ PlacedNode.aggregate (aggregate_view aggregate) (placed of.value) }
 {
     match aggregate {
         Aggregate::Emptiness => Node::Empty(of),
@@ -251,7 +257,8 @@ fn variable(place: u64, name: &str, scope: &[Label]) -> Result<Term, SyntaxFault
 }
 
 fn operation(op: Operator, left: Box<Term>, right: Box<Term>) -> Node
-    ensures { placed_node result ≡ operator_node (operator_view op) (placed left.value) (placed right.value) }
+    ensures { placed_node result
+        ≡ operator_node (operator_view op) (placed left.value) (placed right.value) }
 {
     match op {
         Operator::Union => Node::Union { left, right },

@@ -11,8 +11,10 @@ use std::collections::BTreeSet;
 
 // Adds a label, and says whether it is new.
 fn add(alloc: Global, labels: &mut BTreeSet<String>, label: &str) -> Result<bool, Memory>
-    ensures new { (names : List (List ℕ)) → TellsNames names labels.old → IfOk result (λ new. new ≡ not (among label.now names)) }
-    ensures tells { (names : List (List ℕ)) → TellsNames names labels.old → IfOk result (λ new. TellsNames (label.now ∷ names) labels.new) }
+    ensures new { (names : List (List ℕ)) → TellsNames names labels.old → IfOk result
+        (λ new. new ≡ not (among label.now names)) }
+    ensures tells { (names : List (List ℕ)) → TellsNames names labels.old → IfOk result
+        (λ new. TellsNames (label.now ∷ names) labels.new) }
 {
     let name = String::from_str(alloc, label)?;
     Ok(labels.insert(name)?)
@@ -27,8 +29,8 @@ pub fn only(alloc: Global, label: &str) -> Result<BTreeSet<String>, Memory>
     Ok(labels)
 }
 
-/// Adds the label of a field: `TwiceLabel` at one that is there already; `Memory` where there is too little
-/// memory.
+/// Adds the label of a field: `TwiceLabel` at one that is there already; `Memory` where there is
+/// too little memory.
 pub fn put(
     alloc: Global,
     labels: &mut BTreeSet<String>,
@@ -46,8 +48,8 @@ pub fn put(
     }
 }
 
-/// How many binders stand inside the innermost one of this name, if there is one. The outermost stands
-/// first.
+/// How many binders stand inside the innermost one of this name, if there is one. The outermost
+/// stands first.
 pub fn index_of(scope: &[Label], name: &str) -> Option<usize>
     ensures { result ≡ index_of name.now (reverse scope.now) }
 {

@@ -11,9 +11,9 @@ use crate::syntax::{FieldName, TypeSyntax};
 use nq_model::{Label, List, Ty, boxed, in_label_order};
 use std::alloc::Global;
 
-/// The type that is written, in which the fields of a record stand in the byte order of their labels.
-/// `TwiceLabel` at the first label that stands earlier in the same record type; `Memory` where there is too
-/// little memory.
+/// The type that is written, in which the fields of a record stand in the byte order of their
+/// labels. `TwiceLabel` at the first label that stands earlier in the same record type; `Memory`
+/// where there is too little memory.
 #[cycle(lower_type)]
 #[tactic(auto, using(nq_model::proofs::Terms::type_of_record))]
 pub fn lower_type(alloc: Global, syntax: TypeSyntax) -> Result<Ty, SyntaxFault>
@@ -55,7 +55,8 @@ fn lower_type_box(alloc: Global, syntax: Box<TypeSyntax>) -> Result<Box<Ty>, Syn
     Ok(boxed)
 }
 
-// The fields of a record type in the order of the text, whatever was written as the type of the first.
+// The fields of a record type in the order of the text, whatever was written as the type of the
+// first.
 #[cycle(lower_type)]
 fn lower_type_fields(
     alloc: Global,
@@ -64,7 +65,8 @@ fn lower_type_fields(
     first: Ty,
 ) -> Result<List<(Label, Ty)>, SyntaxFault>
     ensures { (ty : Written) → type_lowered ty ≡ Ok (type_tree first)
-        → Gives fields_view result (type_fields_lowered (type_fields first_name ty (typed others))) }
+        → Gives fields_view result
+        (type_fields_lowered (type_fields first_name ty (typed others))) }
 {
     let mut labels = lower_labels::only(alloc, first_name.label.as_str())?;
     let mut lowered = List::new(alloc);

@@ -2,8 +2,8 @@
 use crate::symbol::{Operator, Whole};
 use nq_model::{ColumnType, Label, List, Text, Unary};
 
-/// The name of a field of a record or record type, with the places of the token before it, of itself, and
-/// of the `=` or `:` behind it.
+/// The name of a field of a record or record type, with the places of the token before it, of
+/// itself, and of the `=` or `:` behind it.
 #[derive(Drop)]
 pub struct FieldName {
     pub before: u64,

@@ -13,9 +13,9 @@ use nq_model::{List, Memory, Schema, Value};
 use rows::Table;
 use std::alloc::Global;
 
-/// What a normal form means over the tables of a schema: a bag. All choices of rows are made before any condition is
-/// tested, so this is slow. A form that is not well formed has a value too, which means nothing. The only error is
-/// that memory wants.
+/// What a normal form means over the tables of a schema: a bag. All choices of rows are made before
+/// any condition is tested, so this is slow. A form that is not well formed has a value too, which
+/// means nothing. Fails only if memory runs out.
 #[tactic(auto, using(nq_ir::proofs::Forms::form_is, nq_model::proofs::Trees::nested_bag))]
 pub fn evaluate(
     alloc: Global,
@@ -23,7 +23,9 @@ pub fn evaluate(
     tables: &[Table],
     form: &Normal,
 ) -> Result<Value, Memory>
-    ensures { IfOk result (λ value. nested value ≡ form_meaning (rows_in (database schema.now.tables (rows_of tables.now))) (form_tree form.now)) }
+    ensures { IfOk result (λ value.
+        nested value ≡ form_meaning (rows_in (database schema.now.tables (rows_of tables.now)))
+        (form_tree form.now)) }
 {
     let named = named_tables(alloc, schema, tables)?;
     let around = List::new(alloc);

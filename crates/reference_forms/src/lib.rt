@@ -1,5 +1,5 @@
-//! A plain, slow program beside the definition of what a normal form means: it evaluates the form over tables, and
-//! the definition is its contract. Tests compare quicker programs with it.
+//! A plain, slow program beside the definition of what a normal form means: it evaluates the form
+//! over tables, and the definition is its contract. Tests compare quicker programs with it.
 #![tactic(auto)]
 
 mod bodies;

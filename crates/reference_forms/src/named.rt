@@ -45,14 +45,15 @@ fn named(alloc: Global, columns: &[(Label, ColumnType)], rows: &Rows) -> Result<
     Ok(all)
 }
 
-/// The tables of a schema by name, each with its rows under the names of their columns. The only error is that
-/// memory wants.
+/// The tables of a schema by name, each with its rows under the names of their columns. Fails only
+/// if memory runs out.
 pub fn named_tables(
     alloc: Global,
     schema: &Schema,
     tables: &[Table],
 ) -> Result<List<NamedTable>, Memory>
-    ensures { IfOk result (λ all. all ≡ map named_table (database schema.now.tables (rows_of tables.now))) }
+    ensures { IfOk result (λ all.
+        all ≡ map named_table (database schema.now.tables (rows_of tables.now))) }
 {
     let shapes = schema.tables.as_slice();
     let mut all = List::new(alloc);
@@ -88,8 +89,8 @@ fn cell_under(alloc: Global, row: &[(Label, Cell)], column: &str) -> Result<Cell
     Ok(Cell::Bool(false))
 }
 
-/// A copy of the cell under a column of the row at which a generator stands; one that is not there counts as false.
-/// The only error is that memory wants.
+/// A copy of the cell under a column of the row at which a generator stands; one that is not there
+/// counts as false. Fails only if memory runs out.
 pub fn cell_at(
     alloc: Global,
     env: &[Standing],
@@ -106,7 +107,7 @@ pub fn cell_at(
     Ok(Cell::Bool(false))
 }
 
-/// A copy of a row. The only error is that memory wants.
+/// A copy of a row. Fails only if memory runs out.
 pub fn copy_row(alloc: Global, row: &[(Label, Cell)]) -> Result<Row, Memory>
     ensures { IfOk result (λ copy. copy ≡ row.now) }
 {
@@ -117,8 +118,8 @@ pub fn copy_row(alloc: Global, row: &[(Label, Cell)]) -> Result<Row, Memory>
     Ok(copy)
 }
 
-/// Puts copies of rows behind those that are there. The only error is that memory wants; some of the rows may have
-/// been put then.
+/// Puts copies of rows behind those that are there. Fails only if memory runs out; some of the rows
+/// may have been put then.
 pub fn extend(alloc: Global, env: &mut List<Standing>, more: &[Standing]) -> Result<(), Memory>
     ensures { OnOk result (env.new ≡ env.old ++ more.now) }
 {
@@ -129,7 +130,7 @@ pub fn extend(alloc: Global, env: &mut List<Standing>, more: &[Standing]) -> Res
     Ok(())
 }
 
-/// Copies of rows and then of more. The only error is that memory wants.
+/// Copies of rows and then of more. Fails only if memory runs out.
 pub fn joined(
     alloc: Global,
     first: &[Standing],

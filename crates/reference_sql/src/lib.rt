@@ -1,5 +1,5 @@
-//! A plain evaluator of SQL trees, for tests: nested loops over copies of the tables. Its contract is
-//! the relation of allowed answers.
+//! A plain evaluator of SQL trees, for tests: nested loops over copies of the tables. Its contract
+//! is the relation of allowed answers.
 #![tactic(auto)]
 
 mod answer;

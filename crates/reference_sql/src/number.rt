@@ -1,5 +1,5 @@
-// Numbers for key lists: a smaller list has a smaller number, and ties are numbered in the order in which
-// they arise, or in reverse.
+// Numbers for key lists: a smaller list has a smaller number, and ties are numbered in the order in
+// which they arise, or in reverse.
 ghost use Rattle.std.specs.Prelude.{◌≡◌, ◌++◌, ◌∷◌, [], IfOk, map, zip};
 ghost use Rattle.nq_model.specs.Numberings.{Numbers, key_lt};
 ghost use Rattle.reference_sql.specs.Dealing.{IsPlace, is_earlier, next_place, raise};

@@ -10,7 +10,8 @@ use sql_profile::{Answer, fits};
 use std::alloc::Global;
 use stitcher::IndexScheme;
 
-/// Whether there is one answer for each path of the scheme's type, and each fits the columns of its path.
+/// Whether there is one answer for each path of the scheme's type, and each fits the columns of its
+/// path.
 pub fn are_answers<S: IndexScheme>(
     alloc: Global,
     scheme: &S,
@@ -18,7 +19,8 @@ pub fn are_answers<S: IndexScheme>(
     answers: &[Answer],
 ) -> Result<bool, Memory>
     requires { (S.scheme scheme.now).elements ≡ element_types (type_tree of.now) }
-    ensures { IfOk result (λ are. IsTrue are → AreAnswersOf (S.scheme scheme.now) (type_tree of.now) (rows_of answers.now)) }
+    ensures { IfOk result (λ are. IsTrue are
+        → AreAnswersOf (S.scheme scheme.now) (type_tree of.now) (rows_of answers.now)) }
 {
     let paths = paths(alloc, of)?;
     if answers.len() != paths.len() {

@@ -1,5 +1,6 @@
-//! Plain programs on stitching, for tests: whether answers are such as stitching asks for, and stitching by the
-//! definition, which looks at all rows for each bag. Their contracts are the definitions of stitcher.
+//! Plain programs on stitching, for tests: whether answers are such as stitching asks for, and
+//! stitching by the definition, which looks at all rows for each bag. Their contracts are the
+//! definitions of stitcher.
 #![tactic(auto)]
 
 mod condition;

@@ -6,8 +6,8 @@ ghost use Rattle.reference_stitching.specs.Places.{behind};
 use crate::counts::{bags, leaves, slots};
 use nq_model::{Memory, Ty};
 
-/// The path and the place of the row in its answer, how many base parts and inner bags of the row's element stand
-/// before the part, and the number of the next inner path.
+/// The path and the place of the row in its answer, how many base parts and inner bags of the row's
+/// element stand before the part, and the number of the next inner path.
 #[derive(Clone, Copy)]
 pub(crate) struct Place {
     pub(crate) path: u64,
@@ -19,7 +19,8 @@ pub(crate) struct Place {
 
 /// The whole element of a row.
 pub(crate) fn whole(path: u64, row: usize) -> Result<Place, Memory>
-    ensures { IfOk result (λ at. at ≡ record { path = path; row = row; leaf = 0; slot = 0; inner = suc path }) }
+    ensures { IfOk result (λ at.
+        at ≡ record { path = path; row = row; leaf = 0; slot = 0; inner = suc path }) }
 {
     let inner = path.checked_add(1).ok_or(Memory)?;
     Ok(Place {

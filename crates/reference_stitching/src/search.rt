@@ -17,9 +17,9 @@ use sql_profile::Answer;
 use std::alloc::Global;
 use stitcher::IndexScheme;
 
-/// The nested value that answers stand for, one for each path of a bag type, by the definition: for each bag, all
-/// rows of its answer are looked at, and those whose outer index is the bag's give its elements, in row order. The
-/// only error is that memory wants.
+/// The nested value that answers stand for, one for each path of a bag type, by the definition: for
+/// each bag, all rows of its answer are looked at, and those whose outer index is the bag's give
+/// its elements, in row order. Fails only if memory runs out.
 ///
 /// After Cheney, Lindley and Wadler, "Query Shredding", SIGMOD 2014.
 pub fn stitch_by_search<S: IndexScheme>(
@@ -57,7 +57,9 @@ fn elements<S: IndexScheme>(
 ) -> Result<List<Value>, Memory>
     requires given { AreGiven (S.scheme scheme.now) (rows_of answers.now) }
     requires path { AreAt (S.scheme scheme.now).elements (bag (type_tree of.now)) path }
-    ensures { IfOk result (λ values. map nested values ≡ built (source (S.scheme scheme.now) (rows_of answers.now)) (type_tree of.now) path index.now) }
+    ensures { IfOk result (λ values.
+        map nested values ≡ built (source (S.scheme scheme.now) (rows_of answers.now))
+        (type_tree of.now) path index.now) }
 {
     let rows = rows_at(answers, path);
     let mut values = List::new(alloc);
@@ -83,7 +85,9 @@ fn element<S: IndexScheme>(
 ) -> Result<Value, Memory>
     requires given { AreGiven (S.scheme scheme.now) (rows_of answers.now) }
     requires stands { Stands (S.scheme scheme.now) (rows_of answers.now) at (type_tree part.now) }
-    ensures { IfOk result (λ value. nested value ≡ value_at (S.scheme scheme.now) (rows_of answers.now) at (type_tree part.now)) }
+    ensures { IfOk result (λ value.
+        nested value ≡ value_at (S.scheme scheme.now) (rows_of answers.now) at
+        (type_tree part.now)) }
 {
     match part {
         Ty::Int | Ty::Bool | Ty::Text => base(alloc, scheme, answers, at),
@@ -110,8 +114,12 @@ fn field_values<S: IndexScheme>(
     at: Place,
 ) -> Result<List<(Label, Value)>, Memory>
     requires given { AreGiven (S.scheme scheme.now) (rows_of answers.now) }
-    requires stands { Stands (S.scheme scheme.now) (rows_of answers.now) at (rec (field_types_of (fields_view fields.now))) }
-    ensures { IfOk result (λ values. fields_of (values_view values) ≡ fields_at (S.scheme scheme.now) (rows_of answers.now) at (field_types_of (fields_view fields.now))) }
+    requires stands { Stands (S.scheme scheme.now) (rows_of answers.now) at
+        (rec (field_types_of (fields_view fields.now))) }
+    ensures { IfOk result (λ values.
+        fields_of (values_view values)
+        ≡ fields_at (S.scheme scheme.now) (rows_of answers.now) at
+        (field_types_of (fields_view fields.now))) }
 {
     let mut values = List::with_capacity(alloc, fields.len())?;
     let mut here = at;
@@ -133,7 +141,9 @@ fn base<S: IndexScheme>(
     requires given { AreGiven (S.scheme scheme.now) (rows_of answers.now) }
     requires leaf { IsLeaf (S.scheme scheme.now) at.path at.leaf }
     requires row { at.row < length (get_or (rows_of answers.now) at.path []) }
-    ensures { IfOk result (λ value. nested value ≡ base (get_or (row_of (rows_of answers.now) at) ((S.scheme scheme.now).base at.path at.leaf - 1) no_cell)) }
+    ensures { IfOk result (λ value.
+        nested value ≡ base (get_or (row_of (rows_of answers.now) at)
+        ((S.scheme scheme.now).base at.path at.leaf - 1) no_cell)) }
 {
     let column = scheme.base(at.path, at.leaf) - 1;
     let rows = rows_at(answers, at.path);
@@ -150,7 +160,8 @@ fn inner<S: IndexScheme>(
     requires given { AreGiven (S.scheme scheme.now) (rows_of answers.now) }
     requires slot { IsSlot (S.scheme scheme.now) at.path at.slot }
     requires row { at.row < length (get_or (rows_of answers.now) at.path []) }
-    ensures { IfOk result (λ index. index ≡ (S.scheme scheme.now).inner at.path at.slot (row_of (rows_of answers.now) at)) }
+    ensures { IfOk result (λ index.
+        index ≡ (S.scheme scheme.now).inner at.path at.slot (row_of (rows_of answers.now) at)) }
 {
     let rows = rows_at(answers, at.path);
     scheme.inner(alloc, at.path, at.slot, rows, at.row)

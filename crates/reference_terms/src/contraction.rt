@@ -23,7 +23,8 @@ fn contract_apply(
     func: &Term,
     arg: &Term,
 ) -> Result<Option<Term>, Memory>
-    ensures { IfOk result (λ made. option_map placed made ≡ contract_apply place (placed func.now) (placed arg.now)) }
+    ensures { IfOk result (λ made.
+        option_map placed made ≡ contract_apply place (placed func.now) (placed arg.now)) }
 {
     match &func.node {
         Node::Fun { taken: _, body } => Ok(Some(subst(alloc, body, arg, 0)?)),
@@ -41,7 +42,8 @@ fn contract_apply(
 }
 
 fn applied(alloc: Global, place: u64, func: &Term, arg: &Term) -> Result<Term, Memory>
-    ensures { IfOk result (λ t. placed t ≡ at place (PlacedNode.apply (placed func.now) (placed arg.now))) }
+    ensures { IfOk result (λ t.
+        placed t ≡ at place (PlacedNode.apply (placed func.now) (placed arg.now))) }
 {
     let func = boxed(alloc, func.copy(alloc)?)?;
     let arg = boxed(alloc, arg.copy(alloc)?)?;
@@ -58,7 +60,8 @@ fn contract_field(
     of: &Term,
     label: &Label,
 ) -> Result<Option<Term>, Memory>
-    ensures { IfOk result (λ made. option_map placed made ≡ contract_field place (placed of.now) label.now) }
+    ensures { IfOk result (λ made.
+        option_map placed made ≡ contract_field place (placed of.now) label.now) }
 {
     match &of.node {
         Node::Rec(fields) => picked(alloc, label.as_str(), fields.as_slice()),
@@ -88,7 +91,8 @@ fn field_of(alloc: Global, place: u64, of: &Term, label: &Label) -> Result<Term,
 
 // A copy of the first field of that label.
 fn picked(alloc: Global, label: &str, fields: &[(Label, Term)]) -> Result<Option<Term>, Memory>
-    ensures { IfOk result (λ made. option_map placed made ≡ picked label.now (placed_fields fields.now)) }
+    ensures { IfOk result (λ made.
+        option_map placed made ≡ picked label.now (placed_fields fields.now)) }
 {
     for field in fields {
         if label == field.0.as_str() {
@@ -106,7 +110,10 @@ pub fn step_apply(
     func: Box<Term>,
     arg: Box<Term>,
 ) -> Result<Stepped, Memory>
-    ensures { IfOk result (λ s. Then moved (contract_apply place (placed func.value) (placed arg.value)) (at place (PlacedNode.apply (placed func.value) (placed arg.value))) s.moved (placed s.term)) }
+    ensures { IfOk result (λ s.
+        Then moved (contract_apply place (placed func.value) (placed arg.value))
+        (at place (PlacedNode.apply (placed func.value) (placed arg.value))) s.moved
+        (placed s.term)) }
 {
     if !moved {
         if let Some(term) = contract_apply(alloc, place, &func, &arg)? {
@@ -128,7 +135,9 @@ pub fn step_field(
     of: Box<Term>,
     label: Label,
 ) -> Result<Stepped, Memory>
-    ensures { IfOk result (λ s. Then moved (contract_field place (placed of.value) label) (at place (PlacedNode.field (placed of.value) label)) s.moved (placed s.term)) }
+    ensures { IfOk result (λ s.
+        Then moved (contract_field place (placed of.value) label)
+        (at place (PlacedNode.field (placed of.value) label)) s.moved (placed s.term)) }
 {
     if !moved {
         if let Some(term) = contract_field(alloc, place, &of, &label)? {
@@ -150,7 +159,10 @@ pub fn step_bind(
     value: Box<Term>,
     body: Box<Term>,
 ) -> Result<Stepped, Memory>
-    ensures { IfOk result (λ s. Then moved (Some (subst 0 (placed value.value) (placed body.value))) (at place (PlacedNode.bind (placed value.value) (placed body.value))) s.moved (placed s.term)) }
+    ensures { IfOk result (λ s.
+        Then moved (Some (subst 0 (placed value.value) (placed body.value)))
+        (at place (PlacedNode.bind (placed value.value) (placed body.value))) s.moved
+        (placed s.term)) }
 {
     if moved {
         let node = Node::Bind { value, body };

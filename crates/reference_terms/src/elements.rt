@@ -20,8 +20,8 @@ pub fn elements_in(alloc: Global, value: Value) -> List<Value>
     }
 }
 
-/// Moves values behind those that are there. The only error is that memory wants; some of the values may have
-/// been moved then.
+/// Moves values behind those that are there. Fails only if memory runs out; some of the values may
+/// have been moved then.
 pub fn append(all: &mut List<Value>, more: List<Value>) -> Result<(), Memory>
     ensures { OnOk result (all.new ≡ all.old ++ more) }
 {

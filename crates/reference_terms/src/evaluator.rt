@@ -19,8 +19,8 @@ use nq_model::{
 use rows::Table;
 use std::alloc::Global;
 
-/// What a plain term means over the tables of a schema, where the variables have these values. A term
-/// that is not typed has a value too, which means nothing. The only error is that memory wants.
+/// What a plain term means over the tables of a schema, where the variables have these values. A
+/// term that is not typed has a value too, which means nothing. Fails only if memory runs out.
 #[cycle(evaluate)]
 pub fn evaluate(
     alloc: Global,
@@ -29,7 +29,9 @@ pub fn evaluate(
     scope: &Scope,
     term: &Term,
 ) -> Result<Value, Memory>
-    ensures { IfOk result (λ value. nested value ≡ meaning (database schema.now.tables (rows_of tables.now)) (values scope.now) (term_tree term.now)) }
+    ensures { IfOk result (λ value.
+        nested value ≡ meaning (database schema.now.tables (rows_of tables.now)) (values scope.now)
+        (term_tree term.now)) }
 {
     match &term.node {
         Node::Var(k) => scope.value(alloc, *k),
@@ -121,7 +123,9 @@ fn evaluate_fields(
     scope: &Scope,
     fields: &[(Label, Term)],
 ) -> Result<List<(Label, Value)>, Memory>
-    ensures { IfOk result (λ made. fields_view made ≡ field_meanings (database schema.now.tables (rows_of tables.now)) (values scope.now) (term_fields_of (terms_view fields.now))) }
+    ensures { IfOk result (λ made.
+        fields_view made ≡ field_meanings (database schema.now.tables (rows_of tables.now))
+        (values scope.now) (term_fields_of (terms_view fields.now))) }
 {
     let mut made = List::new(alloc);
     let mut place = fields.len();

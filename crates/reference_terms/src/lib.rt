@@ -1,5 +1,5 @@
-//! Plain, slow programs beside definitions of nq_model: what a term means, and the steps of unfolding,
-//! each with the definition as its contract. Tests compare quicker programs with them.
+//! Plain, slow programs beside definitions of nq_model: what a term means, and the steps of
+//! unfolding, each with the definition as its contract. Tests compare quicker programs with them.
 #![tactic(auto)]
 
 mod cells;

@@ -15,10 +15,11 @@ pub enum Scope<'a> {
 }
 
 impl<'a> Scope<'a> {
-    /// A copy of the value of the k-th variable outwards. One that is not there counts as false. The only error
-    /// is that memory wants.
+    /// A copy of the value of the k-th variable outwards. One that is not there counts as false.
+    /// Fails only if memory runs out.
     pub fn value(&self, alloc: Global, k: u64) -> Result<Value, Memory>
-        ensures { IfOk result (λ value. nested value ≡ get_or (values self.now) k (base (cell.Bool false))) }
+        ensures { IfOk result (λ value.
+            nested value ≡ get_or (values self.now) k (base (cell.Bool false))) }
     {
         match self {
             Scope::Top => Ok(Value::Bool(false)),

@@ -9,7 +9,8 @@ use std::alloc::Global;
 /// The term under `by` more binders, where the variables below `from` are its own. A variable past
 /// 2^64 - 1 counts as want of memory: no term in memory has so many binders around it.
 ///
-/// After de Bruijn, "Lambda calculus notation with nameless dummies", Indagationes Mathematicae 1972.
+/// After de Bruijn, "Lambda calculus notation with nameless dummies", Indagationes Mathematicae
+/// 1972.
 #[cycle(shift)]
 pub(crate) fn shift(alloc: Global, term: &Term, by: u64, from: u64) -> Result<Term, Memory>
     ensures { IfOk result (λ t. placed t ≡ shift by from (placed term.now)) }
@@ -162,7 +163,8 @@ fn shift_fields(
     by: u64,
     from: u64,
 ) -> Result<List<(Label, Term)>, Memory>
-    ensures { IfOk result (λ new. fields_with_places new ≡ map (λ f. (f.0, shift by from f.1)) (fields_with_places fields.now)) }
+    ensures { IfOk result (λ new. fields_with_places new ≡ map
+        (λ f. (f.0, shift by from f.1)) (fields_with_places fields.now)) }
 {
     let mut all = List::new(alloc);
     for field in fields {

@@ -8,7 +8,7 @@ use crate::contraction::{Stepped, step_apply, step_bind, step_field};
 use nq_model::{Label, List, Memory, Node, Term, boxed};
 use std::alloc::Global;
 
-/// What a term unfolds to, reached by one step after the other. The only error is that memory wants;
+/// What a term unfolds to, reached by one step after the other. Fails only if memory runs out;
 /// steps past 2^64 - 1 count as that too.
 #[tactic(auto, using(crate::proofs::Stepping::one_more_step, crate::proofs::Stepping::no_more_steps))]
 pub fn unfold_by_steps(alloc: Global, term: Term) -> Result<Term, Memory>
@@ -25,8 +25,9 @@ pub fn unfold_by_steps(alloc: Global, term: Term) -> Result<Term, Memory>
     Err(Memory)
 }
 
-/// One step of unfolding: the first contractible node in post-order is contracted. Where there is none,
-/// the term stays. The only error is that memory wants; a variable past 2^64 - 1 counts as that too.
+/// One step of unfolding: the first contractible node in post-order is contracted. Where there is
+/// none, the term stays. Fails only if memory runs out; a variable past 2^64 - 1 counts as that
+/// too.
 #[cycle(step)]
 pub fn step(alloc: Global, term: Term) -> Result<Stepped, Memory>
     ensures { IfOk result (λ s. Tells (step (placed term)) s.moved (placed term) (placed s.term)) }
@@ -113,7 +114,8 @@ pub fn step(alloc: Global, term: Term) -> Result<Stepped, Memory>
 // A step of a part, unless a part before it has moved.
 #[cycle(step)]
 fn step_box(alloc: Global, moved: bool, term: Box<Term>) -> Result<(bool, Box<Term>), Memory>
-    ensures { IfOk result (λ s. Then moved (step (placed term.value)) (placed term.value) s.0 (placed s.1.value)) }
+    ensures { IfOk result (λ s.
+        Then moved (step (placed term.value)) (placed term.value) s.0 (placed s.1.value)) }
 {
     if moved {
         return Ok((true, term));
@@ -128,7 +130,8 @@ fn step_fields(
     alloc: Global,
     fields: List<(Label, Term)>,
 ) -> Result<(bool, List<(Label, Term)>), Memory>
-    ensures { IfOk result (λ s. Tells (step_fields (placed_fields fields)) s.0 (placed_fields fields) (placed_fields s.1)) }
+    ensures { IfOk result (λ s.
+        Tells (step_fields (placed_fields fields)) s.0 (placed_fields fields) (placed_fields s.1)) }
 {
     let mut moved = false;
     let mut all = List::new(alloc);

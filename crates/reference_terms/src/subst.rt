@@ -7,9 +7,11 @@ use crate::shift::{deeper, shift};
 use nq_model::{Label, List, Memory, Node, Term, boxed};
 use std::alloc::Global;
 
-/// The term with `by` in place of the variable `from`, which is taken away. No variable is captured.
+/// The term with `by` in place of the variable `from`, which is taken away. No variable is
+/// captured.
 ///
-/// After de Bruijn, "Lambda calculus notation with nameless dummies", Indagationes Mathematicae 1972.
+/// After de Bruijn, "Lambda calculus notation with nameless dummies", Indagationes Mathematicae
+/// 1972.
 #[cycle(subst)]
 pub(crate) fn subst(alloc: Global, term: &Term, by: &Term, from: u64) -> Result<Term, Memory>
     ensures { IfOk result (λ t. placed t ≡ subst from (placed by.now) (placed term.now)) }
@@ -147,7 +149,8 @@ fn subst_fields(
     by: &Term,
     from: u64,
 ) -> Result<List<(Label, Term)>, Memory>
-    ensures { IfOk result (λ new. fields_with_places new ≡ map (λ f. (f.0, subst from (placed by.now) f.1)) (fields_with_places fields.now)) }
+    ensures { IfOk result (λ new. fields_with_places new ≡ map
+        (λ f. (f.0, subst from (placed by.now) f.1)) (fields_with_places fields.now)) }
 {
     let mut all = List::new(alloc);
     for field in fields {

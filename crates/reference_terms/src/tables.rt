@@ -38,15 +38,16 @@ fn table_value(alloc: Global, columns: &[(Label, ColumnType)], rows: &Rows) -> R
     Ok(Value::Bag(records))
 }
 
-/// What `table name` means over the tables of a schema: the bag of the rows of the first table of that name, as
-/// records, and an empty bag where there is none. The only error is that memory wants.
+/// What `table name` means over the tables of a schema: the bag of the rows of the first table of
+/// that name, as records, and an empty bag where there is none. Fails only if memory runs out.
 pub fn table_meaning(
     alloc: Global,
     schema: &Schema,
     tables: &[Table],
     name: &str,
 ) -> Result<Value, Memory>
-    ensures { IfOk result (λ bag. nested bag ≡ table_meaning (database schema.now.tables (rows_of tables.now)) name.now) }
+    ensures { IfOk result (λ bag.
+        nested bag ≡ table_meaning (database schema.now.tables (rows_of tables.now)) name.now) }
 {
     let shapes = schema.tables.as_slice();
     for place in 0..shapes.len().min(tables.len()) {

@@ -1,5 +1,6 @@
-// A map from codes to the places of rows. Most codes stand in a slot of their own and are found at once. A
-// code whose slot is taken stands in an ordered map, so that no choice of keys makes the look-ups slow.
+// A map from codes to the places of rows. Most codes stand in a slot of their own and are found at
+// once. A code whose slot is taken stands in an ordered map, so that no choice of keys makes the
+// look-ups slow.
 ghost use Rattle.std.specs.Prelude.{◌≡◌, ◌<◌, ◌==◌, ℕ, cond, length, slice_get, IfOk, IsTrue, OnOk, None, Some};
 ghost use Rattle.row_keys.specs.Slots.{is_empty, slot_of, IsSound};
 
@@ -26,8 +27,8 @@ pub(crate) struct CodeMap {
     ghost sound: { IsSound slots.items crowded },
 }
 
-// How many slots the codes of a text's keys get: some for each line, so that most stay empty, but no more than
-// for so many bytes, so that lines without a row take little.
+// How many slots the codes of a text's keys get: some for each line, so that most stay empty, but
+// no more than for so many bytes, so that lines without a row take little.
 pub(crate) fn slots_for(text: &[u8]) -> usize {
     let lines = text.iter().filter(|byte| **byte == b'\n').count();
     slots_for_rows(lines).min(text.len() / BYTES_PER_SLOT)
@@ -90,7 +91,8 @@ impl CodeMap {
     #[tactic(auto, using(crate::proofs::CodeMapFacts::slot_rules))]
     pub(crate) fn insert(&mut self, code: u32, place: u32) -> Result<(), Memory>
         ensures { OnOk result (place_under self.old code ≡ None → (other : ℕ)
-            → place_under self.new other ≡ cond (code == other) (Some place) (place_under self.old other)) }
+            → place_under self.new other
+            ≡ cond (code == other) (Some place) (place_under self.old other)) }
     {
         let number = place.checked_add(1).ok_or(Memory)?;
         let at = self.slot_of(code);

@@ -1,14 +1,15 @@
-// Codes of keys: numbers of 32 bits, by which an index finds a key without a copy of its cells. A code is
-// a polynomial over what the cells hold, modulo 2^32. The last number enters it unscaled, so keys that
-// follow one another mostly have neighbouring codes, and an ordered table fills the index in order.
+// Codes of keys: numbers of 32 bits, by which an index finds a key without a copy of its cells. A
+// code is a polynomial over what the cells hold, modulo 2^32. The last number enters it unscaled,
+// so keys that follow one another mostly have neighbouring codes, and an ordered table fills the
+// index in order.
 ghost use Rattle.std.specs.Prelude.{◌≡◌};
 ghost use Rattle.nq_model.specs.CellRefs.{cell_seen};
 ghost use Rattle.row_keys.specs.Codes.{cell_code, code_with, int_code, text_code};
 
 use nq_model::CellRef;
 
-// 2^32 divided by the golden ratio, Knuth's multiplier for hashes: its multiples spread evenly, so that
-// small differences in several cells do not cancel.
+// 2^32 divided by the golden ratio, Knuth's multiplier for hashes: its multiples spread evenly, so
+// that small differences in several cells do not cancel.
 const FACTOR: u32 = 2_654_435_769;
 
 // No byte of UTF-8, so that it tells where a text ends.

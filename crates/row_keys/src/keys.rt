@@ -23,8 +23,9 @@ pub(crate) enum KeyCell {
     Text(String),
 }
 
-/// The first row of each key, counted from 0. A key that is found by its code takes some 30 bytes, and
-/// a copy of its cells more than 100, so a key is copied only where an earlier one has its code.
+/// The first row of each key, counted from 0. A key that is found by its code takes some 30 bytes,
+/// and a copy of its cells more than 100, so a key is copied only where an earlier one has its
+/// code.
 #[derive(Drop)]
 pub struct KeyIndex {
     columns: Vec<Option<usize>>,
@@ -40,7 +41,8 @@ fn column_named(columns: &[(Label, ColumnType)], name: &str) -> Option<usize>
 
 // A cell of a key, where that of a row is this one. A column that is not there counts as FALSE.
 fn key_cell(alloc: Global, cell: Option<&CellRef<'_>>) -> Result<KeyCell, Memory>
-    ensures { IfOk result (λ key. cell_of_key key ≡ unwrap_or (option_map cell_seen (option_copied cell.entry)) no_cell) }
+    ensures { IfOk result (λ key.
+        cell_of_key key ≡ unwrap_or (option_map cell_seen (option_copied cell.entry)) no_cell) }
 {
     let Some(cell) = cell else {
         return Ok(KeyCell::Bool(false));
@@ -66,7 +68,8 @@ fn key_places(alloc: Global, shape: &TableShape) -> Result<Vec<Option<usize>>, M
 
 // The code of a key with one more cell, where that of a row is this one.
 fn code_with_cell(code: u32, cell: Option<&CellRef<'_>>) -> u32
-    ensures { result ≡ cell_code code (unwrap_or (option_map cell_seen (option_copied cell.entry)) no_cell) }
+    ensures { result ≡ cell_code code
+        (unwrap_or (option_map cell_seen (option_copied cell.entry)) no_cell) }
 {
     let Some(cell) = cell else {
         return cell_code(code, &CellRef::Bool(false));
@@ -142,7 +145,8 @@ impl KeyIndex {
 
     // The key of a row.
     fn key_of(&self, alloc: Global, row: &[CellRef<'_>]) -> Result<Vec<KeyCell>, Memory>
-        ensures { IfOk result (λ key. map cell_of_key key.items ≡ cells_at (map cell_seen row.now) self.now.columns.items) }
+        ensures { IfOk result (λ key.
+            map cell_of_key key.items ≡ cells_at (map cell_seen row.now) self.now.columns.items) }
     {
         let mut key = Vec::with_capacity(alloc, self.columns.len())?;
         for place in &self.columns {
@@ -160,7 +164,8 @@ impl KeyIndex {
         row: &[CellRef<'_>],
     ) -> Result<Option<u64>, Memory>
         ensures { IfOk result (λ found. (shape : TableShape)
-            → Indexes shape rows.now self.old → Enters shape rows.now (map cell_seen row.now) self.new found) }
+            → Indexes shape rows.now self.old
+            → Enters shape rows.now (map cell_seen row.now) self.new found) }
     {
         let place = u32::try_from(rows.len()).map_err(|_| Memory)?;
         let code = self.code_of(row);
@@ -189,7 +194,9 @@ pub fn earlier_twin(
     index: &mut KeyIndex,
     row: &[CellRef<'_>],
 ) -> Result<Option<u64>, Memory>
-    ensures twin { IfOk result (λ found. KeepsIndex shape.now rows.now index.old → twin_of shape.now (map cell_seen row.now) rows.now ≡ found) }
+    ensures twin { IfOk result
+        (λ found. KeepsIndex shape.now rows.now index.old
+        → twin_of shape.now (map cell_seen row.now) rows.now ≡ found) }
     ensures keeps { IfOk result (λ found. KeepsIndex shape.now rows.now index.old → found ≡ None
         → KeepsIndex shape.now (rows.now ++ map cell_seen row.now ∷ []) index.new) }
 {

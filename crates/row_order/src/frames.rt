@@ -1,5 +1,5 @@
-// What the cells of a column are told apart by is chosen by some of them, so that few heads tie. No clause
-// depends on the choice.
+// What the cells of a column are told apart by is chosen by some of them, so that few heads tie. No
+// clause depends on the choice.
 ghost use Rattle.std.specs.Prelude.{◌<◌, ◌≤◌, length};
 
 use crate::heads::{Frame, height};
@@ -14,10 +14,12 @@ const SAMPLE_SIZE: usize = 256;
 // How many bytes of a text are looked at behind the prefix.
 const LETTERS: usize = 10;
 
-// The bytes up to this are never letters, so that a head holds four of the others, whichever they are.
+// The bytes up to this are never letters, so that a head holds four of the others, whichever they
+// are.
 const MIN_FLOOR: u8 = 1;
 
-// The numbers looked at have at most half of all heads, with a quarter or more free on either side of them.
+// The numbers looked at have at most half of all heads, with a quarter or more free on either side
+// of them.
 const SPREAD_BITS: u32 = 31;
 
 const FREE_STEPS: u64 = 1 << 30;
@@ -49,8 +51,8 @@ fn text_at<'a>(rows: &'a Rows, column: usize, ranked: &Ranked) -> &'a [u8] {
     }
 }
 
-// What the texts of rows here and there begin with alike, and so most others too. Behind it they are told
-// apart by their heads.
+// What the texts of rows here and there begin with alike, and so most others too. Behind it they
+// are told apart by their heads.
 fn common_prefix<'a>(rows: &'a Rows, column: usize, ranks: &[Ranked]) -> &'a [u8] {
     if ranks.is_empty() {
         return &[];
@@ -73,7 +75,8 @@ fn with_letters(letters: (u8, u8), text: &[u8], first: usize) -> (u8, u8) {
     (least, greatest)
 }
 
-// The least and the greatest byte that stands behind the prefix in the texts of rows here and there.
+// The least and the greatest byte that stands behind the prefix in the texts of rows here and
+// there.
 fn common_letters(rows: &Rows, column: usize, ranks: &[Ranked], prefix: &[u8]) -> (u8, u8) {
     let mut letters = (u8::MAX, 0u8);
     for ranked in ranks.iter().step_by(stride(ranks)) {

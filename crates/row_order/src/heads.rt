@@ -9,8 +9,8 @@ use std::cmp::Ordering;
 // The texts that begin with a prefix have all heads but the least and the greatest.
 const HEADS: u64 = (1 << 32) - 2;
 
-// What the cells of a column are told apart by. Heads stand in the order of the cells whatever it is, but
-// with a frame that fits the cells few heads tie.
+// What the cells of a column are told apart by. Heads stand in the order of the cells whatever it
+// is, but with a frame that fits the cells few heads tie.
 #[derive(Clone, Copy)]
 pub(crate) enum Frame<'a> {
     Truths,
@@ -19,7 +19,8 @@ pub(crate) enum Frame<'a> {
         least: u64,
         shift: u32,
     },
-    // By what stands in a text behind a prefix. Letters are the bytes above the floor, up to the last.
+    // By what stands in a text behind a prefix. Letters are the bytes above the floor, up to the
+    // last.
     Texts {
         prefix: &'a [u8],
         floor: u8,
@@ -27,8 +28,9 @@ pub(crate) enum Frame<'a> {
     },
 }
 
-// Each letter has its share of all heads, and so have those behind it of that share. So a head holds as much
-// of a text as it can: four of any bytes, but six of 26 letters and nine of ten digits.
+// Each letter has its share of all heads, and so have those behind it of that share. So a head
+// holds as much of a text as it can: four of any bytes, but six of 26 letters and nine of ten
+// digits.
 fn text_head(floor: u8, last: u8, text: &[u8]) -> u32
     ensures { result ≡ 1 + head_of_text floor last (2 ^ 32 - 2) text.now }
 {
@@ -48,8 +50,8 @@ fn text_head(floor: u8, last: u8, text: &[u8]) -> u32
     head as u32
 }
 
-// The head of what stands behind a prefix. A text that does not begin with it has the least head or the
-// greatest, so that the heads stand in the order of the texts whatever the prefix is.
+// The head of what stands behind a prefix. A text that does not begin with it has the least head or
+// the greatest, so that the heads stand in the order of the texts whatever the prefix is.
 fn head_behind(prefix: &[u8], floor: u8, last: u8, text: &[u8]) -> u32
     ensures { result ≡ head_past floor last prefix.now text.now }
 {

@@ -23,7 +23,8 @@ pub(crate) fn cell_at(rows: &Rows, place: u32, column: usize) -> CellRef<'_>
 
 // Compares two rows column by column.
 fn compare_columns(rows: &Rows, columns: &[usize], left: u32, right: u32) -> Ordering
-    ensures { result ≡ slice_cmp cell_cmp (key_of columns.now (row_at rows.now left)) (key_of columns.now (row_at rows.now right)) }
+    ensures { result ≡ slice_cmp cell_cmp (key_of columns.now (row_at rows.now left))
+        (key_of columns.now (row_at rows.now right)) }
 {
     for column in columns {
         let order = cell_at(rows, left, *column).cmp(&cell_at(rows, right, *column));
@@ -42,7 +43,8 @@ pub(crate) fn compare_keys(
     left: u32,
     right: u32,
 ) -> Ordering
-    ensures { result ≡ slice_cmp cell_cmp (key_of (column ∷ later.now) (row_at rows.now left)) (key_of (column ∷ later.now) (row_at rows.now right)) }
+    ensures { result ≡ slice_cmp cell_cmp (key_of (column ∷ later.now) (row_at rows.now left))
+        (key_of (column ∷ later.now) (row_at rows.now right)) }
 {
     match cell_at(rows, left, column).cmp(&cell_at(rows, right, column)) {
         Ordering::Equal => compare_columns(rows, later, left, right),

@@ -10,9 +10,9 @@ use nq_model::Memory;
 use rows::Rows;
 use std::alloc::Global;
 
-/// Puts places in the order of the keys of the rows there. A row's key are its cells under these columns, in the
-/// order of the columns, and FALSE where it has none; keys are compared by the first cell that differs. Rows of
-/// one key stand in any order. The only error is that memory wants.
+/// Puts places in the order of the keys of the rows there. A row's key are its cells under these
+/// columns, in the order of the columns, and FALSE where it has none; keys are compared by the
+/// first cell that differs. Rows of one key stand in any order. Fails only if memory runs out.
 pub fn order_places(
     alloc: Global,
     rows: &Rows,
@@ -20,7 +20,8 @@ pub fn order_places(
     places: Vec<u32>,
 ) -> Result<Vec<u32>, Memory>
     ensures places { IfOk result (λ sorted. IsPermutation places.items sorted.items) }
-    ensures order { IfOk result (λ sorted. Rises key_lt (keys_at rows.now columns.now sorted.items)) }
+    ensures order { IfOk result
+        (λ sorted. Rises key_lt (keys_at rows.now columns.now sorted.items)) }
 {
     let mut ranks = unranked(alloc, places.as_slice())?;
     sort_run(rows, columns, ranks.as_mut_slice());
@@ -29,7 +30,7 @@ pub fn order_places(
     Ok(sorted)
 }
 
-// The place of each row. Where there are more than a place can tell, memory wants.
+// The place of each row. Fails where there are more rows than a place can tell.
 fn all_places(alloc: Global, rows: &Rows) -> Result<Vec<u32>, Memory>
     ensures { IfOk result (λ places. places.items ≡ count_from 0 (length rows.now)) }
 {
@@ -43,11 +44,13 @@ fn all_places(alloc: Global, rows: &Rows) -> Result<Vec<u32>, Memory>
     Ok(places)
 }
 
-/// The places of all rows, counted from 0, in the order of the rows' keys, as `order_places` has it. The only error
-/// is that memory wants.
+/// The places of all rows, counted from 0, in the order of the rows' keys, as `order_places` has
+/// it. Fails only if memory runs out.
 pub fn order(alloc: Global, rows: &Rows, columns: &[usize]) -> Result<Vec<u32>, Memory>
-    ensures places { IfOk result (λ sorted. IsPermutation (count_from 0 (length rows.now)) sorted.items) }
-    ensures order { IfOk result (λ sorted. Rises key_lt (keys_at rows.now columns.now sorted.items)) }
+    ensures places { IfOk result
+        (λ sorted. IsPermutation (count_from 0 (length rows.now)) sorted.items) }
+    ensures order { IfOk result
+        (λ sorted. Rises key_lt (keys_at rows.now columns.now sorted.items)) }
 {
     order_places(alloc, rows, columns, all_places(alloc, rows)?)
 }

@@ -1,5 +1,5 @@
-// Rows are put in order by what their cells in a column begin with, and the cells are looked up again only
-// where that ties.
+// Rows are put in order by what their cells in a column begin with, and the cells are looked up
+// again only where that ties.
 ghost use Rattle.std.specs.Prelude.{◌≡◌, IfOk, OnOk, map};
 ghost use Rattle.row_order.specs.Ranks.{ranked_at, rank_cmp};
 ghost use Rattle.row_order.specs.Runs.{places_of};
@@ -59,7 +59,8 @@ pub(crate) fn unranked(alloc: Global, places: &[u32]) -> Result<Vec<Ranked>, Mem
 
 // Ranks rows by their cells in a column.
 pub(crate) fn rank_rows(rows: &Rows, column: usize, frame: &Frame<'_>, ranks: &mut [Ranked])
-    ensures { ranks.new ≡ map (λ ranked. ranked_at rows.now column frame.now ranked.place) ranks.old }
+    ensures { ranks.new ≡ map
+        (λ ranked. ranked_at rows.now column frame.now ranked.place) ranks.old }
 {
     for i in 0..ranks.len() {
         ranks[i] = rank_row(rows, column, frame, ranks[i].place);

@@ -1,5 +1,6 @@
-// Rows are put in order column by column: those that tie in one are put in order by the next, so that most
-// cells are looked up a few times only. (Bentley and Sedgewick, SODA 1997; Ng and Kakehi, IEICE 2007.)
+// Rows are put in order column by column: those that tie in one are put in order by the next, so
+// that most cells are looked up a few times only. (Bentley and Sedgewick, SODA 1997; Ng and Kakehi,
+// IEICE 2007.)
 ghost use Rattle.std.specs.Prelude.{◌≢◌, ◌<◌, ◌≤◌, ◌∷◌, IsTrue, length, slice_index_or};
 ghost use Rattle.std.specs.List.Sorted.{IsPermutation, IsSorted};
 ghost use Rattle.std.specs.declared.cmp.Ordering.TheVariants.{Equal};
@@ -35,7 +36,8 @@ fn run_end(ranks: &[Ranked], start: usize) -> usize
     ensures some { start < result }
     ensures within { result ≤ length ranks.now }
     ensures ties { HaveOneRank ranks.now start result }
-    ensures apart { result < length ranks.now → (d : _) → rank_cmp (slice_index_or ranks.now start d) (slice_index_or ranks.now result d) ≢ Equal }
+    ensures apart { result < length ranks.now → (d : _)
+        → rank_cmp (slice_index_or ranks.now start d) (slice_index_or ranks.now result d) ≢ Equal }
 {
     for end in start + 1..ranks.len() {
         if ranks[start].compare(&ranks[end]) != Ordering::Equal {
@@ -106,8 +108,9 @@ fn sort_ties(rows: &Rows, column: usize, later: &[usize], more: u32, ranks: &mut
     }
 }
 
-// The same for rows of one rank. Mostly they have one cell in the column, and go on to the next. Where their
-// cells differ, these have more alike than those of all rows had, and are ranked by what tells them apart.
+// The same for rows of one rank. Mostly they have one cell in the column, and go on to the next.
+// Where their cells differ, these have more alike than those of all rows had, and are ranked by
+// what tells them apart.
 #[cycle(runs)]
 fn sort_tied(rows: &Rows, column: usize, later: &[usize], more: u32, ranks: &mut [Ranked])
     ensures permutation { IsPermutation (places_of ranks.old) (places_of ranks.new) }

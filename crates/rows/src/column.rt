@@ -9,8 +9,8 @@ use nq_model::{Cell, CellRef, List, Memory};
 use std::alloc::Global;
 use std::marker::Model;
 
-// A column, seen as the list of its cells. A list of one kind takes cells until the first of another kind
-// is behind it; the cells of a column of one type all stand in one list.
+// A column, seen as the list of its cells. A list of one kind takes cells until the first of
+// another kind is behind it; the cells of a column of one type all stand in one list.
 #[derive(Drop)]
 pub(crate) struct Column {
     alloc: Global,
@@ -28,7 +28,8 @@ impl Model for Column {
 
     ghost use Rattle.rows.specs.Columns.{column_of};
 
-    ghost view = { λ column. column_of column.integers column.truths.items column.texts column.rest };
+    ghost view = { λ column.
+        column_of column.integers column.truths.items column.texts column.rest };
 }
 
 impl Column {
@@ -65,7 +66,7 @@ impl Column {
         self.rest.as_slice()[at - self.texts.len()].as_ref()
     }
 
-    // Puts a cell at the end. Where memory wants, the cells stay.
+    // Puts a cell at the end. If memory runs out, the cells stay.
     pub(crate) fn push(&mut self, cell: &CellRef<'_>) -> Result<(), Memory>
         ensures ok { OnOk result (self.new ≡ self.old ++ cell_seen cell.now ∷ []) }
         ensures err { OnErr result (self.new ≡ self.old) }

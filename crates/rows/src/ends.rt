@@ -9,8 +9,9 @@ use std::marker::Model;
 // How many places stand beside one that is held whole.
 const BLOCK: usize = 16;
 
-// Where pieces end, seen as the list of these places. Of each sixteen the first is held whole, and all of them
-// by how far they are above it, until one is not within a byte of it; those from there on are held whole.
+// Where pieces end, seen as the list of these places. Of each sixteen the first is held whole, and
+// all of them by how far they are above it, until one is not within a byte of it; those from there
+// on are held whole.
 #[derive(Drop)]
 pub(crate) struct Ends {
     firsts: Vec<u32>,
@@ -34,7 +35,8 @@ fn open_block(firsts: &mut Vec<u32>, block: usize, end: u32) -> Result<(), Memor
     requires { block ≤ length firsts.old.items }
     ensures ok { OnOk result (block < length firsts.new.items) }
     ensures stay { (near : List ℕ) → length near ≤ length firsts.old.items * 16
-        → (length near ≤ length firsts.new.items * 16) × (above firsts.new.items 0 near ≡ above firsts.old.items 0 near) }
+        → (length near ≤ length firsts.new.items * 16)
+        × (above firsts.new.items 0 near ≡ above firsts.old.items 0 near) }
 {
     if block < firsts.len() {
         return Ok(());
@@ -72,7 +74,8 @@ impl Ends {
         self.whole[at - self.near.len()] as usize
     }
 
-    // Puts a place beside the first of its block, if it is near enough. Where memory wants, the places stay.
+    // Puts a place beside the first of its block, if it is near enough. If memory runs out, the
+    // places stay.
     fn push_near(&mut self, end: u32) -> Result<bool, Memory>
         ensures put { IfOk result (λ put. IsTrue put → (self.new ≡ self.old ++ end ∷ [])) }
         ensures stays { IfOk result (λ put. IsFalse put → (self.new ≡ self.old)) }
@@ -93,7 +96,7 @@ impl Ends {
         Ok(true)
     }
 
-    // Puts a place at the end. Where memory wants, the places stay.
+    // Puts a place at the end. If memory runs out, the places stay.
     pub(crate) fn push(&mut self, end: u32) -> Result<(), Memory>
         ensures ok { OnOk result (self.new ≡ self.old ++ end ∷ []) }
         ensures err { OnErr result (self.new ≡ self.old) }

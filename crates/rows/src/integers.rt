@@ -1,12 +1,14 @@
-// Integers that take little memory: none while they are one, and then one, four or eight bytes each.
+// Integers that take little memory: none while they are one, and then one, four or eight bytes
+// each.
 ghost use Rattle.std.specs.Prelude.{◌≡◌, ◌-◌, ◌++◌, [], ◌∷◌, IsTrue, IsFalse, OnOk, OnErr, length, slice_get};
 
 use nq_model::Memory;
 use std::alloc::Global;
 use std::marker::Model;
 
-// Integers, seen as the list of them. The first is not held again while it is repeated; behind them, those
-// before the first beyond 8 bits take a byte each, and those before the first beyond 32 bits four.
+// Integers, seen as the list of them. The first is not held again while it is repeated; behind
+// them, those before the first beyond 8 bits take a byte each, and those before the first beyond 32
+// bits four.
 #[derive(Drop)]
 pub(crate) struct Integers {
     first: i64,
@@ -86,7 +88,7 @@ impl Integers {
         true
     }
 
-    // Puts an integer at the end. Where memory wants, the integers stay.
+    // Puts an integer at the end. If memory runs out, the integers stay.
     pub(crate) fn push(&mut self, integer: i64) -> Result<(), Memory>
         ensures ok { OnOk result (self.new ≡ self.old ++ integer ∷ []) }
         ensures err { OnErr result (self.new ≡ self.old) }

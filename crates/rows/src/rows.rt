@@ -9,9 +9,10 @@ use nq_model::{Cell, CellRef, List, Memory};
 use std::alloc::Global;
 use std::marker::Model;
 
-/// Rows of cells, which contracts see as the list of them. Where the rows have one width and each column
-/// one type, an integer takes one, four or eight bytes, and none while its column has only one; a truth value
-/// takes one; and a text one or two beside its own, or four where texts are long.
+/// Rows of cells, which contracts see as the list of them. Where the rows have one width and each
+/// column one type, an integer takes one, four or eight bytes, and none while its column has only
+/// one; a truth value takes one; and a text one or two beside its own, or four where texts are
+/// long.
 #[derive(Drop)]
 pub struct Rows {
     alloc: Global,
@@ -38,7 +39,8 @@ impl Model for Rows {
 
     ghost invariant = { λ rows. HaveRows rows.columns.items rows.in_columns
         × (rows.len ≡ rows.in_columns + length rows.behind)
-        × (IsTrue rows.is_open → EndBehind rows.columns.items rows.in_columns × (rows.behind ≡ [])) };
+        × (IsTrue rows.is_open
+        → EndBehind rows.columns.items rows.in_columns × (rows.behind ≡ [])) };
 }
 
 // Columns without cells, one for each cell of a row.
@@ -52,13 +54,15 @@ fn columns_for(alloc: Global, row: &[CellRef<'_>]) -> Result<Vec<Column>, Memory
     Ok(columns)
 }
 
-// Puts each cell of a row at the end of its column. Where memory wants, some cells may be put; the rows
-// that stand in the columns stay.
+// Puts each cell of a row at the end of its column. If memory runs out, some cells may be put; the
+// rows that stand in the columns stay.
 fn push_each(columns: &mut Vec<Column>, row: &[CellRef<'_>]) -> Result<(), Memory>
     requires { length columns.old.items ≡ length row.now }
-    ensures ok { OnOk result (columns.new.items ≡ widened columns.old.items (map cell_seen row.now)) }
+    ensures ok { OnOk result (columns.new.items
+        ≡ widened columns.old.items (map cell_seen row.now)) }
     ensures rows { (count : ℕ) → HaveRows columns.old.items count
-        → HaveRows columns.new.items count × (rows_over columns.new.items count ≡ rows_over columns.old.items count) }
+        → HaveRows columns.new.items count
+        × (rows_over columns.new.items count ≡ rows_over columns.old.items count) }
 {
     for at in 0..row.len() {
         columns[at].push(&row[at])?;
@@ -121,12 +125,13 @@ impl Rows {
     }
 
     /// The cell at a row and a column, both counted from 0.
-    // Inlined: runs look up cells more than they do anything else, and a cell that is given back through memory is copied
-    // there, which waits for whatever was read before it.
+    // Inlined: runs look up cells more than they do anything else, and a cell that is given back
+    // through memory is copied there, which waits for whatever was read before it.
     #[inline(always)]
     pub fn cell(&self, row: usize, column: usize) -> CellRef<'_>
         requires { column < length (slice_index_or self.now row []) }
-        ensures { cell_seen result ≡ slice_index_or (slice_index_or self.now row []) column (cell.Int (pos 0)) }
+        ensures { cell_seen result
+            ≡ slice_index_or (slice_index_or self.now row []) column (cell.Int (pos 0)) }
     {
         if row < self.in_columns {
             return self.columns[column].get(row);
@@ -180,11 +185,12 @@ impl Rows {
         Ok(())
     }
 
-    // Puts a row in the columns, so that there are so many, if it may stand there. Where memory wants, the
-    // rows stay.
+    // Puts a row in the columns, so that there are so many, if it may stand there. If memory runs
+    // out, the rows stay.
     fn push_in_columns(&mut self, row: &[CellRef<'_>], len: usize) -> Result<bool, Memory>
         requires { len ≡ length self.old + 1 }
-        ensures put { IfOk result (λ put. IsTrue put → (self.new ≡ self.old ++ map cell_seen row.now ∷ [])) }
+        ensures put { IfOk result
+            (λ put. IsTrue put → (self.new ≡ self.old ++ map cell_seen row.now ∷ [])) }
         ensures stays { IfOk result (λ put. IsFalse put → (self.new ≡ self.old)) }
         ensures err { OnErr result (self.new ≡ self.old) }
     {
@@ -199,7 +205,8 @@ impl Rows {
         Ok(true)
     }
 
-    // Puts a row behind those in the columns, so that there are so many. Where memory wants, the rows stay.
+    // Puts a row behind those in the columns, so that there are so many. If memory runs out, the
+    // rows stay.
     fn push_behind(&mut self, row: &[CellRef<'_>], len: usize) -> Result<(), Memory>
         requires { len ≡ length self.old + 1 }
         ensures ok { OnOk result (self.new ≡ self.old ++ map cell_seen row.now ∷ []) }
@@ -211,7 +218,7 @@ impl Rows {
         Ok(())
     }
 
-    /// Puts a row of lent cells at the end. Where memory wants, the rows stay.
+    /// Puts a row of lent cells at the end. If memory runs out, the rows stay.
     pub fn push_lent(&mut self, row: &[CellRef<'_>]) -> Result<(), Memory>
         ensures ok { OnOk result (self.new ≡ self.old ++ map cell_seen row.now ∷ []) }
         ensures err { OnErr result (self.new ≡ self.old) }
@@ -226,7 +233,7 @@ impl Rows {
         self.push_behind(row, len)
     }
 
-    /// Puts a row at the end. Where memory wants, the rows stay.
+    /// Puts a row at the end. If memory runs out, the rows stay.
     pub fn push(&mut self, row: &[Cell]) -> Result<(), Memory>
         ensures ok { OnOk result (self.new ≡ self.old ++ row.now ∷ []) }
         ensures err { OnErr result (self.new ≡ self.old) }

@@ -20,7 +20,7 @@ fn start_of(ends: &Ends, at: usize) -> usize
     ends.get(at - 1)
 }
 
-// A place as it is held. Where it is past the greatest that can be held, memory wants.
+// A place as it is held. Fails where it is past the greatest that can be held.
 fn place(at: usize) -> Result<u32, Memory>
     ensures { IfOk result (λ held. held ≡ at) }
 {
@@ -94,7 +94,7 @@ impl Texts {
         text_of(part(self.bytes.as_slice(), start, end))
     }
 
-    // Puts a text at the end. Where memory wants, the texts stay.
+    // Puts a text at the end. If memory runs out, the texts stay.
     pub(crate) fn push(&mut self, text: &str) -> Result<(), Memory>
         ensures ok { OnOk result (self.new ≡ self.old ++ text.now ∷ []) }
         ensures err { OnErr result (self.new ≡ self.old) }

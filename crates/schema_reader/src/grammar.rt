@@ -78,7 +78,8 @@ fn type_of(word: &str) -> Option<ColumnType>
 }
 
 fn after_word<'a>(spot: Spot<'a>, name: Name<'a>) -> Option<(Spot<'a>, Addition<'a>)>
-    ensures { option_map place_view result ≡ after_word (spot_view spot.entry) (name_view name.entry) }
+    ensures { option_map place_view result
+        ≡ after_word (spot_view spot.entry) (name_view name.entry) }
 {
     match spot {
         Spot::Between if name.text == "table" => Some((Spot::Titled, Addition::Nothing)),
@@ -116,14 +117,15 @@ fn after_mark<'a>(spot: Spot<'a>, mark: Mark) -> Option<(Spot<'a>, Addition<'a>)
     Some((next, Addition::Nothing))
 }
 
-/// Where the next token stands behind one at a spot, and what it adds. `None` where it may not stand
-/// there.
+/// Where the next token stands behind one at a spot, and what it adds. `None` where it may not
+/// stand there.
 pub fn after_token<'a>(
     spot: Spot<'a>,
     place: u64,
     symbol: Symbol<'a>,
 ) -> Option<(Spot<'a>, Addition<'a>)>
-    ensures { option_map place_view result ≡ after (spot_view spot.entry) place (symbol_view symbol.entry) }
+    ensures { option_map place_view result
+        ≡ after (spot_view spot.entry) place (symbol_view symbol.entry) }
 {
     match symbol {
         Symbol::Word(text) => after_word(spot, Name { place, text }),

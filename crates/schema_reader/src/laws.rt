@@ -6,10 +6,16 @@ ghost use Rattle.nq_model.specs.declared.table.Schema.{Schema};
 
 /// Each text either spells one schema, which is proper, or has one fault at one place.
 pub fn schema_laws()
-    ensures some { (text : List ℕ) → ((schema : Schema) × Spells text schema) ⊎ ((f : Fault) × (place : ℕ) × HasFault text f place) }
-    ensures not_both { (text : List ℕ) (schema : Schema) (f : Fault) (place : ℕ) → Spells text schema → HasFault text f place → ⊥ }
-    ensures one_schema { (text : List ℕ) (schema other : Schema) → Spells text schema → Spells text other → schema ≡ other }
-    ensures one_fault { (text : List ℕ) (f g : Fault) (place other : ℕ) → HasFault text f place → HasFault text g other
+    ensures some { (text : List ℕ)
+        → ((schema : Schema) × Spells text schema)
+        ⊎ ((f : Fault) × (place : ℕ) × HasFault text f place) }
+    ensures not_both { (text : List ℕ) (schema : Schema) (f : Fault) (place : ℕ)
+        → Spells text schema → HasFault text f place → ⊥ }
+    ensures one_schema { (text : List ℕ) (schema other : Schema) → Spells text schema
+        → Spells text other → schema ≡ other }
+    ensures one_fault { (text : List ℕ) (f g : Fault) (place other : ℕ) → HasFault text f place
+        → HasFault text g other
         → (f ≡ g) × (place ≡ other) }
-    ensures proper { (text : List ℕ) (schema : Schema) → Spells text schema → IsProperSchema schema }
+    ensures proper { (text : List ℕ) (schema : Schema) → Spells text schema
+        → IsProperSchema schema }
 {}

@@ -24,8 +24,8 @@ fn read(alloc: Global, text: &[u8]) -> Result<Schema, SchemaFault>
     schema_of(alloc, tables.as_slice())
 }
 
-/// The schema that a text spells, or the text's one fault with its place. `Memory` where there is too
-/// little memory.
+/// The schema that a text spells, or the text's one fault with its place. `Memory` where there is
+/// too little memory.
 pub fn read_schema(alloc: Global, text: &[u8]) -> Result<Schema, SchemaFault>
     ensures ok { IfOk result (λ schema. IsProperSchema schema × Spells text.now schema) }
     ensures err { IfErr result (HasCause text.now) }
@@ -33,7 +33,8 @@ pub fn read_schema(alloc: Global, text: &[u8]) -> Result<Schema, SchemaFault>
     // The other way round, but for want of memory.
     ensures spelled { (schema : SchemaValue) → Spells text.now schema
         → MatchResult result (λ found. found ≡ schema) (λ e. e ≡ SchemaFault.Memory) }
-    ensures faulty { (f : Fault) (place : ℕ) → HasFault text.now f place → IsErrAnd result (IsFault f place) }
+    ensures faulty { (f : Fault) (place : ℕ) → HasFault text.now f place
+        → IsErrAnd result (IsFault f place) }
 {
     read(alloc, text)
 }

@@ -51,7 +51,8 @@ fn has_label(labels: &[Label], name: &str) -> bool
 
 // The name of a table, behind the tables before it.
 fn judge_table(tables: &[TableShape], table: &WrittenTable) -> Result<(), SchemaFault>
-    ensures { Judges result (placed table.now.name.place (table_fault (map (λ t. t.name) tables.now) (table_view table.now))) }
+    ensures { Judges result (placed table.now.name.place (table_fault (map
+        (λ t. t.name) tables.now) (table_view table.now))) }
 {
     let Name { place, text } = table.name;
     if has_table(tables, text) {
@@ -68,7 +69,8 @@ fn judge_table(tables: &[TableShape], table: &WrittenTable) -> Result<(), Schema
 
 // The name of a column, behind the columns before it.
 fn judge_column(columns: &[(Label, ColumnType)], column: &WrittenColumn) -> Result<(), SchemaFault>
-    ensures { Judges result (placed column.now.name.place (column_fault (names_of columns.now) (column_view column.now))) }
+    ensures { Judges result (placed column.now.name.place
+        (column_fault (names_of columns.now) (column_view column.now))) }
 {
     let Name { place, text } = column.name;
     if has_column(columns, text) {
@@ -82,7 +84,8 @@ fn judge_column(columns: &[(Label, ColumnType)], column: &WrittenColumn) -> Resu
 
 // A word of a key, behind the words before it.
 fn judge_key(columns: &[(Label, ColumnType)], key: &[Label], name: &Name) -> Result<(), SchemaFault>
-    ensures { Judges result (placed name.now.place (key_fault (names_of columns.now) key.now (name_view name.now))) }
+    ensures { Judges result (placed name.now.place
+        (key_fault (names_of columns.now) key.now (name_view name.now))) }
 {
     if has_column(columns, name.text) && !has_label(key, name.text) {
         return Ok(());
@@ -95,7 +98,8 @@ fn columns_of(
     alloc: Global,
     written: &[WrittenColumn],
 ) -> Result<List<(Label, ColumnType)>, SchemaFault>
-    ensures { Answers result (columns_fault [] (map column_view written.now)) (map pair_of (map column_view written.now)) }
+    ensures { Answers result (columns_fault [] (map column_view written.now))
+        (map pair_of (map column_view written.now)) }
 {
     let mut columns = List::new(alloc);
     for column in written {
@@ -111,7 +115,8 @@ fn key_of(
     columns: &[(Label, ColumnType)],
     written: &[Name],
 ) -> Result<List<Label>, SchemaFault>
-    ensures { Answers result (keys_fault (names_of columns.now) [] (map name_view written.now)) (map (λ n. n.text) (map name_view written.now)) }
+    ensures { Answers result (keys_fault (names_of columns.now) [] (map name_view written.now)) (map
+        (λ n. n.text) (map name_view written.now)) }
 {
     let mut key = List::new(alloc);
     for name in written {
@@ -127,7 +132,8 @@ fn shape(
     tables: &[TableShape],
     table: &WrittenTable,
 ) -> Result<TableShape, SchemaFault>
-    ensures { Answers result (shape_fault (map (λ t. t.name) tables.now) (table_view table.now)) (shape_of (table_view table.now)) }
+    ensures { Answers result (shape_fault (map (λ t. t.name) tables.now) (table_view table.now))
+        (shape_of (table_view table.now)) }
 {
     judge_table(tables, table)?;
     let columns = columns_of(alloc, table.columns.as_slice())?;
@@ -138,7 +144,8 @@ fn shape(
 
 /// The schema of written tables. `Memory`, or the fault with the smallest place.
 pub fn schema_of(alloc: Global, written: &[WrittenTable]) -> Result<Schema, SchemaFault>
-    ensures { Answers result (tables_fault [] (map table_view written.now)) (schema_of (map table_view written.now)) }
+    ensures { Answers result (tables_fault [] (map table_view written.now))
+        (schema_of (map table_view written.now)) }
 {
     let mut tables = List::new(alloc);
     for table in written {

@@ -56,7 +56,8 @@ impl<'a> Reader<'a> {
     // Adds what a token says.
     fn add(&mut self, alloc: Global, addition: Addition<'a>) -> Result<(), Memory>
         ensures { OnOk result (reader_view self.new
-            ≡ added (map table_view self.old.tables) (table_view self.old.table) (spot_view self.old.spot) (addition_view addition.entry)) }
+            ≡ added (map table_view self.old.tables) (table_view self.old.table)
+            (spot_view self.old.spot) (addition_view addition.entry)) }
     {
         match addition {
             Addition::Nothing => {}
@@ -73,7 +74,8 @@ impl<'a> Reader<'a> {
 
     // Reads a token.
     fn take(&mut self, alloc: Global, place: u64, symbol: Symbol<'a>) -> Result<(), SchemaFault>
-        ensures { Steps result (reader_view self.old) (token place (symbol_view symbol.entry)) (reader_view self.new) }
+        ensures { Steps result (reader_view self.old) (token place (symbol_view symbol.entry))
+            (reader_view self.new) }
     {
         let Some((spot, addition)) = after_token(self.spot, place, symbol) else {
             return Err(SchemaFault::Syntax { place });

@@ -19,11 +19,13 @@ use nq_model::{List, Memory, Ty, boxed};
 use shred_types::paths;
 use std::alloc::Global;
 
-/// The shredded forms at all paths of a well-formed form's type, in path order, as `shred` gives each. The
-/// comprehensions are walked once. The only error is that memory wants.
+/// The shredded forms at all paths of a well-formed form's type, in path order, as `shred` gives
+/// each. The comprehensions are walked once. Fails only if memory runs out.
 pub fn shred_all(alloc: Global, normal: &Normal) -> Result<List<Shredded>, Memory>
     ensures { (schema : Schema) → IsWellFormed schema.tables (form_tree normal.now)
-        → IfOk result (λ all. map shredded_tree all ≡ map (shredded (form_tree normal.now)) (paths (bag (form_tree normal.now).element))) }
+        → IfOk result (λ all.
+        map shredded_tree all
+        ≡ map (shredded (form_tree normal.now)) (paths (bag (form_tree normal.now).element))) }
 {
     let levels = all_levels(alloc, normal)?;
     let places = all_paths(alloc, normal)?;
@@ -37,7 +39,9 @@ fn forms_of(
     places: &List<Path>,
     levels: Vec<List<Strand>>,
 ) -> Result<List<Shredded>, Memory>
-    ensures { IfOk result (λ forms. map shredded_tree forms ≡ paired (bag (form_tree normal.now).element) (map (λ p. p.steps) places.now) (levels_view levels.items)) }
+    ensures { IfOk result (λ forms.
+        map shredded_tree forms ≡ paired (bag (form_tree normal.now).element) (map
+        (λ p. p.steps) places.now) (levels_view levels.items)) }
 {
     let mut forms = List::with_capacity(alloc, places.len())?;
     for strands in levels {
@@ -51,7 +55,9 @@ fn forms_of(
 // The strands at each path, in the order of the form.
 #[tactic(auto, using(nq_ir::proofs::Forms::form_is))]
 fn all_levels(alloc: Global, normal: &Normal) -> Result<Vec<List<Strand>>, Memory>
-    ensures { IfOk result (λ levels. levels_view levels.items ≡ strands (form_tree normal.now).element (form_tree normal.now).comps) }
+    ensures { IfOk result (λ levels.
+        levels_view levels.items
+        ≡ strands (form_tree normal.now).element (form_tree normal.now).comps) }
 {
     let top = Around {
         parent: 0,
@@ -71,7 +77,8 @@ fn all_levels(alloc: Global, normal: &Normal) -> Result<Vec<List<Strand>>, Memor
 // The paths of the form's type.
 #[tactic(auto, using(nq_ir::proofs::Forms::form_is))]
 fn all_paths(alloc: Global, normal: &Normal) -> Result<List<Path>, Memory>
-    ensures { IfOk result (λ list. map (λ p. p.steps) list ≡ paths (bag (form_tree normal.now).element)) }
+    ensures { IfOk result (λ list. map
+        (λ p. p.steps) list ≡ paths (bag (form_tree normal.now).element)) }
 {
     let whole = Ty::Bag(boxed(alloc, normal.element.copy(alloc)?)?);
     paths(alloc, &whole)
@@ -84,7 +91,9 @@ fn form_at(
     path: &Path,
     strands: List<Strand>,
 ) -> Result<Shredded, Memory>
-    ensures { IfOk result (λ form. shredded_tree form ≡ form_of (bag (form_tree normal.now).element) path.now.steps (map strand_tree strands)) }
+    ensures { IfOk result (λ form.
+        shredded_tree form ≡ form_of (bag (form_tree normal.now).element) path.now.steps
+        (map strand_tree strands)) }
 {
     Ok(Shredded {
         path: path.copy(alloc)?,

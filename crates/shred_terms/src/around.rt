@@ -9,7 +9,8 @@ use nq_ir::{Base, Comp, Gen, Strand, copy_conds, copy_gens};
 use nq_model::{List, Memory};
 use std::alloc::Global;
 
-/// The tag of the comprehension around, 0 at the top, and all generators and conditions down to its body.
+/// The tag of the comprehension around, 0 at the top, and all generators and conditions down to its
+/// body.
 #[derive(Drop)]
 pub struct Around {
     pub parent: u64,
@@ -33,7 +34,8 @@ pub fn joined_gens(alloc: Global, outer: &[Gen], own: &[Gen]) -> Result<List<Gen
 
 /// Conditions and then more, copied.
 pub fn joined_conds(alloc: Global, outer: &[Base], own: &[Base]) -> Result<List<Base>, Memory>
-    ensures { IfOk result (λ all. map base_tree all ≡ map base_tree outer.now ++ map base_tree own.now) }
+    ensures { IfOk result (λ all.
+        map base_tree all ≡ map base_tree outer.now ++ map base_tree own.now) }
 {
     let mut all = List::with_capacity(alloc, outer.len())?;
     for cond in outer {
@@ -50,7 +52,9 @@ pub fn joined_conds(alloc: Global, outer: &[Base], own: &[Base]) -> Result<List<
 pub fn entered(alloc: Global, around: &Around, comp: &Comp) -> Result<Around, Memory>
     ensures parent { IfOk result (λ inner. inner.parent ≡ comp.now.tag) }
     ensures gens { IfOk result (λ inner. inner.gens ≡ around.now.gens ++ comp.now.gens) }
-    ensures conds { IfOk result (λ inner. conds_tree inner.conds ≡ both (conds_tree around.now.conds) (conds_tree comp.now.conds)) }
+    ensures conds { IfOk result
+        (λ inner. conds_tree inner.conds
+        ≡ both (conds_tree around.now.conds) (conds_tree comp.now.conds)) }
 {
     Ok(Around {
         parent: comp.tag,

@@ -15,12 +15,14 @@ use nq_model::{List, Memory, Ty};
 use shred_types::element_at;
 use std::alloc::Global;
 
-/// The shredded form at a path: one strand for each comprehension there, in the order of their tags. A path that
-/// the form's type lacks has no strands, and counts as one to a bag of int. The only error is that memory wants.
+/// The shredded form at a path: one strand for each comprehension there, in the order of their
+/// tags. A path that the form's type lacks has no strands, and counts as one to a bag of int. Fails
+/// only if memory runs out.
 ///
 /// After Cheney, Lindley and Wadler, "Query Shredding", SIGMOD 2014.
 pub fn shred(alloc: Global, normal: &Normal, path: &Path) -> Result<Shredded, Memory>
-    ensures { IfOk result (λ form. shredded_tree form ≡ shredded (form_tree normal.now) path.now.steps) }
+    ensures { IfOk result (λ form.
+        shredded_tree form ≡ shredded (form_tree normal.now) path.now.steps) }
 {
     let steps = path.steps.as_slice();
     Ok(Shredded {
@@ -32,7 +34,10 @@ pub fn shred(alloc: Global, normal: &Normal, path: &Path) -> Result<Shredded, Me
 
 // The strands at a path, in the order of the form.
 fn strands_at(alloc: Global, normal: &Normal, steps: &[Step]) -> Result<List<Strand>, Memory>
-    ensures { IfOk result (λ strands. map strand_tree strands ≡ map shaped (comps_at 0 [] no_cond (bag_body (form_tree normal.now).element (form_tree normal.now).comps) steps.now)) }
+    ensures { IfOk result (λ strands.
+        map strand_tree strands
+        ≡ map shaped (comps_at 0 [] no_cond
+        (bag_body (form_tree normal.now).element (form_tree normal.now).comps) steps.now)) }
 {
     let top = Around {
         parent: 0,
@@ -47,7 +52,8 @@ fn strands_at(alloc: Global, normal: &Normal, steps: &[Step]) -> Result<List<Str
 /// The type of the elements at a path.
 #[tactic(auto, using(nq_ir::proofs::Forms::form_is))]
 pub fn element_copy(alloc: Global, normal: &Normal, steps: &[Step]) -> Result<Ty, Memory>
-    ensures { IfOk result (λ element. type_tree element ≡ element_at (bag (form_tree normal.now).element) steps.now) }
+    ensures { IfOk result (λ element.
+        type_tree element ≡ element_at (bag (form_tree normal.now).element) steps.now) }
 {
     let found = match steps.split_first() {
         None => Some(&normal.element),

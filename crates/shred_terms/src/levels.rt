@@ -10,8 +10,8 @@ use nq_ir::Strand;
 use nq_model::{Label, List, Memory, Ty};
 use std::alloc::Global;
 
-/// Puts a list of strands at the end for each path inside the type, below the comprehensions here, of whose inner
-/// bags `slot` stand before. Then it is the number of those before what follows.
+/// Puts a list of strands at the end for each path inside the type, below the comprehensions here,
+/// of whose inner bags `slot` stand before. Then it is the number of those before what follows.
 #[cycle(levels)]
 #[tactic(auto, using(nq_model::proofs::Terms::type_of_record))]
 pub fn push_levels(
@@ -21,7 +21,9 @@ pub fn push_levels(
     here: &[Node<'_>],
     levels: &mut Vec<List<Strand>>,
 ) -> Result<(), Memory>
-    ensures levels { OnOk result (levels_view levels.new.items ≡ levels_view levels.old.items ++ node_levels (type_tree of.now) slot.old (map node_view here.now)) }
+    ensures levels { OnOk result (levels_view levels.new.items
+        ≡ levels_view levels.old.items
+        ++ node_levels (type_tree of.now) slot.old (map node_view here.now)) }
     ensures slot { OnOk result (slot.new ≡ slot.old + slots (type_tree of.now)) }
 {
     match of {
@@ -48,8 +50,12 @@ fn push_field_levels(
     here: &[Node<'_>],
     levels: &mut Vec<List<Strand>>,
 ) -> Result<(), Memory>
-    ensures levels { OnOk result (levels_view levels.new.items ≡ levels_view levels.old.items ++ node_fields (field_types_of (fields_view fields.now)) slot.old (map node_view here.now)) }
-    ensures slot { OnOk result (slot.new ≡ slot.old + slots_in (field_types_of (fields_view fields.now))) }
+    ensures levels { OnOk result (levels_view levels.new.items
+        ≡ levels_view levels.old.items
+        ++ node_fields (field_types_of (fields_view fields.now)) slot.old
+        (map node_view here.now)) }
+    ensures slot { OnOk result (slot.new
+        ≡ slot.old + slots_in (field_types_of (fields_view fields.now))) }
 {
     for field in fields {
         push_levels(alloc, &field.1, slot, here, levels)?;

@@ -1,4 +1,5 @@
-// Comprehensions at one path as strands, each with the bags in its body, in which the next strands stand.
+// Comprehensions at one path as strands, each with the bags in its body, in which the next strands
+// stand.
 ghost use Rattle.std.specs.Prelude.{◌≡◌, ◌++◌, [], IfOk, OnOk, map, flat_map};
 ghost use Rattle.nq_ir.specs.Spots.{bags_of, both, strand_tree};
 ghost use Rattle.nq_ir.specs.Trees.{body_tree, conds_tree};
@@ -24,7 +25,8 @@ pub fn push_nodes<'a>(
     comps: &'a [Comp],
     nodes: &mut Vec<Node<'a>>,
 ) -> Result<(), Memory>
-    ensures { OnOk result (map node_view nodes.new.items ≡ map node_view nodes.old.items ++ map node_of (placed_in around.now comps.now)) }
+    ensures { OnOk result (map node_view nodes.new.items
+        ≡ map node_view nodes.old.items ++ map node_of (placed_in around.now comps.now)) }
 {
     for comp in comps {
         let mut bags = Vec::new(alloc);
@@ -41,7 +43,8 @@ pub fn push_nodes<'a>(
 #[cycle(bags)]
 #[tactic(auto, using(nq_ir::proofs::Forms::body_plain, nq_ir::proofs::Forms::body_rec, nq_ir::proofs::Forms::body_bag))]
 fn push_bags<'a>(body: &'a Body, bags: &mut Vec<&'a Normal>) -> Result<(), Memory>
-    ensures { OnOk result (bags_view bags.new.items ≡ bags_view bags.old.items ++ bags_of (body_tree body.now)) }
+    ensures { OnOk result (bags_view bags.new.items
+        ≡ bags_view bags.old.items ++ bags_of (body_tree body.now)) }
 {
     match body {
         Body::Plain(_) => Ok(()),
@@ -58,7 +61,8 @@ fn push_field_bags<'a>(
     fields: &'a [(Label, Body)],
     bags: &mut Vec<&'a Normal>,
 ) -> Result<(), Memory>
-    ensures { OnOk result (bags_view bags.new.items ≡ bags_view bags.old.items ++ field_bags fields.now) }
+    ensures { OnOk result (bags_view bags.new.items
+        ≡ bags_view bags.old.items ++ field_bags fields.now) }
 {
     for field in fields {
         push_bags(&field.1, bags)?;
@@ -72,7 +76,8 @@ pub fn nodes_under<'a>(
     here: &[Node<'a>],
     slot: usize,
 ) -> Result<Vec<Node<'a>>, Memory>
-    ensures { IfOk result (λ nodes. map node_view nodes.items ≡ flat_map (under_node slot) (map node_view here.now)) }
+    ensures { IfOk result (λ nodes.
+        map node_view nodes.items ≡ flat_map (under_node slot) (map node_view here.now)) }
 {
     let mut nodes = Vec::new(alloc);
     for node in here {
@@ -89,7 +94,8 @@ fn push_under<'a>(
     slot: usize,
     nodes: &mut Vec<Node<'a>>,
 ) -> Result<(), Memory>
-    ensures { OnOk result (map node_view nodes.new.items ≡ map node_view nodes.old.items ++ under_node slot (node_view node.now)) }
+    ensures { OnOk result (map node_view nodes.new.items
+        ≡ map node_view nodes.old.items ++ under_node slot (node_view node.now)) }
 {
     match node.bags.get(slot) {
         Some(bag) if !bag.parts.is_empty() => {
@@ -104,8 +110,11 @@ fn push_under<'a>(
 #[tactic(auto, using(crate::proofs::Steps::conds_joined))]
 fn within(alloc: Global, strand: &Strand) -> Result<Around, Memory>
     ensures parent { IfOk result (λ inner. inner.parent ≡ strand.now.tag) }
-    ensures gens { IfOk result (λ inner. inner.gens ≡ (strand_tree strand.now).outer_gens ++ strand.now.gens) }
-    ensures conds { IfOk result (λ inner. conds_tree inner.conds ≡ both (strand_tree strand.now).outer_conds (strand_tree strand.now).conds) }
+    ensures gens { IfOk result
+        (λ inner. inner.gens ≡ (strand_tree strand.now).outer_gens ++ strand.now.gens) }
+    ensures conds { IfOk result
+        (λ inner. conds_tree inner.conds
+        ≡ both (strand_tree strand.now).outer_conds (strand_tree strand.now).conds) }
 {
     Ok(Around {
         parent: strand.tag,
@@ -120,7 +129,8 @@ fn within(alloc: Global, strand: &Strand) -> Result<Around, Memory>
 
 /// The strands alone.
 pub fn strands_of(alloc: Global, nodes: Vec<Node<'_>>) -> Result<List<Strand>, Memory>
-    ensures { IfOk result (λ strands. map strand_tree strands ≡ map (λ d. d.0) (map node_view nodes.entry.items)) }
+    ensures { IfOk result (λ strands. map strand_tree strands ≡ map
+        (λ d. d.0) (map node_view nodes.entry.items)) }
 {
     let mut strands = List::with_capacity(alloc, nodes.len())?;
     for node in nodes {

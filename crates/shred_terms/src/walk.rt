@@ -15,7 +15,8 @@ fn push_placed(
     comps: &[Comp],
     strands: &mut List<Strand>,
 ) -> Result<(), Memory>
-    ensures { OnOk result (map strand_tree strands.new ≡ map strand_tree strands.old ++ map shaped (placed_in around.now comps.now)) }
+    ensures { OnOk result (map strand_tree strands.new
+        ≡ map strand_tree strands.old ++ map shaped (placed_in around.now comps.now)) }
 {
     for comp in comps {
         strands.push(strand(alloc, around, comp)?)?;
@@ -33,7 +34,8 @@ pub fn push_in_bag(
     steps: &[Step],
     strands: &mut List<Strand>,
 ) -> Result<(), Memory>
-    ensures { OnOk result (map strand_tree strands.new ≡ map strand_tree strands.old ++ map shaped (at_bag around.now bag.now steps.now)) }
+    ensures { OnOk result (map strand_tree strands.new
+        ≡ map strand_tree strands.old ++ map shaped (at_bag around.now bag.now steps.now)) }
 {
     match steps.split_first() {
         None => push_placed(alloc, around, bag.parts.as_slice(), strands),
@@ -51,7 +53,8 @@ fn push_below(
     steps: &[Step],
     strands: &mut List<Strand>,
 ) -> Result<(), Memory>
-    ensures { OnOk result (map strand_tree strands.new ≡ map strand_tree strands.old ++ map shaped (below around.now comps.now steps.now)) }
+    ensures { OnOk result (map strand_tree strands.new
+        ≡ map strand_tree strands.old ++ map shaped (below around.now comps.now steps.now)) }
 {
     for comp in comps {
         let inner = entered(alloc, around, comp)?;
@@ -69,7 +72,8 @@ fn push_at(
     steps: &[Step],
     strands: &mut List<Strand>,
 ) -> Result<(), Memory>
-    ensures { OnOk result (map strand_tree strands.new ≡ map strand_tree strands.old ++ map shaped (at_body around.now body.now steps.now)) }
+    ensures { OnOk result (map strand_tree strands.new
+        ≡ map strand_tree strands.old ++ map shaped (at_body around.now body.now steps.now)) }
 {
     match (body, steps.split_first()) {
         (Body::Rec(fields), Some((Step::Field(label), rest))) => {
@@ -96,7 +100,9 @@ fn push_in_field(
     steps: &[Step],
     strands: &mut List<Strand>,
 ) -> Result<(), Memory>
-    ensures { OnOk result (map strand_tree strands.new ≡ map strand_tree strands.old ++ map shaped (at_field around.now fields.now label.now steps.now)) }
+    ensures { OnOk result (map strand_tree strands.new
+        ≡ map strand_tree strands.old
+        ++ map shaped (at_field around.now fields.now label.now steps.now)) }
 {
     for field in fields {
         if label == field.0.as_str() {

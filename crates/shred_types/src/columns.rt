@@ -9,8 +9,8 @@ use nq_ir::{Path, Step};
 use nq_model::{ColumnType, Label, List, Memory, Ty};
 use std::alloc::Global;
 
-/// The columns of the answer at a path of the type: tag and number of the spot around, then those of the
-/// element. A path that is none of the type's counts as one to a bag of int.
+/// The columns of the answer at a path of the type: tag and number of the spot around, then those
+/// of the element. A path that is none of the type's counts as one to a bag of int.
 pub fn columns_at(alloc: Global, of: &Ty, path: &Path) -> Result<List<ColumnType>, Memory>
     ensures { IfOk result (λ columns. columns ≡ columns_at (type_tree of.now) path.now.steps) }
 {
@@ -27,7 +27,8 @@ pub fn columns_at(alloc: Global, of: &Ty, path: &Path) -> Result<List<ColumnType
 #[tactic(auto, using(nq_model::proofs::Terms::type_of_record))]
 pub fn element_at<'a>(of: &'a Ty, steps: &[Step]) -> Option<&'a Ty>
     ensures found { is_some result ≡ has_bag (type_tree of.now) steps.now }
-    ensures is { MatchOption result (element_at (type_tree of.now) steps.now ≡ int) (λ element. type_tree element.now ≡ element_at (type_tree of.now) steps.now) }
+    ensures is { MatchOption result (element_at (type_tree of.now) steps.now ≡ int)
+        (λ element. type_tree element.now ≡ element_at (type_tree of.now) steps.now) }
 {
     match (steps.split_first(), of) {
         (None, Ty::Bag(element)) => Some(element),
@@ -43,8 +44,12 @@ pub fn element_at<'a>(of: &'a Ty, steps: &[Step]) -> Option<&'a Ty>
 #[cycle(element)]
 #[tactic(auto, using(nq_model::proofs::Terms::type_of_record))]
 fn element_in<'a>(fields: &'a [(Label, Ty)], label: &str, steps: &[Step]) -> Option<&'a Ty>
-    ensures found { is_some result ≡ has_bag_in (field_types_of (fields_view fields.now)) label.now steps.now }
-    ensures is { MatchOption result (element_in (field_types_of (fields_view fields.now)) label.now steps.now ≡ int) (λ element. type_tree element.now ≡ element_in (field_types_of (fields_view fields.now)) label.now steps.now) }
+    ensures found { is_some result
+        ≡ has_bag_in (field_types_of (fields_view fields.now)) label.now steps.now }
+    ensures is { MatchOption result
+        (element_in (field_types_of (fields_view fields.now)) label.now steps.now ≡ int)
+        (λ element. type_tree element.now
+        ≡ element_in (field_types_of (fields_view fields.now)) label.now steps.now) }
 {
     for field in fields {
         if label == field.0.as_str() {
@@ -73,7 +78,8 @@ fn push_columns(columns: &mut List<ColumnType>, element: &Ty) -> Result<(), Memo
 #[cycle(columns)]
 #[tactic(auto, using(nq_model::proofs::Terms::type_of_record))]
 fn push_field_columns(columns: &mut List<ColumnType>, fields: &[(Label, Ty)]) -> Result<(), Memory>
-    ensures { OnOk result (columns.new ≡ columns.old ++ fields_columns (field_types_of (fields_view fields.now))) }
+    ensures { OnOk result (columns.new
+        ≡ columns.old ++ fields_columns (field_types_of (fields_view fields.now))) }
 {
     for field in fields {
         push_columns(columns, &field.1)?;

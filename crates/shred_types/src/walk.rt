@@ -24,7 +24,8 @@ pub fn paths(alloc: Global, of: &Ty) -> Result<List<Path>, Memory>
 #[cycle(paths)]
 #[tactic(auto, using(crate::proofs::Under::steps_pushed, crate::proofs::Under::under_field, nq_model::proofs::Terms::type_of_record))]
 fn push_paths(alloc: Global, of: &Ty, steps: &[Step], all: &mut List<Path>) -> Result<(), Memory>
-    ensures { OnOk result (steps_of all.new ≡ steps_of all.old ++ under steps.now (paths (type_tree of.now))) }
+    ensures { OnOk result (steps_of all.new
+        ≡ steps_of all.old ++ under steps.now (paths (type_tree of.now))) }
 {
     match of {
         Ty::Int | Ty::Bool | Ty::Text | Ty::Fun(_, _) => Ok(()),
@@ -47,7 +48,9 @@ fn push_field_paths(
     steps: &[Step],
     all: &mut List<Path>,
 ) -> Result<(), Memory>
-    ensures { OnOk result (steps_of all.new ≡ steps_of all.old ++ under steps.now (paths_in (field_types_of (fields_view fields.now)))) }
+    ensures { OnOk result (steps_of all.new
+        ≡ steps_of all.old ++ under steps.now
+        (paths_in (field_types_of (fields_view fields.now)))) }
 {
     for field in fields {
         let deeper = extended(alloc, steps, Step::Field(field.0.copy(alloc)?))?;

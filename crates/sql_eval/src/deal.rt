@@ -32,8 +32,8 @@ fn ranks_of(alloc: Global, places: &[u32]) -> Result<Vec<u64>, Memory>
     Ok(ranks)
 }
 
-/// Numbers for rows of one width, from 1 on: a smaller row has a smaller number, and rows that are alike are
-/// numbered in any order. The only error is that memory wants.
+/// Numbers for rows of one width, from 1 on: a smaller row has a smaller number, and rows that are
+/// alike are numbered in any order. Fails only if memory runs out.
 pub(crate) fn deal(alloc: Global, keys: &Rows) -> Result<Vec<u64>, Memory>
     requires { HaveOneWidth keys.now }
     ensures { IfOk result (λ numbers. Numbers key_lt keys.now numbers.items) }

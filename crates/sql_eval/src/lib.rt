@@ -1,5 +1,5 @@
-//! An evaluator of SQL trees over held tables, which lends cells and stores no product that it has not
-//! filtered. Its contract is the relation of allowed answers.
+//! An evaluator of SQL trees over held tables, which lends cells and stores no product that it has
+//! not filtered. Its contract is the relation of allowed answers.
 #![tactic(auto)]
 
 mod access;

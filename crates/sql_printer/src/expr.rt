@@ -13,7 +13,8 @@ use sql_profile::{Expr, ExprNode, Picked, Query};
 // The expression, with each operation in parentheses.
 #[cycle(put)]
 pub(crate) fn put_expr(text: &mut String, expr: &Expr) -> Result<(), Memory>
-    ensures { OnOk result (string_bytes text.new ≡ string_bytes text.old ++ printed_expr (expr_tree expr.now)) }
+    ensures { OnOk result (string_bytes text.new
+        ≡ string_bytes text.old ++ printed_expr (expr_tree expr.now)) }
 {
     match &expr.node {
         ExprNode::Int(number) => Ok(write!(text, "{number}")?),
@@ -48,7 +49,8 @@ pub(crate) fn put_expr(text: &mut String, expr: &Expr) -> Result<(), Memory>
 // An expression, and what stands behind it.
 #[cycle(put)]
 fn put_part(text: &mut String, expr: &Expr, behind: &str) -> Result<(), Memory>
-    ensures { OnOk result (string_bytes text.new ≡ string_bytes text.old ++ (printed_expr (expr_tree expr.now) ++ behind.now)) }
+    ensures { OnOk result (string_bytes text.new
+        ≡ string_bytes text.old ++ (printed_expr (expr_tree expr.now) ++ behind.now)) }
 {
     put_expr(text, expr)?;
     text.push_str(behind)?;
@@ -56,7 +58,8 @@ fn put_part(text: &mut String, expr: &Expr, behind: &str) -> Result<(), Memory>
 }
 
 fn put_column(text: &mut String, alias: &Label, name: &Label) -> Result<(), Memory>
-    ensures { OnOk result (string_bytes text.new ≡ string_bytes text.old ++ printed_expr (column alias.now name.now)) }
+    ensures { OnOk result (string_bytes text.new
+        ≡ string_bytes text.old ++ printed_expr (column alias.now name.now)) }
 {
     put_name(text, alias)?;
     text.push_str(".")?;
@@ -65,7 +68,8 @@ fn put_column(text: &mut String, alias: &Label, name: &Label) -> Result<(), Memo
 
 #[cycle(put)]
 fn put_unary(text: &mut String, op: Unary, of: &Expr) -> Result<(), Memory>
-    ensures { OnOk result (string_bytes text.new ≡ string_bytes text.old ++ printed_expr (unary op (expr_tree of.now))) }
+    ensures { OnOk result (string_bytes text.new
+        ≡ string_bytes text.old ++ printed_expr (unary op (expr_tree of.now))) }
 {
     text.push_str("(")?;
     text.push_str(before_operand(op))?;
@@ -74,7 +78,8 @@ fn put_unary(text: &mut String, op: Unary, of: &Expr) -> Result<(), Memory>
 
 #[cycle(put)]
 fn put_not_exists(text: &mut String, query: &Query) -> Result<(), Memory>
-    ensures { OnOk result (string_bytes text.new ≡ string_bytes text.old ++ printed_expr (not_exists (query_tree query.now))) }
+    ensures { OnOk result (string_bytes text.new
+        ≡ string_bytes text.old ++ printed_expr (not_exists (query_tree query.now))) }
 {
     text.push_str("(NOT EXISTS (")?;
     put_query(text, query)?;
@@ -123,7 +128,8 @@ fn between_operands(op: Binary) -> &'static str
 // ORDER BY and the keys, if there are any.
 #[cycle(put)]
 pub(crate) fn put_keys(text: &mut String, keys: &[Expr]) -> Result<(), Memory>
-    ensures { OnOk result (string_bytes text.new ≡ string_bytes text.old ++ printed_keys (exprs_tree keys.now)) }
+    ensures { OnOk result (string_bytes text.new
+        ≡ string_bytes text.old ++ printed_keys (exprs_tree keys.now)) }
 {
     for (place, key) in keys.iter().enumerate() {
         put_lead(text, place, "ORDER BY ", ", ")?;

@@ -9,7 +9,8 @@ use sql_profile::Source;
 
 // `"table" AS "alias"`.
 fn put_source(text: &mut String, source: &Source) -> Result<(), Memory>
-    ensures { OnOk result (string_bytes text.new ≡ string_bytes text.old ++ printed_source (bare_source source.now)) }
+    ensures { OnOk result (string_bytes text.new
+        ≡ string_bytes text.old ++ printed_source (bare_source source.now)) }
 {
     put_name(text, &source.table)?;
     text.push_str(" AS ")?;
@@ -18,7 +19,8 @@ fn put_source(text: &mut String, source: &Source) -> Result<(), Memory>
 
 // Each source behind a comma.
 fn put_more_sources(text: &mut String, sources: &[Source]) -> Result<(), Memory>
-    ensures { OnOk result (string_bytes text.new ≡ string_bytes text.old ++ more_sources (map bare_source sources.now)) }
+    ensures { OnOk result (string_bytes text.new
+        ≡ string_bytes text.old ++ more_sources (map bare_source sources.now)) }
 {
     for source in sources {
         text.push_str(", ")?;
@@ -29,7 +31,8 @@ fn put_more_sources(text: &mut String, sources: &[Source]) -> Result<(), Memory>
 
 // FROM and the sources, if there are any.
 pub(crate) fn put_from(text: &mut String, sources: &[Source]) -> Result<(), Memory>
-    ensures { OnOk result (string_bytes text.new ≡ string_bytes text.old ++ printed_from (map bare_source sources.now)) }
+    ensures { OnOk result (string_bytes text.new
+        ≡ string_bytes text.old ++ printed_from (map bare_source sources.now)) }
 {
     if let Some((first, further)) = sources.split_first() {
         text.push_str(" FROM ")?;

@@ -30,7 +30,8 @@ pub(crate) fn put_truth(text: &mut String, holds: bool) -> Result<(), Memory>
 
 // The text in single quotes, each single quote in it doubled.
 pub(crate) fn put_literal(text: &mut String, literal: &str) -> Result<(), Memory>
-    ensures { OnOk result (string_bytes text.new ≡ string_bytes text.old ++ cell_text (cell.Text literal.now)) }
+    ensures { OnOk result (string_bytes text.new
+        ≡ string_bytes text.old ++ cell_text (cell.Text literal.now)) }
 {
     text.push_str("'")?;
     let mut rest = literal;
@@ -51,7 +52,8 @@ pub(crate) fn put_lead(
     first: &str,
     further: &str,
 ) -> Result<(), Memory>
-    ensures { OnOk result (string_bytes text.new ≡ string_bytes text.old ++ lead place first.now further.now) }
+    ensures { OnOk result (string_bytes text.new
+        ≡ string_bytes text.old ++ lead place first.now further.now) }
 {
     if place == 0 {
         text.push_str(first)?;

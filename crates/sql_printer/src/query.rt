@@ -13,7 +13,8 @@ use sql_profile::{Expr, Item, ItemValue, Query, Select};
 // The SELECTs, joined by UNION ALL.
 #[cycle(put)]
 pub(crate) fn put_query(text: &mut String, query: &Query) -> Result<(), Memory>
-    ensures { OnOk result (string_bytes text.new ≡ string_bytes text.old ++ printed_query (query_tree query.now)) }
+    ensures { OnOk result (string_bytes text.new
+        ≡ string_bytes text.old ++ printed_query (query_tree query.now)) }
 {
     for (place, select) in query.selects.as_slice().iter().enumerate() {
         put_lead(text, place, "", " UNION ALL ")?;
@@ -24,7 +25,8 @@ pub(crate) fn put_query(text: &mut String, query: &Query) -> Result<(), Memory>
 
 #[cycle(put)]
 fn put_select(text: &mut String, select: &Select) -> Result<(), Memory>
-    ensures { OnOk result (string_bytes text.new ≡ string_bytes text.old ++ printed_select (select_tree select.now)) }
+    ensures { OnOk result (string_bytes text.new
+        ≡ string_bytes text.old ++ printed_select (select_tree select.now)) }
 {
     text.push_str("SELECT ")?;
     put_items(text, select.items.as_slice())?;
@@ -35,7 +37,8 @@ fn put_select(text: &mut String, select: &Select) -> Result<(), Memory>
 // WHERE and the condition, if there is one.
 #[cycle(put)]
 pub(crate) fn put_keep(text: &mut String, keep: &Option<Expr>) -> Result<(), Memory>
-    ensures { OnOk result (string_bytes text.new ≡ string_bytes text.old ++ printed_keep (keep_tree keep.now)) }
+    ensures { OnOk result (string_bytes text.new
+        ≡ string_bytes text.old ++ printed_keep (keep_tree keep.now)) }
 {
     if let Some(condition) = keep {
         text.push_str(" WHERE ")?;
@@ -46,7 +49,8 @@ pub(crate) fn put_keep(text: &mut String, keep: &Option<Expr>) -> Result<(), Mem
 
 #[cycle(put)]
 fn put_items(text: &mut String, items: &[Item]) -> Result<(), Memory>
-    ensures { OnOk result (string_bytes text.new ≡ string_bytes text.old ++ printed_items (items_tree items.now)) }
+    ensures { OnOk result (string_bytes text.new
+        ≡ string_bytes text.old ++ printed_items (items_tree items.now)) }
 {
     for (place, item) in items.iter().enumerate() {
         put_lead(text, place, "", ", ")?;
@@ -68,7 +72,8 @@ fn put_item(text: &mut String, item: &Item) -> Result<(), Memory>
 
 #[cycle(put)]
 fn put_value(text: &mut String, value: &ItemValue) -> Result<(), Memory>
-    ensures { OnOk result (string_bytes text.new ≡ string_bytes text.old ++ printed_value (bare_value (placed_value value.now))) }
+    ensures { OnOk result (string_bytes text.new
+        ≡ string_bytes text.old ++ printed_value (bare_value (placed_value value.now))) }
 {
     match value {
         ItemValue::Plain(expr) => put_expr(text, expr),
@@ -79,7 +84,8 @@ fn put_value(text: &mut String, value: &ItemValue) -> Result<(), Memory>
 // A numbering by these order keys.
 #[cycle(put)]
 fn put_number(text: &mut String, keys: &[Expr]) -> Result<(), Memory>
-    ensures { OnOk result (string_bytes text.new ≡ string_bytes text.old ++ printed_value (number (exprs_tree keys.now))) }
+    ensures { OnOk result (string_bytes text.new
+        ≡ string_bytes text.old ++ printed_value (number (exprs_tree keys.now))) }
 {
     text.push_str("ROW_NUMBER() OVER (")?;
     put_keys(text, keys)?;

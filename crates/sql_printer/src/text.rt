@@ -14,7 +14,8 @@ use std::alloc::Global;
 
 // `"name" AS (query)`.
 fn put_with(text: &mut String, with: &With) -> Result<(), Memory>
-    ensures { OnOk result (string_bytes text.new ≡ string_bytes text.old ++ printed_with (with_tree with.now)) }
+    ensures { OnOk result (string_bytes text.new
+        ≡ string_bytes text.old ++ printed_with (with_tree with.now)) }
 {
     put_name(text, &with.name)?;
     text.push_str(" AS (")?;
@@ -25,7 +26,8 @@ fn put_with(text: &mut String, with: &With) -> Result<(), Memory>
 
 // Each WITH query behind a comma, and the space before the main query.
 fn put_more_withs(text: &mut String, withs: &[With]) -> Result<(), Memory>
-    ensures { OnOk result (string_bytes text.new ≡ string_bytes text.old ++ more_withs (map with_tree withs.now)) }
+    ensures { OnOk result (string_bytes text.new
+        ≡ string_bytes text.old ++ more_withs (map with_tree withs.now)) }
 {
     for with in withs {
         text.push_str(", ")?;
@@ -37,7 +39,8 @@ fn put_more_withs(text: &mut String, withs: &[With]) -> Result<(), Memory>
 
 // WITH and the queries, if there are any.
 fn put_withs(text: &mut String, withs: &[With]) -> Result<(), Memory>
-    ensures { OnOk result (string_bytes text.new ≡ string_bytes text.old ++ printed_withs (map with_tree withs.now)) }
+    ensures { OnOk result (string_bytes text.new
+        ≡ string_bytes text.old ++ printed_withs (map with_tree withs.now)) }
 {
     if let Some((first, further)) = withs.split_first() {
         text.push_str("WITH ")?;
@@ -47,13 +50,14 @@ fn put_withs(text: &mut String, withs: &[With]) -> Result<(), Memory>
     Ok(())
 }
 
-/// The text of a tree: keywords in capitals and one space between words, names in double quotes, each operation
-/// in parentheses, no final `;`. Where texts can spell the tree, this one spells it, at a depth of its own bytes.
-/// The only error is that memory wants.
+/// The text of a tree: keywords in capitals and one space between words, names in double quotes,
+/// each operation in parentheses, no final `;`. Where texts can spell the tree, this one spells it,
+/// at a depth of its own bytes. Fails only if memory runs out.
 pub fn print(alloc: Global, text: &SqlText) -> Result<List<u8>, Memory>
     ensures is { IfOk result (λ bytes. bytes ≡ printed (sql_tree text.now)) }
     ensures spells { IfOk result (λ bytes. IsSpellable (sql_tree text.now)
-        → (tree : PlacedSql) × Spells First (length bytes) bytes tree × (bare tree ≡ sql_tree text.now)) }
+        → (tree : PlacedSql) × Spells First (length bytes) bytes tree
+        × (bare tree ≡ sql_tree text.now)) }
 {
     let mut written = String::new(alloc);
     put_withs(&mut written, text.withs.as_slice())?;

@@ -34,15 +34,18 @@ fn type_at(rows: &Rows, row: usize, place: usize) -> Option<ColumnType>
 
 // Whether the cell at a place is of the type of the column there, or neither is there.
 fn agrees_at(rows: &Rows, row: usize, columns: &[ColumnType], place: usize) -> bool
-    ensures { IsTrue result ↔ (slice_get (map column_type_of (slice_index_or rows.now row [])) place ≡ slice_get columns.now place) }
+    ensures { IsTrue result ↔ (slice_get (map column_type_of (slice_index_or rows.now row [])) place
+        ≡ slice_get columns.now place) }
 {
     type_at(rows, row, place) == columns.get(place).copied()
 }
 
-// The first place, counted from 0, where a cell is missing, of another type, or beyond the last column.
+// The first place, counted from 0, where a cell is missing, of another type, or beyond the last
+// column.
 #[tactic(auto, using(crate::proofs::Misfits::take_more_got))]
 fn first_difference(rows: &Rows, row: usize, columns: &[ColumnType]) -> Option<usize>
-    ensures { MatchOption result (RowFits columns.now (slice_index_or rows.now row [])) (DiffersFirstAt columns.now (slice_index_or rows.now row [])) }
+    ensures { MatchOption result (RowFits columns.now (slice_index_or rows.now row []))
+        (DiffersFirstAt columns.now (slice_index_or rows.now row [])) }
 {
     for place in 0..rows.width(row).max(columns.len()) {
         if !agrees_at(rows, row, columns, place) {
@@ -56,13 +59,14 @@ fn first_difference(rows: &Rows, row: usize, columns: &[ColumnType]) -> Option<u
 pub fn misfit_laws()
     ensures fitting { (rows : List (List Cell)) (types : List ColumnType) (misfit : Misfit)
         → All (RowFits types) rows → IsFirstMisfit rows types misfit → ⊥ }
-    ensures at_most_one { (rows : List (List Cell)) (types : List ColumnType) (misfit other : Misfit)
+    ensures at_most_one { (rows : List (List Cell)) (types : List ColumnType)
+        (misfit other : Misfit)
         → IsFirstMisfit rows types misfit → IsFirstMisfit rows types other → misfit ≡ other }
 {}
 
-/// Whether each row of the answer has a cell of each column's type, and no more. The error names the
-/// first row, and in it the first column, where a cell is missing, of another type, or beyond the last
-/// column.
+/// Whether each row of the answer has a cell of each column's type, and no more. The error names
+/// the first row, and in it the first column, where a cell is missing, of another type, or beyond
+/// the last column.
 #[tactic(auto, using(crate::proofs::Misfits::first_misfit))]
 pub fn fits(answer: &Answer, columns: &[ColumnType]) -> Result<(), Misfit>
     ensures ok { OnOk result (All (RowFits columns.now) answer.now.rows) }

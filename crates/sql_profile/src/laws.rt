@@ -22,70 +22,87 @@ ghost use Rattle.sql_profile.specs.Tokens.{Edition, First};
 ghost use Rattle.sql_profile.specs.Trees.{ExprTrees, PlacedSql, SqlTree, bare, number};
 ghost use Rattle.sql_profile.specs.declared.server.Loaded.{Loaded};
 
-/// A text spells exactly one tree, or has exactly one fault, at each depth. A depth of its own bytes is
-/// enough for every text that spells a tree at some depth.
+/// A text spells exactly one tree, or has exactly one fault, at each depth. A depth of its own
+/// bytes is enough for every text that spells a tree at some depth.
 pub fn text_laws()
     ensures one_tree { (edition : Edition) (d e : ℕ) (text : List ℕ) (tree other : PlacedSql)
         → Spells edition d text tree → Spells edition e text other → tree ≡ other }
     ensures one_fault { (edition : Edition) (d : ℕ) (text : List ℕ) (f g : Fault) (p q : ℕ)
         → HasFault edition d text f p → HasFault edition d text g q → (f ≡ g) × (p ≡ q) }
-    ensures not_both { (edition : Edition) (d : ℕ) (text : List ℕ) (tree : PlacedSql) (f : Fault) (place : ℕ)
+    ensures not_both { (edition : Edition) (d : ℕ) (text : List ℕ) (tree : PlacedSql) (f : Fault)
+        (place : ℕ)
         → Spells edition d text tree → HasFault edition d text f place → ⊥ }
     ensures either { (edition : Edition) (d : ℕ) (text : List ℕ)
-        → ((tree : PlacedSql) × Spells edition d text tree) ⊎ ((f : Fault) × (place : ℕ) × HasFault edition d text f place) }
+        → ((tree : PlacedSql) × Spells edition d text tree)
+        ⊎ ((f : Fault) × (place : ℕ) × HasFault edition d text f place) }
     ensures bytes_are_deep { (edition : Edition) (d : ℕ) (text : List ℕ) (tree : PlacedSql)
         → Spells edition d text tree → Spells edition (length text) text tree }
 {}
 
 /// The walk in the order of judging is fine with columns exactly where the tree is well scoped with
-/// them, and so breaks a rule exactly where it has none. What is found under a name is the first that
-/// stands there.
+/// them, and so breaks a rule exactly where it has none. What is found under a name is the first
+/// that stands there.
 pub fn scope_laws()
     ensures agree { (tables : Shapes) (tree : PlacedSql) (columns : Columns)
         → (judge tables tree ≡ Fine columns) ↔ IsWellScoped tables (bare tree) columns }
     ensures broken { (tables : Shapes) (tree : PlacedSql) (columns : Columns) (rule place : ℕ)
         → judge tables tree ≡ Broken rule place → IsWellScoped tables (bare tree) columns → ⊥ }
-    ensures first_found { (name : List ℕ) (before after : List (List ℕ × Columns)) (columns : Columns)
-        → Each (λ n. name ≢ n) (names_in before) → found name (before ++ (name, columns) ∷ after) ≡ Some columns }
+    ensures first_found { (name : List ℕ) (before after : List (List ℕ × Columns))
+        (columns : Columns)
+        → Each (λ n. name ≢ n) (names_in before)
+        → found name (before ++ (name, columns) ∷ after) ≡ Some columns }
     ensures none_found { (name : List ℕ) (others : List (List ℕ × Columns))
         → Each (λ n. name ≢ n) (names_in others) → found name others ≡ None }
-    ensures not_among { (name : List ℕ) (names : List (List ℕ)) → (among name names ≡ false) ↔ Each (λ n. name ≢ n) names }
+    ensures not_among { (name : List ℕ) (names : List (List ℕ)) → (among name names ≡ false) ↔ Each
+        (λ n. name ≢ n) names }
 {}
 
-/// What SQL allows as an answer. A tree that is well scoped over tables whose rows fit allows only rows
-/// of its columns' types. However a numbering numbers ties, the combination with the number n has the
-/// n-th of the sorted key lists, and the pairs of number and key list are one multiset.
+/// What SQL allows as an answer. A tree that is well scoped over tables whose rows fit allows only
+/// rows of its columns' types. However a numbering numbers ties, the combination with the number n
+/// has the n-th of the sorted key lists, and the pairs of number and key list are one multiset.
 pub fn answer_laws()
-    ensures fitting { (held : List Loaded) (tree : SqlTree) (columns : Columns) (rows : List (List Cell))
+    ensures fitting { (held : List Loaded) (tree : SqlTree) (columns : Columns)
+        (rows : List (List Cell))
         → All (λ table. All (RowFits (types_of table.columns)) table.rows) held
-        → IsWellScoped (shapes_of held) tree columns → TreeAllows held tree rows → All (RowFits (types_of columns)) rows }
-    ensures nth_key { (tables : NamedTables) (kept : List Scope) (keys : ExprTrees) (cells : List Cell) (sorted : List (List Cell))
-        → ValueGives tables kept (number keys) cells → Reordered (keys_of tables keys kept) sorted → Rises key_lt sorted
+        → IsWellScoped (shapes_of held) tree columns → TreeAllows held tree rows
+        → All (RowFits (types_of columns)) rows }
+    ensures nth_key { (tables : NamedTables) (kept : List Scope) (keys : ExprTrees)
+        (cells : List Cell) (sorted : List (List Cell))
+        → ValueGives tables kept (number keys) cells → Reordered (keys_of tables keys kept) sorted
+        → Rises key_lt sorted
         → Each (IsNthOf sorted) (zip cells (keys_of tables keys kept)) }
-    ensures numbers_fixed { (tables : NamedTables) (kept : List Scope) (keys : ExprTrees) (cells : List Cell) (sorted : List (List Cell))
-        → ValueGives tables kept (number keys) cells → Reordered (keys_of tables keys kept) sorted → Rises key_lt sorted
+    ensures numbers_fixed { (tables : NamedTables) (kept : List Scope) (keys : ExprTrees)
+        (cells : List Cell) (sorted : List (List Cell))
+        → ValueGives tables kept (number keys) cells → Reordered (keys_of tables keys kept) sorted
+        → Rises key_lt sorted
         → Reordered (zip cells (keys_of tables keys kept)) (number_cells sorted) }
 {}
 
 /// An answer that SQL allows to a text that may be asked has the types of the text's columns.
 pub fn ask_laws()
-    ensures fitting { (edition : Edition) (held : List Loaded) (text : List ℕ) (rows : List (List Cell))
+    ensures fitting { (edition : Edition) (held : List Loaded) (text : List ℕ)
+        (rows : List (List Cell))
         → All (λ table. All (RowFits (types_of table.columns)) table.rows) held
-        → (asked : IsAskable edition held text) → TextAllows edition held text rows → All (RowFits (types_of asked.columns)) rows }
+        → (asked : IsAskable edition held text) → TextAllows edition held text rows
+        → All (RowFits (types_of asked.columns)) rows }
 {}
 
-/// The text of a tree that can be spelled spells it, where it is UTF-8; and each text spells such a tree.
+/// The text of a tree that can be spelled spells it, where it is UTF-8; and each text spells such a
+/// tree.
 pub fn printing_laws()
     ensures read_back { (tree : SqlTree) → IsSpellable tree → IsUtf8 (printed tree)
-        → (placed : PlacedSql) × Spells First (length (printed tree)) (printed tree) placed × (bare placed ≡ tree) }
+        → (placed : PlacedSql) × Spells First (length (printed tree)) (printed tree) placed
+        × (bare placed ≡ tree) }
     ensures spellable { (edition : Edition) (d : ℕ) (text : List ℕ) (tree : PlacedSql)
         → Spells edition d text tree → IsSpellable (bare tree) }
 {}
 
-/// The tables that are loaded of a schema, one to each shape and in its order, have its shapes, and queries
-/// see them as its tables.
+/// The tables that are loaded of a schema, one to each shape and in its order, have its shapes, and
+/// queries see them as its tables.
 pub fn loaded_laws()
-    ensures shapes { (shapes : List TableShape) (tables : List (List (List Cell))) → length tables ≡ length shapes
+    ensures shapes { (shapes : List TableShape) (tables : List (List (List Cell)))
+        → length tables ≡ length shapes
         → shapes_of (held_of shapes tables) ≡ shapes_of_schema shapes }
-    ensures filled { (shapes : List TableShape) (tables : List (List (List Cell))) → map filled_of (held_of shapes tables) ≡ database shapes tables }
+    ensures filled { (shapes : List TableShape) (tables : List (List (List Cell)))
+        → map filled_of (held_of shapes tables) ≡ database shapes tables }
 {}

@@ -1,5 +1,5 @@
-//! SQL texts and their answers: the trees of texts, what a text may say and what SQL allows to it, the trait of
-//! a server, and which answers fit their columns.
+//! SQL texts and their answers: the trees of texts, what a text may say and what SQL allows to it,
+//! the trait of a server, and which answers fit their columns.
 #![tactic(auto)]
 
 mod answer;

@@ -67,8 +67,8 @@ pub struct Expr {
 }
 
 /// What an expression is. An `Int` is from 0 to 2^63 - 1. A `Choose` is a CASE of one test, and
-/// `NotExists` asks whether no SELECT of the query has a row. `Count` and `Sum` are scalar queries: how many
-/// combinations are kept, and the sum of a value over them, at 64 bits.
+/// `NotExists` asks whether no SELECT of the query has a row. `Count` and `Sum` are scalar queries:
+/// how many combinations are kept, and the sum of a value over them, at 64 bits.
 #[cycle(sql)]
 #[derive(Drop)]
 pub enum ExprNode {

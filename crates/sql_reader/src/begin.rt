@@ -20,7 +20,8 @@ use std::alloc::Global;
 /// A token where an expression begins.
 #[tactic(auto, using(crate::proofs::Putting::same_text))]
 pub fn start(alloc: Global, stack: &mut Stack, token: Token<'_>) -> Result<Option<Position>, Memory>
-    ensures { (b : Withs) → Turns result b (forms stack.new.levels) (start b (forms stack.old.levels) (token_view token.entry)) }
+    ensures { (b : Withs) → Turns result b (forms stack.new.levels)
+        (start b (forms stack.old.levels) (token_view token.entry)) }
 {
     let place = token.place;
     match token.symbol {
@@ -45,7 +46,8 @@ fn start_mark(
     place: u64,
     mark: Mark,
 ) -> Result<Option<Position>, Memory>
-    ensures { (b : Withs) → Turns result b (forms stack.new.levels) (start b (forms stack.old.levels) (mark_token mark place)) }
+    ensures { (b : Withs) → Turns result b (forms stack.new.levels)
+        (start b (forms stack.old.levels) (mark_token mark place)) }
 {
     match mark {
         Mark::Truth(truth) => leaf(alloc, place, ExprNode::Bool(truth)),
@@ -62,7 +64,8 @@ fn start_mark(
 
 // NOT, where it may begin an expression.
 fn start_not(stack: &mut Stack, place: u64) -> Result<Option<Position>, Memory>
-    ensures { (b : Withs) → Turns result b (forms stack.new.levels) (start b (forms stack.old.levels) (Key place Not)) }
+    ensures { (b : Withs) → Turns result b (forms stack.new.levels)
+        (start b (forms stack.old.levels) (Key place Not)) }
 {
     if asks(stack) <= 3 {
         wants(stack, Form::Not { place })
@@ -73,7 +76,8 @@ fn start_not(stack: &mut Stack, place: u64) -> Result<Option<Position>, Memory>
 
 // EXISTS behind NOT.
 fn start_exists(stack: &mut Stack) -> Option<Position>
-    ensures { (b : Withs) → Leads result b (forms stack.new.levels) (start_exists (forms stack.old.levels) b) }
+    ensures { (b : Withs) → Leads result b (forms stack.new.levels)
+        (start_exists (forms stack.old.levels) b) }
 {
     match stack.pop()? {
         Form::Not { place } => Some(Position::AtExists { place }),
@@ -83,7 +87,8 @@ fn start_exists(stack: &mut Stack) -> Option<Position>
 
 // SELECT behind a `(`.
 fn start_scalar(stack: &mut Stack) -> Option<Position>
-    ensures { (b : Withs) → Leads result b (forms stack.new.levels) (start_scalar (forms stack.old.levels) b) }
+    ensures { (b : Withs) → Leads result b (forms stack.new.levels)
+        (start_scalar (forms stack.old.levels) b) }
 {
     match stack.pop()? {
         Form::Paren { place } => Some(Position::AtHead {
@@ -96,7 +101,8 @@ fn start_scalar(stack: &mut Stack) -> Option<Position>
 
 // ROW_NUMBER behind SELECT, or behind a comma of items.
 fn start_row(stack: &Stack) -> Option<Position>
-    ensures { (b : Withs) → Leads result b (forms stack.now.levels) (start_row (forms stack.now.levels) b) }
+    ensures { (b : Withs) → Leads result b (forms stack.now.levels)
+        (start_row (forms stack.now.levels) b) }
 {
     match stack.top() {
         Some(Form::Item { .. }) => Some(Position::AtRow),

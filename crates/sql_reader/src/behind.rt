@@ -21,7 +21,8 @@ use nq_model::{Binary, List, Memory};
 use sql_profile::Source;
 use std::alloc::Global;
 
-/// A token behind an expression: forms that are open to the right end before it, and another goes on.
+/// A token behind an expression: forms that are open to the right end before it, and another goes
+/// on.
 pub fn after(
     alloc: Global,
     base: &mut Base,
@@ -29,7 +30,9 @@ pub fn after(
     part: Part,
     token: Token<'_>,
 ) -> Result<Option<Position>, Memory>
-    ensures { Turns result (base_view base.new) (forms stack.new.levels) (after (base_view base.old) (forms stack.old.levels) (part_view part) (token_view token.entry)) }
+    ensures { Turns result (base_view base.new) (forms stack.new.levels)
+        (after (base_view base.old) (forms stack.old.levels) (part_view part)
+        (token_view token.entry)) }
 {
     let part = settle(alloc, stack, part, token)?;
     shift(alloc, base, stack, part, token)
@@ -43,7 +46,9 @@ fn shift(
     part: Part,
     token: Token<'_>,
 ) -> Result<Option<Position>, Memory>
-    ensures { Turns result (base_view base.new) (forms stack.new.levels) (shift (base_view base.old) (forms stack.old.levels) (part_view part) (token_view token.entry)) }
+    ensures { Turns result (base_view base.new) (forms stack.new.levels)
+        (shift (base_view base.old) (forms stack.old.levels) (part_view part)
+        (token_view token.entry)) }
 {
     match token.symbol {
         Symbol::Mark(Mark::Operator(op)) => shift_operator(stack, part, token.place, op),
@@ -58,7 +63,8 @@ fn shift_operator(
     place: u64,
     op: Binary,
 ) -> Result<Option<Position>, Memory>
-    ensures { (b : Withs) → Turns result b (forms stack.new.levels) (shift b (forms stack.old.levels) (part_view left) (Oper place op)) }
+    ensures { (b : Withs) → Turns result b (forms stack.new.levels)
+        (shift b (forms stack.old.levels) (part_view left) (Oper place op)) }
 {
     if left_level(op) <= left.level {
         wants(stack, Form::Right { left, place, op })
@@ -75,7 +81,9 @@ fn behind_top(
     part: Part,
     token: Token<'_>,
 ) -> Result<Option<Position>, Memory>
-    ensures { Turns result (base_view base.new) (forms stack.new.levels) (behind_top (base_view base.old) (forms stack.old.levels) (part_view part) (token_view token.entry)) }
+    ensures { Turns result (base_view base.new) (forms stack.new.levels)
+        (behind_top (base_view base.old) (forms stack.old.levels) (part_view part)
+        (token_view token.entry)) }
 {
     match stack.pop() {
         Some(form) => behind(alloc, base, stack, form, part, token),
@@ -91,7 +99,9 @@ fn behind(
     part: Part,
     token: Token<'_>,
 ) -> Result<Option<Position>, Memory>
-    ensures { Turns result (base_view base.new) (forms stack.new.levels) (behind (form_view form) (base_view base.old) (forms stack.old.levels) (part_view part) (token_view token.entry)) }
+    ensures { Turns result (base_view base.new) (forms stack.new.levels)
+        (behind (form_view form) (base_view base.old) (forms stack.old.levels) (part_view part)
+        (token_view token.entry)) }
 {
     match form {
         Form::Paren { .. } => behind_paren(part, token),
@@ -110,7 +120,8 @@ fn behind(
 
 // The `)` of parentheses.
 fn behind_paren(part: Part, token: Token<'_>) -> Result<Option<Position>, Memory>
-    ensures { (b : Withs) (k : Forms) (p : ℕ) → Turns result b k (behind (Paren p) b k (part_view part) (token_view token.entry)) }
+    ensures { (b : Withs) (k : Forms) (p : ℕ)
+        → Turns result b k (behind (Paren p) b k (part_view part) (token_view token.entry)) }
 {
     match token.symbol {
         Symbol::Mark(Mark::Closing) => {
@@ -128,7 +139,8 @@ fn behind_when(
     test: Part,
     token: Token<'_>,
 ) -> Result<Option<Position>, Memory>
-    ensures { (b : Withs) → Turns result b (forms stack.new.levels) (behind (When place) b (forms stack.old.levels) (part_view test) (token_view token.entry)) }
+    ensures { (b : Withs) → Turns result b (forms stack.new.levels)
+        (behind (When place) b (forms stack.old.levels) (part_view test) (token_view token.entry)) }
 {
     match token.symbol {
         Symbol::Mark(Mark::Then) => wants(stack, Form::Then { place, test }),
@@ -144,7 +156,9 @@ fn behind_then(
     yes: Part,
     token: Token<'_>,
 ) -> Result<Option<Position>, Memory>
-    ensures { (b : Withs) → Turns result b (forms stack.new.levels) (behind (Then place (part_view test)) b (forms stack.old.levels) (part_view yes) (token_view token.entry)) }
+    ensures { (b : Withs) → Turns result b (forms stack.new.levels)
+        (behind (Then place (part_view test)) b (forms stack.old.levels) (part_view yes)
+        (token_view token.entry)) }
 {
     match token.symbol {
         Symbol::Mark(Mark::Else) => wants(stack, Form::Else { place, test, yes }),
@@ -161,7 +175,9 @@ fn behind_else(
     no: Part,
     token: Token<'_>,
 ) -> Result<Option<Position>, Memory>
-    ensures { (b : Withs) (k : Forms) → Turns result b k (behind (Else place (part_view test) (part_view yes)) b k (part_view no) (token_view token.entry)) }
+    ensures { (b : Withs) (k : Forms)
+        → Turns result b k (behind (Else place (part_view test) (part_view yes)) b k (part_view no)
+        (token_view token.entry)) }
 {
     match token.symbol {
         Symbol::Mark(Mark::Stop) => {
@@ -179,7 +195,9 @@ fn behind_item(
     part: Part,
     token: Token<'_>,
 ) -> Result<Option<Position>, Memory>
-    ensures { (b : Withs) → Turns result b (forms stack.new.levels) (behind (Item (begun_view begun)) b (forms stack.old.levels) (part_view part) (token_view token.entry)) }
+    ensures { (b : Withs) → Turns result b (forms stack.new.levels)
+        (behind (Item (begun_view begun)) b (forms stack.old.levels) (part_view part)
+        (token_view token.entry)) }
 {
     match token.symbol {
         Symbol::Mark(Mark::As) => {
@@ -199,7 +217,9 @@ fn behind_key(
     part: Part,
     token: Token<'_>,
 ) -> Result<Option<Position>, Memory>
-    ensures { (b : Withs) → Turns result b (forms stack.new.levels) (behind (OrderKey (keys_view keys) (begun_view begun)) b (forms stack.old.levels) (part_view part) (token_view token.entry)) }
+    ensures { (b : Withs) → Turns result b (forms stack.new.levels)
+        (behind (OrderKey (keys_view keys) (begun_view begun)) b (forms stack.old.levels)
+        (part_view part) (token_view token.entry)) }
 {
     let keys = add_key(keys, part)?;
     after_key(stack, keys, begun, token)
@@ -212,7 +232,9 @@ fn after_key(
     begun: Begun,
     token: Token<'_>,
 ) -> Result<Option<Position>, Memory>
-    ensures { (b : Withs) → Turns result b (forms stack.new.levels) (after_key b (forms stack.old.levels) (keys_view keys) (begun_view begun) (token_view token.entry)) }
+    ensures { (b : Withs) → Turns result b (forms stack.new.levels)
+        (after_key b (forms stack.old.levels) (keys_view keys) (begun_view begun)
+        (token_view token.entry)) }
 {
     match token.symbol {
         Symbol::Mark(Mark::Comma) => wants(stack, Form::OrderKey { keys, begun }),
@@ -235,7 +257,9 @@ fn behind_where(
     part: Part,
     token: Token<'_>,
 ) -> Result<Option<Position>, Memory>
-    ensures { Turns result (base_view base.new) (forms stack.new.levels) (behind (Where (ranged_view ranged) from) (base_view base.old) (forms stack.old.levels) (part_view part) (token_view token.entry)) }
+    ensures { Turns result (base_view base.new) (forms stack.new.levels)
+        (behind (Where (ranged_view ranged) from) (base_view base.old) (forms stack.old.levels)
+        (part_view part) (token_view token.entry)) }
 {
     let kept = part.extent;
     let keep = Some(Box::into_inner(part.expr));
@@ -244,7 +268,8 @@ fn behind_where(
 
 // The `)` behind a summed expression.
 fn behind_sum(place: u64, part: Part, token: Token<'_>) -> Option<Position>
-    ensures { (b : Withs) (k : Forms) → Leads result b k (behind (Sum place) b k (part_view part) (token_view token.entry)) }
+    ensures { (b : Withs) (k : Forms)
+        → Leads result b k (behind (Sum place) b k (part_view part) (token_view token.entry)) }
 {
     match token.symbol {
         Symbol::Mark(Mark::Closing) => Some(Position::AtTail {

@@ -30,7 +30,8 @@ pub fn at_def(alloc: Global, token: Token<'_>) -> Result<Option<Position>, Memor
 
 /// AS behind the name of a WITH query.
 pub fn at_def_name(name: Name, token: Token<'_>) -> Option<Position>
-    ensures { (b : Withs) (k : Forms) → Leads result b k (at_def_name (name_view name) b k (token_view token.entry)) }
+    ensures { (b : Withs) (k : Forms)
+        → Leads result b k (at_def_name (name_view name) b k (token_view token.entry)) }
 {
     match token.symbol {
         Symbol::Mark(Mark::As) => Some(Position::AtDefAs { name }),
@@ -40,7 +41,8 @@ pub fn at_def_name(name: Name, token: Token<'_>) -> Option<Position>
 
 /// The `(` of a WITH query.
 pub fn at_def_as(alloc: Global, base: &mut Base, name: Name, token: Token<'_>) -> Option<Position>
-    ensures { (k : Forms) → Leads result (base_view base.new) k (at_def_as (name_view name) (base_view base.old) k (token_view token.entry)) }
+    ensures { (k : Forms) → Leads result (base_view base.new) k
+        (at_def_as (name_view name) (base_view base.old) k (token_view token.entry)) }
 {
     match token.symbol {
         Symbol::Mark(Mark::Opening) => {
@@ -54,7 +56,8 @@ pub fn at_def_as(alloc: Global, base: &mut Base, name: Name, token: Token<'_>) -
 
 /// The `.` behind an alias.
 pub fn at_name(name: Name, token: Token<'_>) -> Option<Position>
-    ensures { (b : Withs) (k : Forms) → Leads result b k (at_name (name_view name) b k (token_view token.entry)) }
+    ensures { (b : Withs) (k : Forms)
+        → Leads result b k (at_name (name_view name) b k (token_view token.entry)) }
 {
     match token.symbol {
         Symbol::Mark(Mark::Dot) => Some(Position::AtDot { name }),
@@ -64,7 +67,8 @@ pub fn at_name(name: Name, token: Token<'_>) -> Option<Position>
 
 /// The name of a column.
 pub fn at_dot(alloc: Global, name: Name, token: Token<'_>) -> Result<Option<Position>, Memory>
-    ensures { (b : Withs) (k : Forms) → Turns result b k (at_dot (name_view name) b k (token_view token.entry)) }
+    ensures { (b : Withs) (k : Forms)
+        → Turns result b k (at_dot (name_view name) b k (token_view token.entry)) }
 {
     match token.symbol {
         Symbol::Name(column) => {
@@ -81,7 +85,8 @@ pub fn at_dot(alloc: Global, name: Name, token: Token<'_>) -> Result<Option<Posi
 
 /// WHEN behind CASE.
 pub fn at_case(stack: &mut Stack, place: u64, token: Token<'_>) -> Result<Option<Position>, Memory>
-    ensures { (b : Withs) → Turns result b (forms stack.new.levels) (at_case place b (forms stack.old.levels) (token_view token.entry)) }
+    ensures { (b : Withs) → Turns result b (forms stack.new.levels)
+        (at_case place b (forms stack.old.levels) (token_view token.entry)) }
 {
     match token.symbol {
         Symbol::Mark(Mark::When) => wants(stack, Form::When { place }),
@@ -96,7 +101,8 @@ pub fn at_exists(
     place: u64,
     token: Token<'_>,
 ) -> Result<Option<Position>, Memory>
-    ensures { (b : Withs) → Turns result b (forms stack.new.levels) (at_exists place b (forms stack.old.levels) (token_view token.entry)) }
+    ensures { (b : Withs) → Turns result b (forms stack.new.levels)
+        (at_exists place b (forms stack.old.levels) (token_view token.entry)) }
 {
     match token.symbol {
         Symbol::Mark(Mark::Opening) => {
@@ -110,7 +116,8 @@ pub fn at_exists(
 
 /// The end of the text behind a `;`.
 pub fn at_semi(query: Selects, token: Token<'_>) -> Option<Position>
-    ensures { (b : Withs) (k : Forms) → Leads result b k (at_semi (selects_view query) b k (token_view token.entry)) }
+    ensures { (b : Withs) (k : Forms)
+        → Leads result b k (at_semi (selects_view query) b k (token_view token.entry)) }
 {
     match token.symbol {
         Symbol::End => Some(Position::Ready { query }),

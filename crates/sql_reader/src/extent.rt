@@ -3,10 +3,12 @@ ghost use Rattle.std.specs.Prelude.{◌≡◌, suc, max, IfOk};
 
 use nq_model::Memory;
 
-// A tree of more levels is not built: whoever goes through it by recursion has a stack of some 8 MiB.
+// A tree of more levels is not built: whoever goes through it by recursion has a stack of some 8
+// MiB.
 const MOST_LEVELS: u64 = 2000;
 
-/// How deep a part is in the text, and how many levels of expressions its tree has, where parentheses are none.
+/// How deep a part is in the text, and how many levels of expressions its tree has, where
+/// parentheses are none.
 #[derive(Clone, Copy)]
 pub struct Extent {
     pub depth: u64,

@@ -5,7 +5,8 @@ ghost use Rattle.sql_reader.specs.declared.fault.SqlFault.TheVariants.{Memory as
 use nq_model::Memory;
 use thiserror::Error;
 
-/// Why an SQL text spells no tree at a depth. A place is the number of bytes before what is at fault.
+/// Why an SQL text spells no tree at a depth. A place is the number of bytes before what is at
+/// fault.
 #[derive(Clone, Copy, Debug, PartialEq, Eq, Error)]
 pub enum SqlFault {
     #[error("too little memory")]

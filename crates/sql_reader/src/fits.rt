@@ -15,7 +15,9 @@ use nq_model::Memory;
 
 /// Whether a text of at most this depth begins with what was read.
 pub fn fits(base: &Base, stack: &Stack, at: &Position, limit: u64) -> Result<bool, Memory>
-    ensures { IfOk result (λ fit. fit ≡ fits limit (On (base_view base.now) (forms stack.now.levels) (position_view at.now))) }
+    ensures { IfOk result (λ fit.
+        fit ≡ fits limit (On (base_view base.now) (forms stack.now.levels)
+        (position_view at.now))) }
 {
     let hole = hole(at, stack)?;
     let deep = match hole.checked_add(stack.height()) {
@@ -81,8 +83,8 @@ fn head_hole(head: Head) -> u64
     }
 }
 
-// An expression has to begin: behind SELECT or a comma of items a numbering is less, and behind a `(` a count
-// that the `(` begins.
+// An expression has to begin: behind SELECT or a comma of items a numbering is less, and behind a
+// `(` a count that the `(` begins.
 fn want_hole(stack: &Stack) -> u64
     ensures { result ≡ want_hole (forms stack.now.levels) }
 {

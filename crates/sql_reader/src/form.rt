@@ -4,8 +4,9 @@ use crate::part::Part;
 use nq_model::{Binary, List};
 use sql_profile::Source;
 
-/// An unfinished form. `Item`, `OrderKey` and `Where` stand round an expression of a SELECT, `Where` or `Sum`
-/// round one of a scalar query, `NotExists` round a query, the others round an expression of an expression.
+/// An unfinished form. `Item`, `OrderKey` and `Where` stand round an expression of a SELECT,
+/// `Where` or `Sum` round one of a scalar query, `NotExists` round a query, the others round an
+/// expression of an expression.
 #[derive(Drop)]
 pub enum Form {
     Paren { place: u64 },

@@ -68,7 +68,9 @@ fn name_front<'a>(text: &'a str, place: usize, rest: &[u8]) -> Front<'a>
     requires fits { length text.now < 2 ^ 64 }
     requires quote { get_or text.now place 0 ≡ 34 }
     requires rest { rest.now ≡ drop (place + 1) text.now }
-    ensures { front_view result ≡ name_front (prefix_len is_name_byte rest.now) rest.now (drop (prefix_len is_name_byte rest.now) rest.now) }
+    ensures { front_view result
+        ≡ name_front (prefix_len is_name_byte rest.now) rest.now
+        (drop (prefix_len is_name_byte rest.now) rest.now) }
 {
     let size = name_len(rest);
     if size < rest.len() && 1 <= size && size <= 128 {
@@ -93,7 +95,8 @@ fn literal_front<'a>(text: &'a str, place: usize, rest: &[u8]) -> Front<'a>
     }
 }
 
-// What stands at a place of a text, where this is the byte there and these are the bytes from there on.
+// What stands at a place of a text, where this is the byte there and these are the bytes from there
+// on.
 fn front_of<'a>(
     text: &'a str,
     place: usize,
@@ -130,7 +133,8 @@ fn front_of<'a>(
 pub fn front_at(text: &str, place: usize) -> Front<'_>
     requires within { place < length text.now }
     requires fits { length text.now < 2 ^ 64 }
-    ensures { (b : ℕ) (rest : List ℕ) → drop place text.now ≡ b ∷ rest → front_view result ≡ front First place b rest }
+    ensures { (b : ℕ) (rest : List ℕ) → drop place text.now ≡ b ∷ rest
+        → front_view result ≡ front First place b rest }
 {
     let (_, bytes) = text.as_bytes().split_at(place);
     match bytes.split_first() {

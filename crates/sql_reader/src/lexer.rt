@@ -8,8 +8,8 @@ use crate::token::{Symbol, Token};
 use nq_model::List;
 use std::alloc::Global;
 
-/// The tokens of a text, the end of the text being the last. `Token` and `IntRange` at the first place where
-/// none is cut off; `Memory` where there is too little memory.
+/// The tokens of a text, the end of the text being the last. `Token` and `IntRange` at the first
+/// place where none is cut off; `Memory` where there is too little memory.
 pub fn tokens(alloc: Global, text: &str) -> Result<List<Token<'_>>, SqlFault>
     ensures { Cuts result (tokens_of First text.now) }
 {

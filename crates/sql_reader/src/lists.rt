@@ -30,7 +30,8 @@ pub struct Keys {
     pub extent: Extent,
 }
 
-/// A SELECT that was begun: those before it in its query, its place, its items so far and how deep they are.
+/// A SELECT that was begun: those before it in its query, its place, its items so far and how deep
+/// they are.
 #[derive(Drop)]
 pub struct Begun {
     pub before: Selects,
@@ -39,7 +40,8 @@ pub struct Begun {
     pub extent: Extent,
 }
 
-/// A scalar query that was begun: its place, the value that it sums, if it counts nothing, and how deep that is.
+/// A scalar query that was begun: its place, the value that it sums, if it counts nothing, and how
+/// deep that is.
 #[derive(Drop)]
 pub struct Scalar {
     pub place: u64,
@@ -61,7 +63,8 @@ pub struct Value {
     pub extent: Extent,
 }
 
-/// The WITH queries so far, how deep they are, and the name of the one that is being read, if one is.
+/// The WITH queries so far, how deep they are, and the name of the one that is being read, if one
+/// is.
 #[derive(Drop)]
 pub struct Base {
     pub withs: List<With>,
@@ -103,7 +106,8 @@ pub fn begin_select(alloc: Global, before: Selects, place: u64) -> Begun
 
 /// The SELECT with one more item.
 pub fn add_item(begun: Begun, value: Value, name: Name) -> Result<Begun, Memory>
-    ensures { IfOk result (λ more. begun_view more ≡ add_item (begun_view begun) (value_view value) (name_view name)) }
+    ensures { IfOk result (λ more.
+        begun_view more ≡ add_item (begun_view begun) (value_view value) (name_view name)) }
 {
     let mut begun = begun;
     begun.items.push(Item {
@@ -139,7 +143,8 @@ pub fn add_key(keys: Keys, part: Part) -> Result<Keys, Memory>
     Ok(keys)
 }
 
-/// The SELECTs with the one that was begun, of these sources, and of what it keeps, which is so deep.
+/// The SELECTs with the one that was begun, of these sources, and of what it keeps, which is so
+/// deep.
 #[tactic(auto, using(crate::proofs::Putting::selects_put))]
 pub fn add_select(
     begun: Begun,
@@ -147,7 +152,8 @@ pub fn add_select(
     keep: Option<Expr>,
     kept: Extent,
 ) -> Result<Selects, Memory>
-    ensures { IfOk result (λ more. selects_view more ≡ add_select (begun_view begun) from (kept_tree keep) kept.depth) }
+    ensures { IfOk result (λ more.
+        selects_view more ≡ add_select (begun_view begun) from (kept_tree keep) kept.depth) }
 {
     let Begun {
         before,

@@ -18,7 +18,8 @@ use std::alloc::Global;
 
 /// An expression has to begin, inside one form more.
 pub fn wants(stack: &mut Stack, form: Form) -> Result<Option<Position>, Memory>
-    ensures { (b : Withs) → Turns result b (forms stack.new.levels) (Some (On b (form_view form ∷ forms stack.old.levels) Want)) }
+    ensures { (b : Withs) → Turns result b (forms stack.new.levels)
+        (Some (On b (form_view form ∷ forms stack.old.levels) Want)) }
 {
     stack.push(form)?;
     Ok(Some(Position::Want))
@@ -26,7 +27,8 @@ pub fn wants(stack: &mut Stack, form: Form) -> Result<Option<Position>, Memory>
 
 /// An expression that has no parts was read.
 pub fn leaf(alloc: Global, place: u64, node: ExprNode) -> Result<Option<Position>, Memory>
-    ensures { (b : Withs) (k : Forms) → Turns result b k (Some (On b k (Have (leaf (placed_node node place))))) }
+    ensures { (b : Withs) (k : Forms)
+        → Turns result b k (Some (On b k (Have (leaf (placed_node node place))))) }
 {
     let part = part::leaf(alloc, place, node)?;
     Ok(Some(Position::Have { part }))

@@ -26,7 +26,8 @@ pub fn at_row(token: Token<'_>) -> Option<Position>
 
 /// The `)` behind it.
 pub fn at_row_open(token: Token<'_>) -> Option<Position>
-    ensures { (b : Withs) (k : Forms) → Leads result b k (at_row_open b k (token_view token.entry)) }
+    ensures { (b : Withs) (k : Forms)
+        → Leads result b k (at_row_open b k (token_view token.entry)) }
 {
     match token.symbol {
         Symbol::Mark(Mark::Closing) => Some(Position::AtRowClose),
@@ -36,7 +37,8 @@ pub fn at_row_open(token: Token<'_>) -> Option<Position>
 
 /// OVER.
 pub fn at_row_close(token: Token<'_>) -> Option<Position>
-    ensures { (b : Withs) (k : Forms) → Leads result b k (at_row_close b k (token_view token.entry)) }
+    ensures { (b : Withs) (k : Forms)
+        → Leads result b k (at_row_close b k (token_view token.entry)) }
 {
     match token.symbol {
         Symbol::Mark(Mark::Over) => Some(Position::AtOver),
@@ -74,7 +76,8 @@ pub fn at_order(
     stack: &mut Stack,
     token: Token<'_>,
 ) -> Result<Option<Position>, Memory>
-    ensures { (b : Withs) → Turns result b (forms stack.new.levels) (at_order b (forms stack.old.levels) (token_view token.entry)) }
+    ensures { (b : Withs) → Turns result b (forms stack.new.levels)
+        (at_order b (forms stack.old.levels) (token_view token.entry)) }
 {
     match token.symbol {
         Symbol::Mark(Mark::By) => first_key(alloc, stack),
@@ -84,7 +87,8 @@ pub fn at_order(
 
 // The first key of the item that the innermost form waits for.
 fn first_key(alloc: Global, stack: &mut Stack) -> Result<Option<Position>, Memory>
-    ensures { (b : Withs) → Turns result b (forms stack.new.levels) (first_key (forms stack.old.levels) b) }
+    ensures { (b : Withs) → Turns result b (forms stack.new.levels)
+        (first_key (forms stack.old.levels) b) }
 {
     let Some(form) = stack.pop() else {
         return Ok(None);
@@ -100,7 +104,8 @@ fn first_key(alloc: Global, stack: &mut Stack) -> Result<Option<Position>, Memor
 
 /// AS behind a numbering.
 pub fn at_value(value: Value, token: Token<'_>) -> Option<Position>
-    ensures { (b : Withs) (k : Forms) → Leads result b k (at_value (value_view value) b k (token_view token.entry)) }
+    ensures { (b : Withs) (k : Forms)
+        → Leads result b k (at_value (value_view value) b k (token_view token.entry)) }
 {
     match token.symbol {
         Symbol::Mark(Mark::As) => Some(Position::AtAs { value }),

@@ -27,7 +27,8 @@ fn made(
     level: u64,
     extent: Extent,
 ) -> Result<Part, Memory>
-    ensures { IfOk result (λ made. part_view made ≡ record { tree = placed_node node place; level = level; depth = extent.depth }) }
+    ensures { IfOk result (λ made.
+        part_view made ≡ record { tree = placed_node node place; level = level; depth = extent.depth }) }
 {
     let expr = boxed(alloc, Expr { place, node })?;
     Ok(Part {
@@ -103,7 +104,8 @@ pub fn scalar(
     keep: Option<Expr>,
     kept: Extent,
 ) -> Result<Part, Memory>
-    ensures { IfOk result (λ whole. part_view whole ≡ scalar (scalar_view begun) from (kept_tree keep) kept.depth) }
+    ensures { IfOk result (λ whole.
+        part_view whole ≡ scalar (scalar_view begun) from (kept_tree keep) kept.depth) }
 {
     let Scalar {
         place,
@@ -117,7 +119,9 @@ pub fn scalar(
 
 // The sum of a value, or else a count.
 fn total(value: Option<Box<Expr>>, over: Box<Picked>) -> ExprNode
-    ensures { (p : ℕ) → placed_node result p ≡ scalar_tree p (option_map boxed_tree value) (placed_picked over.value).from (placed_picked over.value).keep }
+    ensures { (p : ℕ) → placed_node result p
+        ≡ scalar_tree p (option_map boxed_tree value) (placed_picked over.value).from
+        (placed_picked over.value).keep }
 {
     match value {
         Some(value) => ExprNode::Sum { over, value },
@@ -127,7 +131,8 @@ fn total(value: Option<Box<Expr>>, over: Box<Picked>) -> ExprNode
 
 /// CASE of a test and its two arms.
 pub fn choice(alloc: Global, place: u64, test: Part, yes: Part, no: Part) -> Result<Part, Memory>
-    ensures { IfOk result (λ whole. part_view whole ≡ choice place (part_view test) (part_view yes) (part_view no)) }
+    ensures { IfOk result (λ whole.
+        part_view whole ≡ choice place (part_view test) (part_view yes) (part_view no)) }
 {
     let extent = deeper(greater(test.extent, greater(yes.extent, no.extent)))?;
     let node = ExprNode::Choose {
@@ -146,7 +151,8 @@ pub fn binary(
     op: Binary,
     right: Part,
 ) -> Result<Part, Memory>
-    ensures { IfOk result (λ whole. part_view whole ≡ binary (part_view left) place op (part_view right)) }
+    ensures { IfOk result (λ whole.
+        part_view whole ≡ binary (part_view left) place op (part_view right)) }
 {
     let extent = deeper(greater(left.extent, right.extent))?;
     let node = ExprNode::Binary {

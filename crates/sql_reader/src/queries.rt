@@ -26,7 +26,9 @@ pub fn after_query(
     query: Selects,
     token: Token<'_>,
 ) -> Result<Option<Position>, Memory>
-    ensures { Turns result (base_view base.new) (forms stack.new.levels) (after_query (base_view base.old) (forms stack.old.levels) (selects_view query) (token_view token.entry)) }
+    ensures { Turns result (base_view base.new) (forms stack.new.levels)
+        (after_query (base_view base.old) (forms stack.old.levels) (selects_view query)
+        (token_view token.entry)) }
 {
     match token.symbol {
         Symbol::Mark(Mark::Union) => Ok(Some(Position::AtUnion { before: query })),
@@ -56,7 +58,8 @@ fn close_query(
     stack: &mut Stack,
     query: Selects,
 ) -> Result<Option<Position>, Memory>
-    ensures { Turns result (base_view base.new) (forms stack.new.levels) (close_query (forms stack.old.levels) (base_view base.old) (selects_view query)) }
+    ensures { Turns result (base_view base.new) (forms stack.new.levels)
+        (close_query (forms stack.old.levels) (base_view base.old) (selects_view query)) }
 {
     let Some(form) = stack.pop() else {
         return end_def(base, query);
@@ -73,7 +76,8 @@ fn close_query(
 // The WITH query that is being read is whole, if one is.
 #[tactic(auto, using(crate::proofs::Putting::withs_put))]
 fn end_def(base: &mut Base, query: Selects) -> Result<Option<Position>, Memory>
-    ensures { Turns result (base_view base.new) [] (end_def (base_view base.old).name (base_view base.old) (selects_view query)) }
+    ensures { Turns result (base_view base.new) []
+        (end_def (base_view base.old).name (base_view base.old) (selects_view query)) }
 {
     let Some(name) = base.name.take() else {
         return Ok(None);
@@ -92,7 +96,9 @@ fn end_def(base: &mut Base, query: Selects) -> Result<Option<Position>, Memory>
 
 // Whether nothing stands round the query, so that it is the main query.
 fn is_main(base: &Base, stack: &Stack) -> bool
-    ensures { (at : ReaderPosition) → end_main (forms stack.now.levels) (base_view base.now) at ≡ cond result (Some (On (base_view base.now) (forms stack.now.levels) at)) None }
+    ensures { (at : ReaderPosition)
+        → end_main (forms stack.now.levels) (base_view base.now) at
+        ≡ cond result (Some (On (base_view base.now) (forms stack.now.levels) at)) None }
 {
     match (stack.top(), &base.name) {
         (None, None) => true,
@@ -111,7 +117,9 @@ pub fn after_ranged(
     kept: Extent,
     token: Token<'_>,
 ) -> Result<Option<Position>, Memory>
-    ensures { Turns result (base_view base.new) (forms stack.new.levels) (after_ranged (ranged_view ranged) from (kept_tree keep) kept.depth (base_view base.old) (forms stack.old.levels) (token_view token.entry)) }
+    ensures { Turns result (base_view base.new) (forms stack.new.levels)
+        (after_ranged (ranged_view ranged) from (kept_tree keep) kept.depth (base_view base.old)
+        (forms stack.old.levels) (token_view token.entry)) }
 {
     match ranged {
         Ranged::Select(begun) => {
@@ -131,7 +139,9 @@ fn after_scalar(
     kept: Extent,
     token: Token<'_>,
 ) -> Result<Option<Position>, Memory>
-    ensures { (b : Withs) (k : Forms) → Turns result b k (after_scalar b k (scalar (scalar_view begun) from (kept_tree keep) kept.depth) (token_view token.entry)) }
+    ensures { (b : Withs) (k : Forms)
+        → Turns result b k (after_scalar b k
+        (scalar (scalar_view begun) from (kept_tree keep) kept.depth) (token_view token.entry)) }
 {
     match token.symbol {
         Symbol::Mark(Mark::Closing) => {

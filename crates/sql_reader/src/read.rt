@@ -20,12 +20,12 @@ use nq_model::List;
 use sql_profile::{Query, SqlText};
 use std::alloc::Global;
 
-/// The tree that the tokens of a text spell at a depth. `Unexpected` and `Deep` come at the first token with
-/// which the tokens begin no text of that depth; `Memory` where there is too little memory, or the tree would
-/// have too many levels.
+/// The tree that the tokens of a text spell at a depth. `Unexpected` and `Deep` come at the first
+/// token with which the tokens begin no text of that depth; `Memory` where there is too little
+/// memory, or the tree would have too many levels.
 ///
-/// After Knuth, "On the translation of languages from left to right", Information and Control 1965: each
-/// token shifts, or first reduces the unfinished forms that end before it.
+/// After Knuth, "On the translation of languages from left to right", Information and Control 1965:
+/// each token shifts, or first reduces the unfinished forms that end before it.
 pub fn read(alloc: Global, tokens: &[Token<'_>], depth: u64) -> Result<SqlText, SqlFault>
     requires { Ends (map token_view tokens.now) }
     ensures { Reads result depth (map token_view tokens.now) }
@@ -72,7 +72,10 @@ fn advance(
     token: Token<'_>,
     depth: u64,
 ) -> Result<Position, SqlFault>
-    ensures { Advances (result_map_both (λ next. record { base = base.new; stack = stack.new; at = next }) (λ e. e) result) depth (On (base_view base.old) (forms stack.old.levels) (position_view at)) (token_view token.entry) }
+    ensures { Advances (result_map_both
+        (λ next. record { base = base.new; stack = stack.new; at = next })
+        (λ e. e) result) depth (On (base_view base.old) (forms stack.old.levels) (position_view at))
+        (token_view token.entry) }
 {
     let place = token.place;
     match step(alloc, base, stack, at, token)? {

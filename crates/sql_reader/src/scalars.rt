@@ -23,7 +23,8 @@ pub fn at_head(
     place: u64,
     token: Token<'_>,
 ) -> Result<Option<Position>, Memory>
-    ensures { (b : Withs) → Turns result b (forms stack.new.levels) (at_head (head_view head) place b (forms stack.old.levels) (token_view token.entry)) }
+    ensures { (b : Withs) → Turns result b (forms stack.new.levels)
+        (at_head (head_view head) place b (forms stack.old.levels) (token_view token.entry)) }
 {
     match head {
         Head::Select => Ok(at_select(place, token)),
@@ -38,7 +39,8 @@ pub fn at_head(
 
 // COUNT or COALESCE behind SELECT.
 fn at_select(place: u64, token: Token<'_>) -> Option<Position>
-    ensures { (b : Withs) (k : Forms) → Leads result b k (at_select place b k (token_view token.entry)) }
+    ensures { (b : Withs) (k : Forms)
+        → Leads result b k (at_select place b k (token_view token.entry)) }
 {
     match token.symbol {
         Symbol::Mark(Mark::Count) => Some(Position::AtHead {
@@ -55,7 +57,8 @@ fn at_select(place: u64, token: Token<'_>) -> Option<Position>
 
 // The `(` behind COUNT.
 fn at_count(place: u64, token: Token<'_>) -> Option<Position>
-    ensures { (b : Withs) (k : Forms) → Leads result b k (at_count place b k (token_view token.entry)) }
+    ensures { (b : Withs) (k : Forms)
+        → Leads result b k (at_count place b k (token_view token.entry)) }
 {
     match token.symbol {
         Symbol::Mark(Mark::Opening) => Some(Position::AtHead {
@@ -68,7 +71,8 @@ fn at_count(place: u64, token: Token<'_>) -> Option<Position>
 
 // The `*` that is counted.
 fn at_count_open(place: u64, token: Token<'_>) -> Option<Position>
-    ensures { (b : Withs) (k : Forms) → Leads result b k (at_count_open place b k (token_view token.entry)) }
+    ensures { (b : Withs) (k : Forms)
+        → Leads result b k (at_count_open place b k (token_view token.entry)) }
 {
     match token.symbol {
         Symbol::Mark(Mark::Operator(Binary::Mul)) => Some(Position::AtHead {
@@ -81,7 +85,8 @@ fn at_count_open(place: u64, token: Token<'_>) -> Option<Position>
 
 // The `)` behind it.
 fn at_count_star(alloc: Global, place: u64, token: Token<'_>) -> Option<Position>
-    ensures { (b : Withs) (k : Forms) → Leads result b k (at_count_star place b k (token_view token.entry)) }
+    ensures { (b : Withs) (k : Forms)
+        → Leads result b k (at_count_star place b k (token_view token.entry)) }
 {
     match token.symbol {
         Symbol::Mark(Mark::Closing) => Some(Position::HaveItems {
@@ -94,7 +99,8 @@ fn at_count_star(alloc: Global, place: u64, token: Token<'_>) -> Option<Position
 
 // The `(` behind COALESCE.
 fn at_coalesce(place: u64, token: Token<'_>) -> Option<Position>
-    ensures { (b : Withs) (k : Forms) → Leads result b k (at_coalesce place b k (token_view token.entry)) }
+    ensures { (b : Withs) (k : Forms)
+        → Leads result b k (at_coalesce place b k (token_view token.entry)) }
 {
     match token.symbol {
         Symbol::Mark(Mark::Opening) => Some(Position::AtHead {
@@ -107,7 +113,8 @@ fn at_coalesce(place: u64, token: Token<'_>) -> Option<Position>
 
 // SUM.
 fn at_coalesce_open(place: u64, token: Token<'_>) -> Option<Position>
-    ensures { (b : Withs) (k : Forms) → Leads result b k (at_coalesce_open place b k (token_view token.entry)) }
+    ensures { (b : Withs) (k : Forms)
+        → Leads result b k (at_coalesce_open place b k (token_view token.entry)) }
 {
     match token.symbol {
         Symbol::Mark(Mark::Sum) => Some(Position::AtHead {
@@ -120,7 +127,8 @@ fn at_coalesce_open(place: u64, token: Token<'_>) -> Option<Position>
 
 // The `(` behind SUM.
 fn at_sum(stack: &mut Stack, place: u64, token: Token<'_>) -> Result<Option<Position>, Memory>
-    ensures { (b : Withs) → Turns result b (forms stack.new.levels) (at_sum place b (forms stack.old.levels) (token_view token.entry)) }
+    ensures { (b : Withs) → Turns result b (forms stack.new.levels)
+        (at_sum place b (forms stack.old.levels) (token_view token.entry)) }
 {
     match token.symbol {
         Symbol::Mark(Mark::Opening) => wants(stack, Form::Sum { place }),
@@ -130,7 +138,9 @@ fn at_sum(stack: &mut Stack, place: u64, token: Token<'_>) -> Result<Option<Posi
 
 /// A token behind the expression that a scalar query sums.
 pub fn at_tail(alloc: Global, tail: Tail, scalar: Scalar, token: Token<'_>) -> Option<Position>
-    ensures { (b : Withs) (k : Forms) → Leads result b k (at_tail (tail_view tail) (scalar_view scalar) b k (token_view token.entry)) }
+    ensures { (b : Withs) (k : Forms)
+        → Leads result b k (at_tail (tail_view tail) (scalar_view scalar) b k
+        (token_view token.entry)) }
 {
     match tail {
         Tail::Close => at_sum_close(scalar, token),
@@ -141,7 +151,8 @@ pub fn at_tail(alloc: Global, tail: Tail, scalar: Scalar, token: Token<'_>) -> O
 
 // The comma of COALESCE.
 fn at_sum_close(scalar: Scalar, token: Token<'_>) -> Option<Position>
-    ensures { (b : Withs) (k : Forms) → Leads result b k (at_sum_close (scalar_view scalar) b k (token_view token.entry)) }
+    ensures { (b : Withs) (k : Forms)
+        → Leads result b k (at_sum_close (scalar_view scalar) b k (token_view token.entry)) }
 {
     match token.symbol {
         Symbol::Mark(Mark::Comma) => Some(Position::AtTail {
@@ -164,7 +175,8 @@ fn is_zero(token: Token<'_>) -> bool
 
 // The `0` of COALESCE.
 fn at_sum_comma(scalar: Scalar, token: Token<'_>) -> Option<Position>
-    ensures { (b : Withs) (k : Forms) → Leads result b k (at_sum_comma (scalar_view scalar) b k (token_view token.entry)) }
+    ensures { (b : Withs) (k : Forms)
+        → Leads result b k (at_sum_comma (scalar_view scalar) b k (token_view token.entry)) }
 {
     if is_zero(token) {
         Some(Position::AtTail {
@@ -178,7 +190,8 @@ fn at_sum_comma(scalar: Scalar, token: Token<'_>) -> Option<Position>
 
 // The `)` of COALESCE.
 fn at_sum_zero(alloc: Global, scalar: Scalar, token: Token<'_>) -> Option<Position>
-    ensures { (b : Withs) (k : Forms) → Leads result b k (at_sum_zero (scalar_view scalar) b k (token_view token.entry)) }
+    ensures { (b : Withs) (k : Forms)
+        → Leads result b k (at_sum_zero (scalar_view scalar) b k (token_view token.entry)) }
 {
     match token.symbol {
         Symbol::Mark(Mark::Closing) => Some(Position::HaveItems {

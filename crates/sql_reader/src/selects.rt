@@ -23,7 +23,8 @@ fn select(
     before: Selects,
     place: u64,
 ) -> Result<Option<Position>, Memory>
-    ensures { (b : Withs) → Turns result b (forms stack.new.levels) (Some (On b (Item (begun (selects_view before) place) ∷ forms stack.old.levels) Want)) }
+    ensures { (b : Withs) → Turns result b (forms stack.new.levels)
+        (Some (On b (Item (begun (selects_view before) place) ∷ forms stack.old.levels) Want)) }
 {
     let begun = begin_select(alloc, before, place);
     wants(stack, Form::Item { begun })
@@ -36,7 +37,8 @@ pub fn start_select(
     before: Selects,
     token: Token<'_>,
 ) -> Result<Option<Position>, Memory>
-    ensures { (b : Withs) → Turns result b (forms stack.new.levels) (start_select b (forms stack.old.levels) (selects_view before) (token_view token.entry)) }
+    ensures { (b : Withs) → Turns result b (forms stack.new.levels)
+        (start_select b (forms stack.old.levels) (selects_view before) (token_view token.entry)) }
 {
     match token.symbol {
         Symbol::Mark(Mark::Select) => select(alloc, stack, before, token.place),
@@ -50,7 +52,8 @@ pub fn at_start(
     stack: &mut Stack,
     token: Token<'_>,
 ) -> Result<Option<Position>, Memory>
-    ensures { (b : Withs) → Turns result b (forms stack.new.levels) (at_start b (forms stack.old.levels) (token_view token.entry)) }
+    ensures { (b : Withs) → Turns result b (forms stack.new.levels)
+        (at_start b (forms stack.old.levels) (token_view token.entry)) }
 {
     match token.symbol {
         Symbol::Mark(Mark::With) => Ok(Some(Position::AtDef)),
@@ -65,7 +68,8 @@ pub fn behind_with(
     stack: &mut Stack,
     token: Token<'_>,
 ) -> Result<Option<Position>, Memory>
-    ensures { (b : Withs) → Turns result b (forms stack.new.levels) (behind_with b (forms stack.old.levels) (token_view token.entry)) }
+    ensures { (b : Withs) → Turns result b (forms stack.new.levels)
+        (behind_with b (forms stack.old.levels) (token_view token.entry)) }
 {
     match token.symbol {
         Symbol::Mark(Mark::Comma) => Ok(Some(Position::AtDef)),
@@ -76,7 +80,8 @@ pub fn behind_with(
 
 /// ALL behind UNION.
 pub fn at_union(before: Selects, token: Token<'_>) -> Option<Position>
-    ensures { (b : Withs) (k : Forms) → Leads result b k (at_union (selects_view before) b k (token_view token.entry)) }
+    ensures { (b : Withs) (k : Forms)
+        → Leads result b k (at_union (selects_view before) b k (token_view token.entry)) }
 {
     match token.symbol {
         Symbol::Mark(Mark::All) => Some(Position::WantSelect { before }),
@@ -91,7 +96,8 @@ pub fn at_as(
     value: Value,
     token: Token<'_>,
 ) -> Result<Option<Position>, Memory>
-    ensures { (b : Withs) → Turns result b (forms stack.new.levels) (at_as (value_view value) b (forms stack.old.levels) (token_view token.entry)) }
+    ensures { (b : Withs) → Turns result b (forms stack.new.levels)
+        (at_as (value_view value) b (forms stack.old.levels) (token_view token.entry)) }
 {
     match token.symbol {
         Symbol::Name(name) => {
@@ -109,7 +115,8 @@ fn named_item(
     value: Value,
     name: Name,
 ) -> Result<Option<Position>, Memory>
-    ensures { (b : Withs) → Turns result b (forms stack.new.levels) (named_item (forms stack.old.levels) b (value_view value) (name_view name)) }
+    ensures { (b : Withs) → Turns result b (forms stack.new.levels)
+        (named_item (forms stack.old.levels) b (value_view value) (name_view name)) }
 {
     let Some(form) = stack.pop() else {
         return Ok(None);

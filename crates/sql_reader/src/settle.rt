@@ -67,7 +67,8 @@ fn top_ends(stack: &Stack, token: Token<'_>) -> bool
 
 // The innermost form, where it ends before the token.
 fn take_ending(stack: &mut Stack, token: Token<'_>) -> Option<Form>
-    ensures taken { Taken result (forms stack.old.levels) (forms stack.new.levels) (token_view token.entry) }
+    ensures taken { Taken result (forms stack.old.levels) (forms stack.new.levels)
+        (token_view token.entry) }
     ensures shorter { OnSome result (length stack.new.levels + 1 ≡ length stack.old.levels) }
 {
     if top_ends(stack, token) {
@@ -84,7 +85,9 @@ pub fn settle(
     first: Part,
     token: Token<'_>,
 ) -> Result<Part, Memory>
-    ensures { IfOk result (λ whole. (b : Base) → SameBehind b (forms stack.old.levels) (part_view first) (forms stack.new.levels) (part_view whole) (token_view token.entry)) }
+    ensures { IfOk result (λ whole. (b : Base)
+        → SameBehind b (forms stack.old.levels) (part_view first) (forms stack.new.levels)
+        (part_view whole) (token_view token.entry)) }
 {
     let mut part = first;
     while let Some(form) = take_ending(stack, token) {

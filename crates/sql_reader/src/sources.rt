@@ -27,7 +27,9 @@ pub fn have_items(
     from: List<Source>,
     token: Token<'_>,
 ) -> Result<Option<Position>, Memory>
-    ensures { Turns result (base_view base.new) (forms stack.new.levels) (have_items (ranged_view ranged) from (base_view base.old) (forms stack.old.levels) (token_view token.entry)) }
+    ensures { Turns result (base_view base.new) (forms stack.new.levels)
+        (have_items (ranged_view ranged) from (base_view base.old) (forms stack.old.levels)
+        (token_view token.entry)) }
 {
     match token.symbol {
         Symbol::Mark(Mark::Where) => wants(stack, Form::Where { ranged, from }),
@@ -43,7 +45,8 @@ fn comma_behind(
     ranged: Ranged,
     from: List<Source>,
 ) -> Result<Option<Position>, Memory>
-    ensures { (b : Withs) → Turns result b (forms stack.new.levels) (comma_behind from (ranged_view ranged) b (forms stack.old.levels)) }
+    ensures { (b : Withs) → Turns result b (forms stack.new.levels)
+        (comma_behind from (ranged_view ranged) b (forms stack.old.levels)) }
 {
     if from.is_empty() {
         another_item(stack, ranged)
@@ -54,7 +57,8 @@ fn comma_behind(
 
 // A comma behind items: another of them.
 fn another_item(stack: &mut Stack, ranged: Ranged) -> Result<Option<Position>, Memory>
-    ensures { (b : Withs) → Turns result b (forms stack.new.levels) (comma_behind [] (ranged_view ranged) b (forms stack.old.levels)) }
+    ensures { (b : Withs) → Turns result b (forms stack.new.levels)
+        (comma_behind [] (ranged_view ranged) b (forms stack.old.levels)) }
 {
     match ranged {
         Ranged::Select(begun) => wants(stack, Form::Item { begun }),
@@ -64,7 +68,8 @@ fn another_item(stack: &mut Stack, ranged: Ranged) -> Result<Option<Position>, M
 
 // FROM, behind items or the head of a scalar query.
 fn from_behind(ranged: Ranged, from: List<Source>) -> Option<Position>
-    ensures { (b : Withs) (k : Forms) → Leads result b k (from_behind from (ranged_view ranged) b k) }
+    ensures { (b : Withs) (k : Forms)
+        → Leads result b k (from_behind from (ranged_view ranged) b k) }
 {
     if from.is_empty() {
         Some(Position::AtSource { ranged, from })
@@ -80,7 +85,8 @@ pub fn at_source(
     from: List<Source>,
     token: Token<'_>,
 ) -> Result<Option<Position>, Memory>
-    ensures { (b : Withs) (k : Forms) → Turns result b k (at_source (ranged_view ranged) from b k (token_view token.entry)) }
+    ensures { (b : Withs) (k : Forms)
+        → Turns result b k (at_source (ranged_view ranged) from b k (token_view token.entry)) }
 {
     match token.symbol {
         Symbol::Name(name) => {
@@ -102,7 +108,9 @@ pub fn at_table(
     table: Name,
     token: Token<'_>,
 ) -> Option<Position>
-    ensures { (b : Withs) (k : Forms) → Leads result b k (at_source_name (ranged_view ranged) from (name_view table) b k (token_view token.entry)) }
+    ensures { (b : Withs) (k : Forms)
+        → Leads result b k (at_source_name (ranged_view ranged) from (name_view table) b k
+        (token_view token.entry)) }
 {
     match token.symbol {
         Symbol::Mark(Mark::As) => Some(Position::AtSourceAs {
@@ -122,7 +130,9 @@ pub fn at_alias(
     table: Name,
     token: Token<'_>,
 ) -> Result<Option<Position>, Memory>
-    ensures { (b : Withs) (k : Forms) → Turns result b k (at_source_as (ranged_view ranged) from (name_view table) b k (token_view token.entry)) }
+    ensures { (b : Withs) (k : Forms)
+        → Turns result b k (at_source_as (ranged_view ranged) from (name_view table) b k
+        (token_view token.entry)) }
 {
     match token.symbol {
         Symbol::Name(alias) => {

@@ -8,10 +8,11 @@ use sql_profile::SqlText;
 use std::alloc::Global;
 use std::str;
 
-/// The tree that an SQL text spells at a depth, with its places. Parentheses count for the depth and leave
-/// nothing in the tree. The faults come in this order, each at its first place in the text: `NotUtf8`; `Token`
-/// and `IntRange`; `Unexpected` and `Deep`, at the first token with which no text of that depth begins.
-/// `Memory` where there is too little memory, or the tree would have too many levels for a stack.
+/// The tree that an SQL text spells at a depth, with its places. Parentheses count for the depth
+/// and leave nothing in the tree. The faults come in this order, each at its first place in the
+/// text: `NotUtf8`; `Token` and `IntRange`; `Unexpected` and `Deep`, at the first token with which
+/// no text of that depth begins. `Memory` where there is too little memory, or the tree would have
+/// too many levels for a stack.
 pub fn read_sql(alloc: Global, text: &[u8], depth: u64) -> Result<SqlText, SqlFault>
     ensures { Parsed result depth text.now }
 {

@@ -116,9 +116,15 @@ impl Stack {
         }
     }
 
-    // How deep the text is at least with one more form inside the others, and how many levels they are then.
+    // How deep the text is at least with one more form inside the others, and how many levels they
+    // are then.
     fn with(&self, form: &Form) -> Result<(u64, u64), Memory>
-        ensures { IfOk result (λ more. more ≡ (needs (form_view form.now ∷ forms self.now.levels), height (form_view form.now ∷ forms self.now.levels))) }
+        ensures { IfOk result (λ more.
+            more ≡ (
+              needs (form_view form.now ∷ forms self.now.levels),
+              height
+                  (form_view form.now ∷ forms self.now.levels),
+            )) }
     {
         let around = self.height();
         let deep = held(form)?;
@@ -130,7 +136,8 @@ impl Stack {
 
     /// With one more form, inside the others.
     pub fn push(&mut self, form: Form) -> Result<(), Memory>
-        ensures { IfOk result (λ u. forms self.new.levels ≡ form_view form ∷ forms self.old.levels) }
+        ensures { IfOk result (λ u.
+            forms self.new.levels ≡ form_view form ∷ forms self.old.levels) }
     {
         let (needs, height) = self.with(&form)?;
         self.levels.push(Level {

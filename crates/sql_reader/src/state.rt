@@ -5,8 +5,8 @@ use crate::stack::Stack;
 use nq_model::List;
 use sql_profile::Source;
 
-/// What was read of the head of a scalar query, the last token: SELECT, COUNT, its `(`, `*`, COALESCE, its `(`,
-/// or SUM.
+/// What was read of the head of a scalar query, the last token: SELECT, COUNT, its `(`, `*`,
+/// COALESCE, its `(`, or SUM.
 #[derive(Clone, Copy)]
 pub enum Head {
     Select,
@@ -81,7 +81,8 @@ pub enum Position {
     AtAs {
         value: Value,
     },
-    /// Whole items or the head of a scalar query, and then whole sources, of which there may be none.
+    /// Whole items or the head of a scalar query, and then whole sources, of which there may be
+    /// none.
     HaveItems {
         ranged: Ranged,
         from: List<Source>,

@@ -29,7 +29,9 @@ pub fn step(
     at: Position,
     token: Token<'_>,
 ) -> Result<Option<Position>, Memory>
-    ensures { Turns result (base_view base.new) (forms stack.new.levels) (step_at (position_view at) (base_view base.old) (forms stack.old.levels) (token_view token.entry)) }
+    ensures { Turns result (base_view base.new) (forms stack.new.levels)
+        (step_at (position_view at) (base_view base.old) (forms stack.old.levels)
+        (token_view token.entry)) }
 {
     match at {
         Position::AtStart => at_start(alloc, stack, token),

@@ -6,7 +6,8 @@ ghost use Rattle.sql_scope.specs.Steps.{aliases_in};
 use crate::names::{Columns, Names};
 use nq_model::Label;
 
-// The aliases of a FROM, each with the columns of its source: names of a text 'a, and columns of its tables 't.
+// The aliases of a FROM, each with the columns of its source: names of a text 'a, and columns of
+// its tables 't.
 pub(crate) type Sources<'t, 'a> = Names<'a, &'t Columns<'a>>;
 
 // The aliases of a FROM, and those of the FROMs around it.
@@ -20,7 +21,8 @@ impl<'s, 't, 'a> Scope<'s, 't, 'a> {
     // The columns of the innermost source of that alias.
     #[tactic(auto, using(crate::proofs::Scopes::found_own, crate::proofs::Scopes::found_around))]
     pub(crate) fn find(&self, alias: &Label) -> Option<&'t Columns<'a>>
-        ensures { option_map (λ columns. columns.now) result ≡ found alias.now (aliases_in self.now) }
+        ensures { option_map (λ columns. columns.now) result
+            ≡ found alias.now (aliases_in self.now) }
     {
         match self {
             Scope::Outermost => None,

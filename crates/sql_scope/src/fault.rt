@@ -4,8 +4,8 @@ ghost use Rattle.sql_scope.specs.declared.fault.ScopeFault.TheVariants.{Memory a
 
 use nq_model::Memory;
 
-/// Why a tree is not well scoped: the number of the first broken scope rule in judging order, and the place of
-/// the part that breaks it. `Memory` where there is too little memory.
+/// Why a tree is not well scoped: the number of the first broken scope rule in judging order, and
+/// the place of the part that breaks it. `Memory` where there is too little memory.
 #[derive(Clone, Copy, Debug, PartialEq, Eq)]
 pub enum ScopeFault {
     Memory,

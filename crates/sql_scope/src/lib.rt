@@ -1,4 +1,5 @@
-//! Whether an SQL tree is well scoped over a schema, with the types of its columns, or the first broken rule.
+//! Whether an SQL tree is well scoped over a schema, with the types of its columns, or the first
+//! broken rule.
 #![tactic(auto)]
 
 mod aliases;

@@ -29,7 +29,8 @@ impl<'a, V> Model for Names<'a, V> {
 
     ghost view = { λ names. named names.listed };
 
-    ghost invariant = { λ names. (name : List ℕ) → get_by (λ k. bytes_eq name k.now) names.firsts ≡ place_of name (named names.listed) };
+    ghost invariant = { λ names. (name : List ℕ) → get_by
+        (λ k. bytes_eq name k.now) names.firsts ≡ place_of name (named names.listed) };
 }
 
 impl<'a, V: Drop> Names<'a, V> {

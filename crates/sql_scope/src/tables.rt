@@ -7,8 +7,8 @@ use nq_model::{ColumnType, Label, Memory, TableShape};
 use std::alloc::Global;
 use std::marker::Model;
 
-// The tables, and the WITH queries so far, under names of their own. Contracts see the WITH queries, the newest
-// first, and then the tables.
+// The tables, and the WITH queries so far, under names of their own. Contracts see the WITH
+// queries, the newest first, and then the tables.
 #[derive(Drop)]
 pub(crate) struct Tables<'a> {
     tables: Names<'a, Columns<'a>>,
@@ -24,7 +24,8 @@ impl<'a> Model for Tables<'a> {
 
     ghost view = { λ t. before t.withs t.tables };
 
-    ghost invariant = { λ t. (name : List ℕ) → found name (before t.withs t.tables) ≡ found name (t.withs ++ t.tables) };
+    ghost invariant = { λ t. (name : List ℕ)
+        → found name (before t.withs t.tables) ≡ found name (t.withs ++ t.tables) };
 }
 
 // The columns of a table.

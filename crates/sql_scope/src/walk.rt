@@ -80,7 +80,8 @@ fn judge_picked<'t, 'a>(
     over: &'a Picked,
 ) -> Result<Sources<'t, 'a>, ScopeFault>
     ensures ok { IfOk result (λ own.
-        judge_picked tables.now (aliases_in scope.now) (placed_picked over.now) ≡ Fine (bounds own)) }
+        judge_picked tables.now (aliases_in scope.now) (placed_picked over.now)
+        ≡ Fine (bounds own)) }
     ensures err { IfErr result
         (Faults (judge_picked tables.now (aliases_in scope.now) (placed_picked over.now))) }
 {
@@ -98,7 +99,8 @@ fn judge_summed<'t, 'a>(
     scope: &Scope<'_, 't, 'a>,
     value: &'a Expr,
 ) -> Result<ColumnType, ScopeFault>
-    ensures { Gives result (judge_summed tables.now (aliases_in scope.now) (placed_expr value.now)) }
+    ensures { Gives result (judge_summed tables.now (aliases_in scope.now)
+        (placed_expr value.now)) }
 {
     let given = judge_expr(alloc, tables, scope, value)?;
     rules::summed(value.place, given)
@@ -112,7 +114,8 @@ pub(crate) fn judge_query<'t, 'a>(
     scope: &Scope<'_, 't, 'a>,
     query: &'a Query,
 ) -> Result<Columns<'a>, ScopeFault>
-    ensures { Gives result (judge_query tables.now (aliases_in scope.now) (placed_query query.now)) }
+    ensures { Gives result (judge_query tables.now (aliases_in scope.now)
+        (placed_query query.now)) }
 {
     let mut first: Option<Columns<'a>> = None;
     for select in query.selects.as_slice() {
@@ -133,14 +136,16 @@ fn judge_select<'t, 'a>(
     scope: &Scope<'_, 't, 'a>,
     select: &'a Select,
 ) -> Result<Columns<'a>, ScopeFault>
-    ensures { Gives result (judge_select tables.now (aliases_in scope.now) (placed_select select.now)) }
+    ensures { Gives result (judge_select tables.now (aliases_in scope.now)
+        (placed_select select.now)) }
 {
     let own = judge_sources(alloc, tables, select.from.as_slice())?;
     let inner = Scope::Inner(&own, &*scope);
     judge_parts(alloc, tables, &inner, select)
 }
 
-// The columns of a SELECT where the aliases of its FROM are seen: its condition, and then its items.
+// The columns of a SELECT where the aliases of its FROM are seen: its condition, and then its
+// items.
 #[cycle(judge)]
 fn judge_parts<'t, 'a>(
     alloc: Global,
@@ -148,7 +153,8 @@ fn judge_parts<'t, 'a>(
     scope: &Scope<'_, 't, 'a>,
     select: &'a Select,
 ) -> Result<Columns<'a>, ScopeFault>
-    ensures { Gives result (judge_parts tables.now (aliases_in scope.now) (placed_select select.now)) }
+    ensures { Gives result (judge_parts tables.now (aliases_in scope.now)
+        (placed_select select.now)) }
 {
     judge_keep(alloc, tables, scope, &select.keep)?;
     judge_columns(alloc, tables, scope, select)
@@ -162,7 +168,8 @@ fn judge_columns<'t, 'a>(
     scope: &Scope<'_, 't, 'a>,
     select: &'a Select,
 ) -> Result<Columns<'a>, ScopeFault>
-    ensures { Gives result (judge_columns tables.now (aliases_in scope.now) (placed_select select.now)) }
+    ensures { Gives result (judge_columns tables.now (aliases_in scope.now)
+        (placed_select select.now)) }
 {
     judge_items(alloc, tables, scope, select.items.as_slice())
 }
@@ -194,7 +201,8 @@ fn judge_items<'t, 'a>(
     scope: &Scope<'_, 't, 'a>,
     items: &'a [Item],
 ) -> Result<Columns<'a>, ScopeFault>
-    ensures { Gives result (judge_items tables.now (aliases_in scope.now) [] (placed_items items.now)) }
+    ensures { Gives result (judge_items tables.now (aliases_in scope.now) []
+        (placed_items items.now)) }
 {
     let mut columns = Names::with_capacity(alloc, items.len())?;
     for item in items {
@@ -217,7 +225,8 @@ fn judge_value<'t, 'a>(
     scope: &Scope<'_, 't, 'a>,
     value: &'a ItemValue,
 ) -> Result<ColumnType, ScopeFault>
-    ensures { Gives result (judge_value tables.now (aliases_in scope.now) (placed_value value.now)) }
+    ensures { Gives result (judge_value tables.now (aliases_in scope.now)
+        (placed_value value.now)) }
 {
     match value {
         ItemValue::Plain(expr) => judge_expr(alloc, tables, scope, expr),
@@ -258,13 +267,16 @@ fn judge_sources<'t, 'a>(
     Ok(own)
 }
 
-// The columns of a source, which names a table or a WITH query, and whose alias is none of the earlier ones.
+// The columns of a source, which names a table or a WITH query, and whose alias is none of the
+// earlier ones.
 fn judge_source<'t, 'a>(
     tables: &'t Tables<'a>,
     earlier: &Sources<'_, '_>,
     source: &Source,
 ) -> Result<&'t Columns<'a>, ScopeFault>
-    ensures ok { IfOk result (λ columns. judge_source tables.now (bounds earlier.now) source.now ≡ Fine (source.now.alias, columns.now)) }
+    ensures ok { IfOk result (λ columns.
+        judge_source tables.now (bounds earlier.now) source.now
+        ≡ Fine (source.now.alias, columns.now)) }
     ensures err { IfErr result (Faults (judge_source tables.now (bounds earlier.now) source.now)) }
 {
     let place = source.place;

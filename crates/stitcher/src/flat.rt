@@ -10,8 +10,8 @@ use nq_model::{CellRef, ColumnType, Label, List, Memory, Ty};
 use rows::Rows;
 use std::alloc::Global;
 
-/// The columns of one path: those of its answer, the columns of the base parts of its element, counted from
-/// 1, and the places of its inner bags, counted from 0.
+/// The columns of one path: those of its answer, the columns of the base parts of its element,
+/// counted from 1, and the places of its inner bags, counted from 0.
 #[derive(Drop)]
 struct Level {
     columns: List<ColumnType>,
@@ -19,8 +19,8 @@ struct Level {
     slots: List<u64>,
 }
 
-/// Indexes of a tag and a number: the tag says which comprehension made an element, the number which choice
-/// of rows.
+/// Indexes of a tag and a number: the tag says which comprehension made an element, the number
+/// which choice of rows.
 ///
 /// After the flat indexes of Cheney, Lindley and Wadler, "Query Shredding", SIGMOD 2014.
 #[derive(Drop)]
@@ -33,7 +33,9 @@ pub struct FlatNumbers {
 impl FlatNumbers {
     /// The scheme of a type.
     pub fn new(alloc: Global, of: &Ty) -> Result<FlatNumbers, Memory>
-        ensures { IfOk result (λ made. ⟦<FlatNumbers as IndexScheme>⟧.scheme made ≡ flat_numbers (element_types (type_tree of.now))) }
+        ensures { IfOk result (λ made.
+            ⟦<FlatNumbers as IndexScheme>⟧.scheme made
+            ≡ flat_numbers (element_types (type_tree of.now))) }
     {
         let mut elements = List::new(alloc);
         push_elements(alloc, of, &mut elements)?;
@@ -97,7 +99,8 @@ impl IndexScheme for FlatNumbers {
 
     ghost compares = { λ s i j. refl };
 
-    ghost bases_are_typed = { λ s q l h. base_typed (element_of (map type_tree s.elements) q) column.Int column.Int l h.1 };
+    ghost bases_are_typed = { λ s q l h.
+        base_typed (element_of (map type_tree s.elements) q) column.Int column.Int l h.1 };
 }
 
 // The number at a place of a list, or 0 past its end.
@@ -136,7 +139,8 @@ fn int_after(rows: &Rows, row: usize, place: u64) -> i64
 // Puts copies of the element types of a type's bags at the end, in path order.
 #[cycle(elements)]
 fn push_elements(alloc: Global, of: &Ty, all: &mut List<Ty>) -> Result<(), Memory>
-    ensures { OnOk result (map type_tree all.new ≡ map type_tree all.old ++ element_types (type_tree of.now)) }
+    ensures { OnOk result (map type_tree all.new
+        ≡ map type_tree all.old ++ element_types (type_tree of.now)) }
 {
     match of {
         Ty::Int | Ty::Bool | Ty::Text | Ty::Fun(_, _) => Ok(()),
@@ -154,7 +158,8 @@ fn push_field_elements(
     fields: &[(Label, Ty)],
     all: &mut List<Ty>,
 ) -> Result<(), Memory>
-    ensures { OnOk result (map type_tree all.new ≡ map type_tree all.old ++ element_types_in (field_types_of (fields_view fields.now))) }
+    ensures { OnOk result (map type_tree all.new
+        ≡ map type_tree all.old ++ element_types_in (field_types_of (fields_view fields.now))) }
 {
     for field in fields {
         push_elements(alloc, &field.1, all)?;
@@ -202,7 +207,8 @@ fn put_part(level: &mut Level, part: &Ty) -> Result<(), Memory>
 
 #[cycle(parts)]
 fn put_fields(level: &mut Level, fields: &[(Label, Ty)]) -> Result<(), Memory>
-    ensures { OnOk result (level.new ≡ with_parts level.old (field_types_of (fields_view fields.now))) }
+    ensures { OnOk result (level.new
+        ≡ with_parts level.old (field_types_of (fields_view fields.now))) }
 {
     for field in fields {
         put_part(level, &field.1)?;

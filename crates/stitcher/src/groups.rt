@@ -11,8 +11,9 @@ use rows::Rows;
 use std::alloc::Global;
 use std::hash::Hash;
 
-/// The rows of an answer by their outer index, in row order. The place of a row is counted from the end, from 1,
-/// and 0 is none: so rows are put in front, and each goes on to one that was there before.
+/// The rows of an answer by their outer index, in row order. The place of a row is counted from the
+/// end, from 1, and 0 is none: so rows are put in front, and each goes on to one that was there
+/// before.
 #[derive(Drop)]
 pub(crate) struct Groups<I: Eq + Hash> {
     // The place of the first row under each index.
@@ -82,7 +83,9 @@ pub(crate) fn group<S: IndexScheme>(
 ) -> Result<Groups<S::Index>, Memory>
     requires path { IsPath (S.scheme scheme.now) path }
     requires fits { All (RowFits ((S.scheme scheme.now).columns path)) rows.now }
-    ensures grouped { IfOk result (λ groups. AreGrouped S.Index.eq ((S.scheme scheme.now).outer path) rows.now rows.now groups.firsts groups.nexts) }
+    ensures grouped { IfOk result
+        (λ groups. AreGrouped S.Index.eq ((S.scheme scheme.now).outer path)
+        rows.now rows.now groups.firsts groups.nexts) }
     ensures counted { IfOk result (λ groups. length groups.nexts ≡ length rows.now) }
     ensures goes_on { IfOk result (λ groups. GoesOn groups.nexts) }
 {

@@ -18,11 +18,12 @@ use nq_model::{Label, List, Memory, Ty, Value};
 use sql_profile::Answer;
 use std::alloc::Global;
 
-/// The nested value that answers stand for, one for each path of a bag type: the elements at a path are the rows
-/// under an index, in row order; a base part is a cell of the row, and an inner bag has the elements at its own path
-/// under the index that the row gives for it. The value has the elements at the first path under the index of the
-/// top. Rows under an index that no row gives are left out. Where the scheme reads the answers for a normal form and
-/// tables, the value is what the form means over them. The only error is that memory wants.
+/// The nested value that answers stand for, one for each path of a bag type: the elements at a path
+/// are the rows under an index, in row order; a base part is a cell of the row, and an inner bag
+/// has the elements at its own path under the index that the row gives for it. The value has the
+/// elements at the first path under the index of the top. Rows under an index that no row gives are
+/// left out. Where the scheme reads the answers for a normal form and tables, the value is what the
+/// form means over them. Fails only if memory runs out.
 ///
 /// After Cheney, Lindley and Wadler, "Query Shredding", SIGMOD 2014.
 pub fn stitch<S: IndexScheme>(
@@ -62,9 +63,13 @@ fn elements<S: IndexScheme>(
     path: u64,
     index: &S::Index,
 ) -> Result<List<Value>, Memory>
-    requires ready { IsReady S.Index.eq (S.scheme from.now.scheme.now) (rows_of from.now.answers.now) from.now.groups from.now.spans }
+    requires ready { IsReady S.Index.eq (S.scheme from.now.scheme.now)
+        (rows_of from.now.answers.now) from.now.groups from.now.spans }
     requires path { AreAt (S.scheme from.now.scheme.now).elements (bag (type_tree of.now)) path }
-    ensures { IfOk result (λ values. map nested values ≡ built (source (S.scheme from.now.scheme.now) (rows_of from.now.answers.now)) (type_tree of.now) path index.now) }
+    ensures { IfOk result (λ values.
+        map nested values ≡ built
+        (source (S.scheme from.now.scheme.now) (rows_of from.now.answers.now)) (type_tree of.now)
+        path index.now) }
 {
     let groups = from.groups(path);
     let mut values = List::new(alloc);
@@ -86,9 +91,14 @@ fn element<S: IndexScheme>(
     part: &Ty,
     walk: &mut Walk,
 ) -> Result<Value, Memory>
-    requires ready { IsReady S.Index.eq (S.scheme from.now.scheme.now) (rows_of from.now.answers.now) from.now.groups from.now.spans }
-    requires stands { Stands (S.scheme from.now.scheme.now) (rows_of from.now.answers.now) walk.old (type_tree part.now) }
-    ensures value { IfOk result (λ value. nested value ≡ value_at (S.scheme from.now.scheme.now) (rows_of from.now.answers.now) walk.old (type_tree part.now)) }
+    requires ready { IsReady S.Index.eq (S.scheme from.now.scheme.now)
+        (rows_of from.now.answers.now) from.now.groups from.now.spans }
+    requires stands { Stands (S.scheme from.now.scheme.now) (rows_of from.now.answers.now) walk.old
+        (type_tree part.now) }
+    ensures value { IfOk result
+        (λ value. nested value
+        ≡ value_at (S.scheme from.now.scheme.now) (rows_of from.now.answers.now) walk.old
+        (type_tree part.now)) }
     ensures past { OnOk result (walk.new ≡ past walk.old (type_tree part.now)) }
 {
     match part {
@@ -115,10 +125,16 @@ fn field_values<S: IndexScheme>(
     fields: &[(Label, Ty)],
     walk: &mut Walk,
 ) -> Result<List<(Label, Value)>, Memory>
-    requires ready { IsReady S.Index.eq (S.scheme from.now.scheme.now) (rows_of from.now.answers.now) from.now.groups from.now.spans }
-    requires stands { Stands (S.scheme from.now.scheme.now) (rows_of from.now.answers.now) walk.old (rec (field_types_of (fields_view fields.now))) }
-    ensures values { IfOk result (λ values. fields_of (values_view values) ≡ fields_at (S.scheme from.now.scheme.now) (rows_of from.now.answers.now) walk.old (field_types_of (fields_view fields.now))) }
-    ensures past { OnOk result (walk.new ≡ past walk.old (rec (field_types_of (fields_view fields.now)))) }
+    requires ready { IsReady S.Index.eq (S.scheme from.now.scheme.now)
+        (rows_of from.now.answers.now) from.now.groups from.now.spans }
+    requires stands { Stands (S.scheme from.now.scheme.now) (rows_of from.now.answers.now) walk.old
+        (rec (field_types_of (fields_view fields.now))) }
+    ensures values { IfOk result
+        (λ values. fields_of (values_view values)
+        ≡ fields_at (S.scheme from.now.scheme.now) (rows_of from.now.answers.now) walk.old
+        (field_types_of (fields_view fields.now))) }
+    ensures past { OnOk result (walk.new
+        ≡ past walk.old (rec (field_types_of (fields_view fields.now)))) }
 {
     let mut values = List::with_capacity(alloc, fields.len())?;
     for field in fields {

@@ -8,10 +8,10 @@ use rows::Rows;
 use std::alloc::Global;
 use std::hash::Hash;
 
-/// How the rows of flat answers name the bags that they stand in and hold. A scheme belongs to one plain
-/// type. The numbers that its calls take count parts of that type from 0: paths in their order, base parts
-/// and inner bags of the element at a path in label order. A row is taken by its place among the rows in which
-/// it stands, so that an index is read with no copy of the row.
+/// How the rows of flat answers name the bags that they stand in and hold. A scheme belongs to one
+/// plain type. The numbers that its calls take count parts of that type from 0: paths in their
+/// order, base parts and inner bags of the element at a path in label order. A row is taken by its
+/// place among the rows in which it stands, so that an index is read with no copy of the row.
 ///
 /// After Cheney, Lindley and Wadler, "Query Shredding", SIGMOD 2014.
 pub trait IndexScheme {
@@ -46,7 +46,8 @@ pub trait IndexScheme {
         requires path { IsPath (scheme self.now) path }
         requires row { row < length rows.now }
         requires fits { RowFits ((scheme self.now).columns path) (slice_index_or rows.now row []) }
-        ensures { IfOk result (λ index. index ≡ (scheme self.now).outer path (slice_index_or rows.now row [])) };
+        ensures { IfOk result (λ index.
+            index ≡ (scheme self.now).outer path (slice_index_or rows.now row [])) };
 
     /// The index that a row gives for an inner bag.
     fn inner(
@@ -60,7 +61,8 @@ pub trait IndexScheme {
         requires slot { IsSlot (scheme self.now) path slot }
         requires row { row < length rows.now }
         requires fits { RowFits ((scheme self.now).columns path) (slice_index_or rows.now row []) }
-        ensures { IfOk result (λ index. index ≡ (scheme self.now).inner path slot (slice_index_or rows.now row [])) };
+        ensures { IfOk result (λ index.
+            index ≡ (scheme self.now).inner path slot (slice_index_or rows.now row [])) };
 
     /// Indexes are compared as their type compares them.
     ghost compares: { (s : Self) (i j : Self.Index) → (scheme s).is i j ≡ Self.Index.Eq.eq i j };

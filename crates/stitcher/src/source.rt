@@ -17,7 +17,8 @@ use rows::Rows;
 use sql_profile::Answer;
 use std::alloc::Global;
 
-/// A scheme with answers, one for each path: the rows of each are in groups, and the spans of the paths are known.
+/// A scheme with answers, one for each path: the rows of each are in groups, and the spans of the
+/// paths are known.
 #[derive(Drop)]
 pub(crate) struct Source<'a, S: IndexScheme> {
     scheme: &'a S,
@@ -34,7 +35,8 @@ fn groups_of<S: IndexScheme>(
 ) -> Result<List<Groups<S::Index>>, Memory>
     requires paths { length answers.now ≡ length (S.scheme scheme.now).elements }
     requires fits { AreFitting (S.scheme scheme.now) (rows_of answers.now) }
-    ensures { IfOk result (λ groups. AreInGroups S.Index.eq (S.scheme scheme.now) (rows_of answers.now) groups) }
+    ensures { IfOk result (λ groups.
+        AreInGroups S.Index.eq (S.scheme scheme.now) (rows_of answers.now) groups) }
 {
     let mut groups = List::with_capacity(alloc, answers.len())?;
     for path in 0..answers.len() {
@@ -71,8 +73,11 @@ impl<'a, S: IndexScheme> Source<'a, S> {
         answers: &'a [Answer],
     ) -> Result<Source<'a, S>, Memory>
         requires { AreAnswersOf (S.scheme scheme.now) (type_tree of.now) (rows_of answers.now) }
-        ensures same { IfOk result (λ source. (source.scheme.now ≡ scheme.now) × (source.answers.now ≡ answers.now)) }
-        ensures ready { IfOk result (λ source. IsReady S.Index.eq (S.scheme source.scheme.now) (rows_of source.answers.now) source.groups source.spans) }
+        ensures same { IfOk result
+            (λ source. (source.scheme.now ≡ scheme.now) × (source.answers.now ≡ answers.now)) }
+        ensures ready { IfOk result
+            (λ source. IsReady S.Index.eq (S.scheme source.scheme.now) (rows_of source.answers.now)
+            source.groups source.spans) }
     {
         let mut spans = List::new(alloc);
         push_spans(of, &mut spans)?;
@@ -87,10 +92,15 @@ impl<'a, S: IndexScheme> Source<'a, S> {
 
     /// The value of the base part where a walk stands, which is then past it.
     pub(crate) fn base(&self, alloc: Global, walk: &mut Walk) -> Result<Value, Memory>
-        requires ready { IsReady S.Index.eq (S.scheme self.now.scheme.now) (rows_of self.now.answers.now) self.now.groups self.now.spans }
+        requires ready { IsReady S.Index.eq (S.scheme self.now.scheme.now)
+            (rows_of self.now.answers.now) self.now.groups self.now.spans }
         requires leaf { IsLeaf (S.scheme self.now.scheme.now) walk.old.path walk.old.leaf }
-        requires row { walk.old.row < length (get_or (rows_of self.now.answers.now) walk.old.path []) }
-        ensures value { IfOk result (λ value. nested value ≡ base (get_or (row_of (rows_of self.now.answers.now) walk.old) ((S.scheme self.now.scheme.now).base walk.old.path walk.old.leaf - 1) no_cell)) }
+        requires row { walk.old.row < length
+            (get_or (rows_of self.now.answers.now) walk.old.path []) }
+        ensures value { IfOk result
+            (λ value. nested value
+            ≡ base (get_or (row_of (rows_of self.now.answers.now) walk.old)
+            ((S.scheme self.now.scheme.now).base walk.old.path walk.old.leaf - 1) no_cell)) }
         ensures past { OnOk result (walk.new ≡ past_leaf walk.old) }
     {
         let column = self.scheme.base(walk.path, walk.leaf) - 1;
@@ -102,12 +112,18 @@ impl<'a, S: IndexScheme> Source<'a, S> {
 
     /// The index of the inner bag where a walk stands, which is then past it.
     pub(crate) fn inner(&self, alloc: Global, walk: &mut Walk) -> Result<S::Index, Memory>
-        requires ready { IsReady S.Index.eq (S.scheme self.now.scheme.now) (rows_of self.now.answers.now) self.now.groups self.now.spans }
+        requires ready { IsReady S.Index.eq (S.scheme self.now.scheme.now)
+            (rows_of self.now.answers.now) self.now.groups self.now.spans }
         requires slot { IsSlot (S.scheme self.now.scheme.now) walk.old.path walk.old.slot }
-        requires row { walk.old.row < length (get_or (rows_of self.now.answers.now) walk.old.path []) }
+        requires row { walk.old.row < length
+            (get_or (rows_of self.now.answers.now) walk.old.path []) }
         requires path { IsPath (S.scheme self.now.scheme.now) walk.old.inner }
-        ensures index { IfOk result (λ index. index ≡ (S.scheme self.now.scheme.now).inner walk.old.path walk.old.slot (row_of (rows_of self.now.answers.now) walk.old)) }
-        ensures past { OnOk result (walk.new ≡ past_slot walk.old (element_of (S.scheme self.now.scheme.now).elements walk.old.inner)) }
+        ensures index { IfOk result
+            (λ index. index ≡ (S.scheme self.now.scheme.now).inner walk.old.path walk.old.slot
+            (row_of (rows_of self.now.answers.now) walk.old)) }
+        ensures past { OnOk result (walk.new
+            ≡ past_slot walk.old (element_of
+            (S.scheme self.now.scheme.now).elements walk.old.inner)) }
     {
         let rows = rows_at(self.answers, walk.path);
         let index = self

@@ -23,7 +23,8 @@ pub(crate) fn push_spans(of: &Ty, spans: &mut List<u64>) -> Result<(), Memory>
 
 #[cycle(spans)]
 fn push_field_spans(fields: &[(Label, Ty)], spans: &mut List<u64>) -> Result<(), Memory>
-    ensures { OnOk result (spans.new ≡ spans.old ++ spans_of (element_types_in (field_types_of (fields_view fields.now)))) }
+    ensures { OnOk result (spans.new
+        ≡ spans.old ++ spans_of (element_types_in (field_types_of (fields_view fields.now)))) }
 {
     for field in fields {
         push_spans(&field.1, spans)?;

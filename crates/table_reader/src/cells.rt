@@ -1,4 +1,5 @@
-// The cells that fields spell, and the rows that records spell. Their texts are lent from the records.
+// The cells that fields spell, and the rows that records spell. Their texts are lent from the
+// records.
 ghost use Rattle.std.specs.Prelude.{◌≡◌, ◌≢◌, ◌↔◌, IsTrue, IfOk, IfErr, MatchOption, true, false, map, slice_index};
 ghost use Rattle.std.specs.Str.{is_utf8};
 ghost use Rattle.csv.specs.Records.{fields_of};
@@ -17,7 +18,8 @@ use std::str;
 // The text that bytes are, if they are UTF-8.
 #[tactic(auto, using(crate::proofs::CellFacts::cell_rules))]
 fn utf8_of(bytes: &[u8]) -> Option<&str>
-    ensures { MatchOption result (is_utf8 bytes.now ≡ false) (λ text. (text.now ≡ bytes.now) × (is_utf8 bytes.now ≡ true)) }
+    ensures { MatchOption result (is_utf8 bytes.now ≡ false)
+        (λ text. (text.now ≡ bytes.now) × (is_utf8 bytes.now ≡ true)) }
 {
     match str::from_utf8(bytes) {
         Ok(text) => Some(text),
@@ -62,8 +64,10 @@ fn read_cell<'f>(
     column_type: ColumnType,
     field: &'f [u8],
 ) -> Result<CellRef<'f>, TableFault>
-    ensures ok { IfOk result (λ cell. cell_at row column column_type field.now ≡ Ok (cell_seen cell)) }
-    ensures err { IfErr result (λ e. e ≢ fault.Memory → cell_at row column column_type field.now ≡ Err e) }
+    ensures ok { IfOk result (λ cell.
+        cell_at row column column_type field.now ≡ Ok (cell_seen cell)) }
+    ensures err { IfErr result
+        (λ e. e ≢ fault.Memory → cell_at row column column_type field.now ≡ Err e) }
 {
     let Some(text) = utf8_of(field) else {
         return Err(TableFault::NotUtf8 { row, column });
@@ -89,8 +93,10 @@ pub(crate) fn read_row<'f>(
     fields: &'f ByteRecord,
     row: u64,
 ) -> Result<Vec<CellRef<'f>>, TableFault>
-    ensures ok { IfOk result (λ cells. row_at row (types_of columns.now) (fields_of fields.now) ≡ Ok (map cell_seen cells.items)) }
-    ensures err { IfErr result (λ e. e ≢ fault.Memory → row_at row (types_of columns.now) (fields_of fields.now) ≡ Err e) }
+    ensures ok { IfOk result (λ cells.
+        row_at row (types_of columns.now) (fields_of fields.now) ≡ Ok (map cell_seen cells.items)) }
+    ensures err { IfErr result
+        (λ e. e ≢ fault.Memory → row_at row (types_of columns.now) (fields_of fields.now) ≡ Err e) }
 {
     if fields.len() != columns.len() {
         return Err(TableFault::Width { row });

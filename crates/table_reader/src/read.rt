@@ -34,8 +34,8 @@ fn is_header(shape: &TableShape, fields: &ByteRecord) -> bool
     true
 }
 
-// The row that a record spells after earlier ones, which the index then knows too. Its texts are lent from
-// the record.
+// The row that a record spells after earlier ones, which the index then knows too. Its texts are
+// lent from the record.
 #[tactic(auto, unfolding(crate::specs::Tables::next_row))]
 fn next_row<'f>(
     alloc: Global,
@@ -45,9 +45,12 @@ fn next_row<'f>(
     fields: &'f ByteRecord,
     row: u64,
 ) -> Result<Vec<CellRef<'f>>, TableFault>
-    ensures ok { IfOk result (λ cells. KeepsIndex shape.now rows.now index.old → row ≡ length rows.now + 1
-        → (next_row shape.now rows.now (fields_of fields.now) ≡ Ok (map cell_seen cells.items)) × KeepsIndex shape.now (rows.now ++ map cell_seen cells.items ∷ []) index.new) }
-    ensures err { IfErr result (λ e. KeepsIndex shape.now rows.now index.old → row ≡ length rows.now + 1
+    ensures ok { IfOk result (λ cells. KeepsIndex shape.now rows.now index.old
+        → row ≡ length rows.now + 1
+        → (next_row shape.now rows.now (fields_of fields.now) ≡ Ok (map cell_seen cells.items))
+        × KeepsIndex shape.now (rows.now ++ map cell_seen cells.items ∷ []) index.new) }
+    ensures err { IfErr result
+        (λ e. KeepsIndex shape.now rows.now index.old → row ≡ length rows.now + 1
         → e ≢ fault.Memory → next_row shape.now rows.now (fields_of fields.now) ≡ Err e) }
 {
     let cells = read_row(alloc, shape.columns.as_slice(), fields, row)?;
@@ -63,7 +66,8 @@ fn read_header(
     reader: &mut Reader<&[u8]>,
     fields: &mut ByteRecord,
 ) -> Result<bool, Memory>
-    ensures { IfOk result (λ found. (text : List ℕ) → HasRead text reader.old [] → ReadsHeader shape.now text found reader.new) }
+    ensures { IfOk result (λ found. (text : List ℕ) → HasRead text reader.old []
+        → ReadsHeader shape.now text found reader.new) }
 {
     if !read_next(reader, fields)? {
         return Ok(false);
@@ -71,14 +75,14 @@ fn read_header(
     Ok(is_header(shape, fields))
 }
 
-/// The rows that a text gives a table of this shape. The text is CSV with commas and double quotes, after
-/// a byte order mark if it begins with one. Its first record is the column names in the order of the
-/// shape, and each further record is a row. An int cell is an optional minus sign and digits, within 64
-/// bits; a bool cell is `true`, `false`, `t` or `f`; a text cell is any UTF-8. Where the shape has a key,
-/// no two rows have equal key cells.
+/// The rows that a text gives a table of this shape. The text is CSV with commas and double quotes,
+/// after a byte order mark if it begins with one. Its first record is the column names in the order
+/// of the shape, and each further record is a row. An int cell is an optional minus sign and
+/// digits, within 64 bits; a bool cell is `true`, `false`, `t` or `f`; a text cell is any UTF-8.
+/// Where the shape has a key, no two rows have equal key cells.
 ///
-/// A fault is the first in reading order: the header, then row by row the number of cells, the cells from
-/// the left, and the key. `TableFault::Memory` alone may come at any text.
+/// A fault is the first in reading order: the header, then row by row the number of cells, the
+/// cells from the left, and the key. `TableFault::Memory` alone may come at any text.
 pub fn read_table(alloc: Global, shape: &TableShape, text: &[u8]) -> Result<Table, TableFault>
     ensures rows { IfOk result (λ table. table_of shape.now text.now ≡ Ok table.rows) }
     ensures table { IfOk result (λ table. IsTableOf shape.now table.rows) }

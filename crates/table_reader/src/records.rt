@@ -21,7 +21,8 @@ pub(crate) fn reader_of<'a>(alloc: Global, text: &'a [u8]) -> Reader<&'a [u8]>
 // from memory fails only for want of memory.
 pub(crate) fn read_next(reader: &mut Reader<&[u8]>, fields: &mut ByteRecord) -> Result<bool, Memory>
     ensures { IfOk result (λ found. (text : List ℕ) (given : List Record)
-        → HasRead text reader.old given → ReadsOne found (fields_of fields.new) text reader.new given) }
+        → HasRead text reader.old given
+        → ReadsOne found (fields_of fields.new) text reader.new given) }
 {
     let Ok(found) = reader.read_byte_record(fields) else {
         return Err(Memory);

@@ -15,14 +15,15 @@ use crate::walk::walk_query;
 use nq_model::{Memory, Schema, Term};
 use std::alloc::Global;
 
-/// The deepest term that is answered, so that what recurses on it later needs no more stack than that.
+/// The deepest term that is answered, so that what recurses on it later needs no more stack than
+/// that.
 pub const DEEPEST: u64 = 2_000;
 
 /// The plain term that the steps of unfolding reach, places included, of the same type.
 ///
-/// Want of memory is also the answer where the term is deeper than `DEEPEST`, where one built on the way is deeper
-/// than the limit for those, and where the walks would take more of the stack than their room. Nothing is read
-/// from the schema: it says over which tables the term is typed.
+/// Want of memory is also the answer where the term is deeper than `DEEPEST`, where one built on
+/// the way is deeper than the limit for those, and where the walks would take more of the stack
+/// than their room. Nothing is read from the schema: it says over which tables the term is typed.
 pub fn unfold(alloc: Global, schema: &Schema, term: Term) -> Result<Term, Memory>
     requires { (type : TypeTree) × IsAccepted schema.now (term_tree term) type }
     ensures reached { IfOk result (λ t. IsUnfolding schema.now (placed term) (placed t)) }

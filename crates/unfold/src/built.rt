@@ -1,5 +1,5 @@
-// Terms and how deep they are. The stack is memory, so a term deeper than a limit is refused as soon as it is
-// built.
+// Terms and how deep they are. The stack is memory, so a term deeper than a limit is refused as
+// soon as it is built.
 ghost use Rattle.std.specs.Prelude.{◌≡◌, ◌+◌, IfOk, max};
 ghost use Rattle.nq_model.specs.Terms.{placed, term_tree, term_fields_of, fields_view};
 ghost use Rattle.unfold.specs.Depths.{term_depth, fields_depth};

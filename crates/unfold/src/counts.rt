@@ -3,16 +3,16 @@ use crate::field::find;
 use nq_model::{Label, Memory, Node, Term};
 use std::alloc::Global;
 
-// The uses of the variable of each binder around a part, the innermost last, and of those for which a term is put
-// in, in the reverse of the order in which a walk comes to them.
+// The uses of the variable of each binder around a part, the innermost last, and of those for which
+// a term is put in, in the reverse of the order in which a walk comes to them.
 #[derive(Drop)]
 struct Tally {
     around: Vec<u64>,
     done: Vec<u64>,
 }
 
-/// The uses of each variable for which a walk puts a term in: that of the binder to which a walk comes first is the
-/// last. What a walk does not come to is not counted.
+/// The uses of each variable for which a walk puts a term in: that of the binder to which a walk
+/// comes first is the last. What a walk does not come to is not counted.
 ///
 /// Where a number is too large or too small, a value is copied or missed, and nothing else.
 pub(crate) fn count_uses(alloc: Global, term: &Term) -> Result<Vec<u64>, Memory> {

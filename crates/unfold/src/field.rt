@@ -67,7 +67,8 @@ fn field_of_record(
     deep: u64,
     fields: List<(Label, Term)>,
 ) -> Result<Built<Term>, Memory>
-    ensures { IfOk result (λ b. placed b.term ≡ field_by place label (at own (PlacedNode.rec (placed_fields fields)))) }
+    ensures { IfOk result (λ b.
+        placed b.term ≡ field_by place label (at own (PlacedNode.rec (placed_fields fields)))) }
 {
     match find(fields.as_slice(), &label) {
         Some(at) => {
@@ -104,7 +105,10 @@ fn field_of_choice(
     yes: Box<Term>,
     no: Box<Term>,
 ) -> Result<Built<Term>, Memory>
-    ensures { IfOk result (λ b. placed b.term ≡ at place (PlacedNode.choose (placed test.value) (field_by place label (placed yes.value)) (field_by place label (placed no.value)))) }
+    ensures { IfOk result (λ b.
+        placed b.term ≡ at place
+        (PlacedNode.choose (placed test.value) (field_by place label (placed yes.value))
+        (field_by place label (placed no.value)))) }
 {
     let again = label.copy(alloc)?;
     let yes = opened(yes, deep);
@@ -116,7 +120,10 @@ fn field_of_choice(
 
 /// Where the first field of that label stands.
 pub(crate) fn find(fields: &[(Label, Term)], label: &Label) -> Option<usize>
-    ensures { MatchOption result (picked label.now (placed_fields fields.now) ≡ None) (λ i. (i < length fields.now) × (picked label.now (placed_fields fields.now) ≡ option_map (λ f. placed f.1) (slice_get fields.now i))) }
+    ensures { MatchOption result (picked label.now (placed_fields fields.now) ≡ None)
+        (λ i. (i < length fields.now)
+        × (picked label.now (placed_fields fields.now) ≡ option_map
+        (λ f. placed f.1) (slice_get fields.now i))) }
 {
     for i in 0..fields.len() {
         if label.as_str() == fields[i].0.as_str() {

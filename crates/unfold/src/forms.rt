@@ -1,7 +1,7 @@
 // Done terms of each form, over done parts.
 //
-// None of these calls a walk, and none is inlined into one, so that the space for what they build is given back
-// before a walk goes deeper.
+// None of these calls a walk, and none is inlined into one, so that the space for what they build
+// is given back before a walk goes deeper.
 ghost use Rattle.std.specs.Prelude.{◌≡◌, IfOk};
 ghost use Rattle.nq_model.specs.Types.{type_tree};
 ghost use Rattle.nq_model.specs.Terms.{placed, placed_fields, at, PlacedNode};
@@ -26,7 +26,9 @@ pub(crate) fn one(place: u64, shape: One, of: Part) -> Result<Built<Term>, Memor
 
 #[inline(never)]
 pub(crate) fn two(place: u64, shape: Two, left: Part, right: Part) -> Result<Built<Term>, Memory>
-    ensures { IfOk result (λ b. placed b.term ≡ at place (two_node shape (placed left.term.value) (placed right.term.value))) }
+    ensures { IfOk result (λ b.
+        placed b.term ≡ at place
+        (two_node shape (placed left.term.value) (placed right.term.value))) }
 {
     let deep = left.deep.max(right.deep);
     let node = shape.over(left.term, right.term);
@@ -35,7 +37,10 @@ pub(crate) fn two(place: u64, shape: Two, left: Part, right: Part) -> Result<Bui
 
 #[inline(never)]
 pub(crate) fn choice(place: u64, test: Part, yes: Part, no: Part) -> Result<Built<Term>, Memory>
-    ensures { IfOk result (λ b. placed b.term ≡ at place (PlacedNode.choose (placed test.term.value) (placed yes.term.value) (placed no.term.value))) }
+    ensures { IfOk result (λ b.
+        placed b.term ≡ at place
+        (PlacedNode.choose (placed test.term.value) (placed yes.term.value)
+        (placed no.term.value))) }
 {
     let deep = test.deep.max(yes.deep).max(no.deep);
     let node = Node::If {
@@ -48,7 +53,8 @@ pub(crate) fn choice(place: u64, test: Part, yes: Part, no: Part) -> Result<Buil
 
 #[inline(never)]
 pub(crate) fn function(place: u64, taken: Ty, body: Part) -> Result<Built<Term>, Memory>
-    ensures { IfOk result (λ b. placed b.term ≡ at place (PlacedNode.fun (type_tree taken) (placed body.term.value))) }
+    ensures { IfOk result (λ b.
+        placed b.term ≡ at place (PlacedNode.fun (type_tree taken) (placed body.term.value))) }
 {
     let deep = body.deep;
     let node = Node::Fun {
@@ -63,7 +69,8 @@ pub(crate) fn with_fields(
     place: u64,
     fields: Built<List<(Label, Term)>>,
 ) -> Result<Built<Term>, Memory>
-    ensures { IfOk result (λ b. placed b.term ≡ at place (PlacedNode.rec (placed_fields fields.term))) }
+    ensures { IfOk result (λ b.
+        placed b.term ≡ at place (PlacedNode.rec (placed_fields fields.term))) }
 {
     let deep = fields.deep;
     let node = Node::Rec(fields.term);
@@ -80,7 +87,9 @@ pub(crate) fn chosen(
     yes: Built<Term>,
     no: Built<Term>,
 ) -> Result<Built<Term>, Memory>
-    ensures { IfOk result (λ b. placed b.term ≡ at place (PlacedNode.choose (placed test.value) (placed yes.term) (placed no.term))) }
+    ensures { IfOk result (λ b.
+        placed b.term ≡ at place
+        (PlacedNode.choose (placed test.value) (placed yes.term) (placed no.term))) }
 {
     let deep = deep.max(yes.deep).max(no.deep);
     let yes = boxed(alloc, yes.term)?;
@@ -102,7 +111,8 @@ pub(crate) fn applied(
     func: Built<Term>,
     arg: Built<Term>,
 ) -> Result<Built<Term>, Memory>
-    ensures { IfOk result (λ b. placed b.term ≡ at place (PlacedNode.apply (placed func.term) (placed arg.term))) }
+    ensures { IfOk result (λ b.
+        placed b.term ≡ at place (PlacedNode.apply (placed func.term) (placed arg.term))) }
 {
     let deep = func.deep.max(arg.deep);
     let func = boxed(alloc, func.term)?;
@@ -124,7 +134,8 @@ pub(crate) fn of_field(
     of: Built<Term>,
     label: Label,
 ) -> Result<Built<Term>, Memory>
-    ensures { IfOk result (λ b. placed b.term ≡ at place (PlacedNode.field (placed of.term) label)) }
+    ensures { IfOk result (λ b.
+        placed b.term ≡ at place (PlacedNode.field (placed of.term) label)) }
 {
     let deep = of.deep;
     let of = boxed(alloc, of.term)?;

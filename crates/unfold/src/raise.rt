@@ -137,7 +137,8 @@ fn raise_fields(
     from: u64,
     fields: List<(Label, Term)>,
 ) -> Result<List<(Label, Term)>, Memory>
-    ensures { IfOk result (λ new. fields_with_places new ≡ map (λ f. (f.0, shift by from f.1)) (fields_with_places fields)) }
+    ensures { IfOk result (λ new. fields_with_places new ≡ map
+        (λ f. (f.0, shift by from f.1)) (fields_with_places fields)) }
 {
     let mut all = List::new(alloc);
     let mut rest = fields;

@@ -18,8 +18,8 @@ pub(crate) enum Binder {
     Given(u64, Slot),
 }
 
-/// The binders around a part of the query, the innermost last, and how often the variables of those to come are
-/// used, where a term is put in for them: the next one last.
+/// The binders around a part of the query, the innermost last, and how often the variables of those
+/// to come are used, where a term is put in for them: the next one last.
 #[derive(Drop)]
 pub(crate) struct Scope {
     pub binders: Vec<Binder>,
@@ -29,7 +29,8 @@ pub(crate) struct Scope {
 impl Scope {
     /// Goes under a binder.
     pub(crate) fn enter(&mut self, binder: Binder) -> Result<(), Memory>
-        ensures { IfOk result (λ _. (es : List Entry) → (e : Entry) → Stands self.old es → IsFor binder e → Stands self.new (e ∷ es)) }
+        ensures { IfOk result (λ _. (es : List Entry) → (e : Entry) → Stands self.old es
+            → IsFor binder e → Stands self.new (e ∷ es)) }
     {
         self.binders.push(binder)?;
         Ok(())
@@ -58,7 +59,8 @@ impl Scope {
         place: u64,
         k: u64,
     ) -> Result<Built<Term>, Memory>
-        ensures { IfOk result (λ b. Keeps self.old self.new (λ es. placed b.term ≡ looked_up level place es k)) }
+        ensures { IfOk result (λ b. Keeps self.old self.new
+            (λ es. placed b.term ≡ looked_up level place es k)) }
     {
         let count = self.binders.len();
         let outwards = k as usize;
@@ -77,7 +79,8 @@ fn put_binder(
     place: u64,
     binder: &mut Binder,
 ) -> Result<Built<Term>, Memory>
-    ensures { IfOk result (λ b. (e : Entry) → IsFor binder.old e → (placed b.term ≡ stands_for level place e) × IsFor binder.new e) }
+    ensures { IfOk result (λ b. (e : Entry) → IsFor binder.old e
+        → (placed b.term ≡ stands_for level place e) × IsFor binder.new e) }
 {
     match binder {
         Binder::Stays(own) => {

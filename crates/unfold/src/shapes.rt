@@ -62,7 +62,8 @@ impl Two {
         }
     }
 
-    /// The first variable that is not the second part's own, where `from` is the first that is not the node's.
+    /// The first variable that is not the second part's own, where `from` is the first that is not
+    /// the node's.
     pub(crate) fn inside(self, from: u64) -> Result<u64, Memory>
         ensures { IfOk result (λ inner. inner ≡ inside self from) }
     {

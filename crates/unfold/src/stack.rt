@@ -1,13 +1,16 @@
-// How much of the stack unfolding may take. The stack is memory, and where too little is left, memory wants.
+// How much of the stack unfolding may take. The stack is memory: where too little is left,
+// memory has run out.
 //
-// The frames are those of the program as LLVM builds it for x86-64, read from its code and rounded up. A main
-// thread has 8 MiB, 8,388,608 bytes. Beside the walks, at their deepest, a value may be copied, or moved under
-// binders: 624 or 720 bytes for each of the nodes that stand in one another, at most `DEEPEST_BUILT`.
+// The frames are those of the program as LLVM builds it for x86-64, read from its code and rounded
+// up. A main thread has 8 MiB, 8,388,608 bytes. Beside the walks, at their deepest, a value may be
+// copied, or moved under binders: 624 or 720 bytes for each of the nodes that stand in one another,
+// at most `DEEPEST_BUILT`.
 ghost use Rattle.std.specs.Prelude.{◌≡◌, ◌+◌, IfOk};
 
 use nq_model::Memory;
 
-/// The bytes that the walks may take together. With 2,160,000 for a value, 7,660,000 of the stack are in use.
+/// The bytes that the walks may take together. With 2,160,000 for a value, 7,660,000 of the stack
+/// are in use.
 pub(crate) const ROOM: u64 = 5_500_000;
 
 /// `walk` with the largest of the calls that lie between it and the next one.

@@ -1,6 +1,7 @@
 // Substitution that contracts what it makes contractible.
 //
-// After Watkins, Cervesato, Pfenning and Walker, "A Concurrent Logical Framework", CMU-CS-02-101, 2002.
+// After Watkins, Cervesato, Pfenning and Walker, "A Concurrent Logical Framework", CMU-CS-02-101,
+// 2002.
 ghost use Rattle.std.specs.Prelude.{◌≡◌, ◌+◌, map, IfOk};
 ghost use Rattle.nq_model.specs.Types.{type_tree};
 ghost use Rattle.nq_model.specs.Terms.{placed, at, PlacedNode};
@@ -19,8 +20,8 @@ use crate::uses::uses;
 use nq_model::{Label, List, Memory, Node, Term, Ty, boxed};
 use std::alloc::Global;
 
-/// What the slot holds in place of the variable `from`, in a done term. `rank` bounds how deep arrows nest in
-/// the value's type, and `room` is how many bytes the stack may still grow.
+/// What the slot holds in place of the variable `from`, in a done term. `rank` bounds how deep
+/// arrows nest in the value's type, and `room` is how many bytes the stack may still grow.
 #[cycle(hereditary)]
 pub(crate) fn substitute(
     alloc: Global,
@@ -30,7 +31,8 @@ pub(crate) fn substitute(
     by: &mut Slot,
     term: Term,
 ) -> Result<Built<Term>, Memory>
-    ensures { IfOk result (λ b. Puts by.old by.new (λ s. placed b.term ≡ substitute (apply_at rank) from s (placed term))) }
+    ensures { IfOk result (λ b. Puts by.old by.new
+        (λ s. placed b.term ≡ substitute (apply_at rank) from s (placed term))) }
 {
     let room = further(room, SUBSTITUTE)?;
     substitute_node(alloc, rank, room, from, by, term)
@@ -45,7 +47,8 @@ fn substitute_node(
     by: &mut Slot,
     term: Term,
 ) -> Result<Built<Term>, Memory>
-    ensures { IfOk result (λ b. Puts by.old by.new (λ s. placed b.term ≡ substitute (apply_at rank) from s (placed term))) }
+    ensures { IfOk result (λ b. Puts by.old by.new
+        (λ s. placed b.term ≡ substitute (apply_at rank) from s (placed term))) }
 {
     let Term { place, node } = term;
     match node {
@@ -118,7 +121,9 @@ fn substitute_one(
     shape: One,
     of: Box<Term>,
 ) -> Result<Built<Term>, Memory>
-    ensures { IfOk result (λ b. Puts by.old by.new (λ s. placed b.term ≡ at place (one_node shape (substitute (apply_at rank) from s (placed of.value))))) }
+    ensures { IfOk result (λ b. Puts by.old by.new
+        (λ s. placed b.term ≡ at place
+        (one_node shape (substitute (apply_at rank) from s (placed of.value))))) }
 {
     let of = substitute_box(alloc, rank, room, from, by, of)?;
     one(place, shape, of)
@@ -137,7 +142,10 @@ fn substitute_two(
     left: Box<Term>,
     right: Box<Term>,
 ) -> Result<Built<Term>, Memory>
-    ensures { IfOk result (λ b. Puts by.old by.new (λ s. placed b.term ≡ at place (two_node shape (substitute (apply_at rank) from s (placed left.value)) (substitute (apply_at rank) (inside shape from) s (placed right.value))))) }
+    ensures { IfOk result (λ b. Puts by.old by.new
+        (λ s. placed b.term ≡ at place
+        (two_node shape (substitute (apply_at rank) from s (placed left.value))
+        (substitute (apply_at rank) (inside shape from) s (placed right.value))))) }
 {
     let inner = shape.inside(from)?;
     let left = substitute_box(alloc, rank, room, from, by, left)?;
@@ -158,7 +166,11 @@ fn substitute_choice(
     yes: Box<Term>,
     no: Box<Term>,
 ) -> Result<Built<Term>, Memory>
-    ensures { IfOk result (λ b. Puts by.old by.new (λ s. placed b.term ≡ at place (PlacedNode.choose (substitute (apply_at rank) from s (placed test.value)) (substitute (apply_at rank) from s (placed yes.value)) (substitute (apply_at rank) from s (placed no.value))))) }
+    ensures { IfOk result (λ b. Puts by.old by.new
+        (λ s. placed b.term ≡ at place
+        (PlacedNode.choose (substitute (apply_at rank) from s (placed test.value))
+        (substitute (apply_at rank) from s (placed yes.value))
+        (substitute (apply_at rank) from s (placed no.value))))) }
 {
     let test = substitute_box(alloc, rank, room, from, by, test)?;
     let yes = substitute_box(alloc, rank, room, from, by, yes)?;
@@ -178,7 +190,10 @@ fn substitute_function(
     taken: Ty,
     body: Box<Term>,
 ) -> Result<Built<Term>, Memory>
-    ensures { IfOk result (λ b. Puts by.old by.new (λ s. placed b.term ≡ at place (PlacedNode.fun (type_tree taken) (substitute (apply_at rank) (from + 1) s (placed body.value))))) }
+    ensures { IfOk result (λ b. Puts by.old by.new
+        (λ s. placed b.term ≡ at place
+        (PlacedNode.fun (type_tree taken)
+        (substitute (apply_at rank) (from + 1) s (placed body.value))))) }
 {
     let body = substitute_box(alloc, rank, room, one_more(from)?, by, body)?;
     function(place, taken, body)
@@ -196,7 +211,10 @@ fn substitute_apply(
     func: Box<Term>,
     arg: Box<Term>,
 ) -> Result<Built<Term>, Memory>
-    ensures { IfOk result (λ b. Puts by.old by.new (λ s. placed b.term ≡ apply_at rank place (substitute (apply_at rank) from s (placed func.value)) (substitute (apply_at rank) from s (placed arg.value)))) }
+    ensures { IfOk result (λ b. Puts by.old by.new
+        (λ s. placed b.term ≡ apply_at rank place
+        (substitute (apply_at rank) from s (placed func.value))
+        (substitute (apply_at rank) from s (placed arg.value)))) }
 {
     let room = further(room, ARGUMENT)?;
     let func = substitute(alloc, rank, room, from, by, Box::into_inner(func))?;
@@ -216,7 +234,9 @@ fn substitute_field(
     of: Box<Term>,
     label: Label,
 ) -> Result<Built<Term>, Memory>
-    ensures { IfOk result (λ b. Puts by.old by.new (λ s. placed b.term ≡ field_by place label (substitute (apply_at rank) from s (placed of.value)))) }
+    ensures { IfOk result (λ b. Puts by.old by.new
+        (λ s. placed b.term ≡ field_by place label
+        (substitute (apply_at rank) from s (placed of.value)))) }
 {
     let of = substitute(alloc, rank, room, from, by, Box::into_inner(of))?;
     field(alloc, room, place, label, of)
@@ -232,7 +252,8 @@ fn substitute_box(
     by: &mut Slot,
     term: Box<Term>,
 ) -> Result<Part, Memory>
-    ensures { IfOk result (λ b. Puts by.old by.new (λ s. placed b.term.value ≡ substitute (apply_at rank) from s (placed term.value))) }
+    ensures { IfOk result (λ b. Puts by.old by.new
+        (λ s. placed b.term.value ≡ substitute (apply_at rank) from s (placed term.value))) }
 {
     let done = substitute(alloc, rank, room, from, by, Box::into_inner(term))?;
     let term = boxed(alloc, done.term)?;
@@ -252,7 +273,9 @@ fn substitute_fields(
     by: &mut Slot,
     fields: List<(Label, Term)>,
 ) -> Result<Built<List<(Label, Term)>>, Memory>
-    ensures { IfOk result (λ b. Puts by.old by.new (λ s. fields_with_places b.term ≡ map (λ f. (f.0, substitute (apply_at rank) from s f.1)) (fields_with_places fields))) }
+    ensures { IfOk result (λ b. Puts by.old by.new
+        (λ s. fields_with_places b.term ≡ map
+        (λ f. (f.0, substitute (apply_at rank) from s f.1)) (fields_with_places fields))) }
 {
     let mut all = List::new(alloc);
     let mut deep: u64 = 0;
@@ -281,7 +304,8 @@ pub(crate) fn apply(
     func: Built<Term>,
     arg: Built<Term>,
 ) -> Result<Built<Term>, Memory>
-    ensures { IfOk result (λ b. placed b.term ≡ apply_at rank place (placed func.term) (placed arg.term)) }
+    ensures { IfOk result (λ b.
+        placed b.term ≡ apply_at rank place (placed func.term) (placed arg.term)) }
 {
     if rank == 0 {
         applied(alloc, place, func, arg)
@@ -301,7 +325,9 @@ fn apply_above(
     func: Built<Term>,
     arg: Built<Term>,
 ) -> Result<Built<Term>, Memory>
-    ensures { IfOk result (λ b. placed b.term ≡ apply_by (substitute (apply_at rank) 0) place (placed func.term) (placed arg.term)) }
+    ensures { IfOk result (λ b.
+        placed b.term ≡ apply_by (substitute (apply_at rank) 0) place (placed func.term)
+        (placed arg.term)) }
 {
     let room = further(room, APPLY)?;
     apply_node(alloc, rank, room, place, func, arg)
@@ -316,7 +342,9 @@ fn apply_node(
     func: Built<Term>,
     arg: Built<Term>,
 ) -> Result<Built<Term>, Memory>
-    ensures { IfOk result (λ b. placed b.term ≡ apply_by (substitute (apply_at rank) 0) place (placed func.term) (placed arg.term)) }
+    ensures { IfOk result (λ b.
+        placed b.term ≡ apply_by (substitute (apply_at rank) 0) place (placed func.term)
+        (placed arg.term)) }
 {
     let Built { term, deep } = func;
     let Term { place: own, node } = term;
@@ -352,7 +380,8 @@ fn put_in(
     body: Term,
     arg: Built<Term>,
 ) -> Result<Built<Term>, Memory>
-    ensures { IfOk result (λ b. placed b.term ≡ substitute (apply_at rank) 0 (placed arg.term) (placed body)) }
+    ensures { IfOk result (λ b.
+        placed b.term ≡ substitute (apply_at rank) 0 (placed arg.term) (placed body)) }
 {
     let left = uses(&body, 0);
     let mut slot = Slot {
@@ -376,7 +405,11 @@ fn apply_branches(
     no: Box<Term>,
     arg: Built<Term>,
 ) -> Result<Built<Term>, Memory>
-    ensures { IfOk result (λ b. placed b.term ≡ at place (PlacedNode.choose (placed test.value) (apply_by (substitute (apply_at rank) 0) place (placed yes.value) (placed arg.term)) (apply_by (substitute (apply_at rank) 0) place (placed no.value) (placed arg.term)))) }
+    ensures { IfOk result (λ b.
+        placed b.term ≡ at place
+        (PlacedNode.choose (placed test.value)
+        (apply_by (substitute (apply_at rank) 0) place (placed yes.value) (placed arg.term))
+        (apply_by (substitute (apply_at rank) 0) place (placed no.value) (placed arg.term)))) }
 {
     let room = further(room, APPLY_BRANCHES)?;
     apply_two(alloc, rank, room, place, deep, test, yes, no, arg)
@@ -395,7 +428,11 @@ fn apply_two(
     no: Box<Term>,
     arg: Built<Term>,
 ) -> Result<Built<Term>, Memory>
-    ensures { IfOk result (λ b. placed b.term ≡ at place (PlacedNode.choose (placed test.value) (apply_by (substitute (apply_at rank) 0) place (placed yes.value) (placed arg.term)) (apply_by (substitute (apply_at rank) 0) place (placed no.value) (placed arg.term)))) }
+    ensures { IfOk result (λ b.
+        placed b.term ≡ at place
+        (PlacedNode.choose (placed test.value)
+        (apply_by (substitute (apply_at rank) 0) place (placed yes.value) (placed arg.term))
+        (apply_by (substitute (apply_at rank) 0) place (placed no.value) (placed arg.term)))) }
 {
     let again = arg.copy(alloc)?;
     apply_each(alloc, rank, room, place, deep, test, yes, again, no, arg)
@@ -415,7 +452,11 @@ fn apply_each(
     no: Box<Term>,
     arg: Built<Term>,
 ) -> Result<Built<Term>, Memory>
-    ensures { IfOk result (λ b. placed b.term ≡ at place (PlacedNode.choose (placed test.value) (apply_by (substitute (apply_at rank) 0) place (placed yes.value) (placed again.term)) (apply_by (substitute (apply_at rank) 0) place (placed no.value) (placed arg.term)))) }
+    ensures { IfOk result (λ b.
+        placed b.term ≡ at place
+        (PlacedNode.choose (placed test.value)
+        (apply_by (substitute (apply_at rank) 0) place (placed yes.value) (placed again.term))
+        (apply_by (substitute (apply_at rank) 0) place (placed no.value) (placed arg.term)))) }
 {
     let yes = opened(yes, deep);
     let yes = apply_above(alloc, rank, room, place, yes, again)?;

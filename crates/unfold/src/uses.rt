@@ -1,8 +1,8 @@
 // How often a variable is used.
 use nq_model::{Label, Node, Term};
 
-/// How many times the variable `k` stands in the term. Where it counts too few or too many, a value is copied
-/// or missed, and nothing else.
+/// How many times the variable `k` stands in the term. Where it counts too few or too many, a value
+/// is copied or missed, and nothing else.
 #[cycle(uses)]
 pub(crate) fn uses(term: &Term, k: u64) -> u64 {
     let under = k.saturating_add(1);

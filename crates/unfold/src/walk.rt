@@ -1,6 +1,7 @@
 // The walk over a whole query, in one pass.
 //
-// None of its calls goes into a term that was built on the way, but for applications of done functions.
+// None of its calls goes into a term that was built on the way, but for applications of done
+// functions.
 ghost use Rattle.std.specs.Prelude.{◌≡◌, ◌+◌, [], ◌∷◌, map, IfOk};
 ghost use Rattle.nq_model.specs.Terms.{placed, placed_fields, at, PlacedNode};
 ghost use Rattle.nq_model.specs.Substitution.{fields_with_places};
@@ -37,7 +38,8 @@ pub(crate) fn walk_query(
     walk(alloc, rank, ROOM, 0, &mut scope, term)
 }
 
-// What a part becomes under `level` binders that stay. `room` is how many bytes the stack may still grow.
+// What a part becomes under `level` binders that stay. `room` is how many bytes the stack may still
+// grow.
 #[cycle(walk)]
 fn walk(
     alloc: Global,
@@ -47,7 +49,8 @@ fn walk(
     scope: &mut Scope,
     term: Term,
 ) -> Result<Built<Term>, Memory>
-    ensures { IfOk result (λ b. Keeps scope.old scope.new (λ es. placed b.term ≡ walk_in rank level es (placed term))) }
+    ensures { IfOk result (λ b. Keeps scope.old scope.new
+        (λ es. placed b.term ≡ walk_in rank level es (placed term))) }
 {
     let room = further(room, WALK)?;
     walk_node(alloc, rank, room, level, scope, term)
@@ -62,7 +65,8 @@ fn walk_node(
     scope: &mut Scope,
     term: Term,
 ) -> Result<Built<Term>, Memory>
-    ensures { IfOk result (λ b. Keeps scope.old scope.new (λ es. placed b.term ≡ walk_in rank level es (placed term))) }
+    ensures { IfOk result (λ b. Keeps scope.old scope.new
+        (λ es. placed b.term ≡ walk_in rank level es (placed term))) }
 {
     let Term { place, node } = term;
     match node {
@@ -152,7 +156,8 @@ fn walk_box(
     scope: &mut Scope,
     term: Box<Term>,
 ) -> Result<Part, Memory>
-    ensures { IfOk result (λ b. Keeps scope.old scope.new (λ es. placed b.term.value ≡ walk_in rank level es (placed term.value))) }
+    ensures { IfOk result (λ b. Keeps scope.old scope.new
+        (λ es. placed b.term.value ≡ walk_in rank level es (placed term.value))) }
 {
     let done = walk(alloc, rank, room, level, scope, Box::into_inner(term))?;
     let term = boxed(alloc, done.term)?;
@@ -174,7 +179,9 @@ fn walk_one(
     shape: One,
     of: Box<Term>,
 ) -> Result<Built<Term>, Memory>
-    ensures { IfOk result (λ b. Keeps scope.old scope.new (λ es. placed b.term ≡ at place (one_node shape (walk_in rank level es (placed of.value))))) }
+    ensures { IfOk result (λ b. Keeps scope.old scope.new
+        (λ es. placed b.term ≡ at place
+        (one_node shape (walk_in rank level es (placed of.value))))) }
 {
     let of = walk_box(alloc, rank, room, level, scope, of)?;
     one(place, shape, of)
@@ -194,7 +201,10 @@ fn walk_two(
     left: Box<Term>,
     right: Box<Term>,
 ) -> Result<Built<Term>, Memory>
-    ensures { IfOk result (λ b. Keeps scope.old scope.new (λ es. placed b.term ≡ at place (two_node shape (walk_in rank level es (placed left.value)) (walk_in rank level es (placed right.value))))) }
+    ensures { IfOk result (λ b. Keeps scope.old scope.new
+        (λ es. placed b.term ≡ at place
+        (two_node shape (walk_in rank level es (placed left.value))
+        (walk_in rank level es (placed right.value))))) }
 {
     let left = walk_box(alloc, rank, room, level, scope, left)?;
     let right = walk_box(alloc, rank, room, level, scope, right)?;
@@ -214,7 +224,10 @@ fn walk_choice(
     yes: Box<Term>,
     no: Box<Term>,
 ) -> Result<Built<Term>, Memory>
-    ensures { IfOk result (λ b. Keeps scope.old scope.new (λ es. placed b.term ≡ at place (PlacedNode.choose (walk_in rank level es (placed test.value)) (walk_in rank level es (placed yes.value)) (walk_in rank level es (placed no.value))))) }
+    ensures { IfOk result (λ b. Keeps scope.old scope.new
+        (λ es. placed b.term ≡ at place
+        (PlacedNode.choose (walk_in rank level es (placed test.value))
+        (walk_in rank level es (placed yes.value)) (walk_in rank level es (placed no.value))))) }
 {
     let test = walk_box(alloc, rank, room, level, scope, test)?;
     let yes = walk_box(alloc, rank, room, level, scope, yes)?;
@@ -234,7 +247,10 @@ fn walk_for(
     source: Box<Term>,
     body: Box<Term>,
 ) -> Result<Built<Term>, Memory>
-    ensures { IfOk result (λ b. Keeps scope.old scope.new (λ es. placed b.term ≡ at place (PlacedNode.for (walk_in rank level es (placed source.value)) (walk_in rank (level + 1) (stays level ∷ es) (placed body.value))))) }
+    ensures { IfOk result (λ b. Keeps scope.old scope.new
+        (λ es. placed b.term ≡ at place
+        (PlacedNode.for (walk_in rank level es (placed source.value))
+        (walk_in rank (level + 1) (stays level ∷ es) (placed body.value))))) }
 {
     let source = walk_box(alloc, rank, room, level, scope, source)?;
     let body = walk_under(alloc, rank, room, level, scope, body)?;
@@ -252,7 +268,9 @@ fn walk_under(
     scope: &mut Scope,
     body: Box<Term>,
 ) -> Result<Part, Memory>
-    ensures { IfOk result (λ b. Keeps scope.old scope.new (λ es. placed b.term.value ≡ walk_in rank (level + 1) (stays level ∷ es) (placed body.value))) }
+    ensures { IfOk result (λ b. Keeps scope.old scope.new
+        (λ es. placed b.term.value
+        ≡ walk_in rank (level + 1) (stays level ∷ es) (placed body.value))) }
 {
     scope.enter(Binder::Stays(level))?;
     let inner = one_more(level)?;
@@ -277,7 +295,9 @@ fn walk_given(
     value: Box<Term>,
     body: Box<Term>,
 ) -> Result<Built<Term>, Memory>
-    ensures { IfOk result (λ b. Keeps scope.old scope.new (λ es. placed b.term ≡ walk_in rank level (given level (walk_in rank level es (placed value.value)) ∷ es) (placed body.value))) }
+    ensures { IfOk result (λ b. Keeps scope.old scope.new
+        (λ es. placed b.term ≡ walk_in rank level
+        (given level (walk_in rank level es (placed value.value)) ∷ es) (placed body.value))) }
 {
     let slot = walk_value(alloc, rank, room, level, scope, value)?;
     scope.enter(Binder::Given(level, slot))?;
@@ -297,7 +317,8 @@ fn walk_value(
     scope: &mut Scope,
     value: Box<Term>,
 ) -> Result<Slot, Memory>
-    ensures { IfOk result (λ slot. Keeps scope.old scope.new (λ es. Holds slot (walk_in rank level es (placed value.value)))) }
+    ensures { IfOk result (λ slot. Keeps scope.old scope.new
+        (λ es. Holds slot (walk_in rank level es (placed value.value)))) }
 {
     let left = scope.next_uses();
     if left == 0 {
@@ -323,7 +344,11 @@ fn walk_apply(
     func: Box<Term>,
     arg: Box<Term>,
 ) -> Result<Built<Term>, Memory>
-    ensures { IfOk result (λ b. Keeps scope.old scope.new (λ es. placed b.term ≡ taken_by (λ t. walk_in rank level (given level (walk_in rank level es (placed arg.value)) ∷ es) t) (apply_at rank place (walk_in rank level es (placed func.value)) (walk_in rank level es (placed arg.value))) (placed func.value))) }
+    ensures { IfOk result (λ b. Keeps scope.old scope.new
+        (λ es. placed b.term ≡ taken_by
+        (λ t. walk_in rank level (given level (walk_in rank level es (placed arg.value)) ∷ es) t)
+        (apply_at rank place (walk_in rank level es (placed func.value))
+        (walk_in rank level es (placed arg.value))) (placed func.value))) }
 {
     let Term { place: own, node } = Box::into_inner(func);
     match node {
@@ -353,7 +378,9 @@ fn walk_parts(
     func: Term,
     arg: Box<Term>,
 ) -> Result<Built<Term>, Memory>
-    ensures { IfOk result (λ b. Keeps scope.old scope.new (λ es. placed b.term ≡ apply_at rank place (walk_in rank level es (placed func)) (walk_in rank level es (placed arg.value)))) }
+    ensures { IfOk result (λ b. Keeps scope.old scope.new
+        (λ es. placed b.term ≡ apply_at rank place (walk_in rank level es (placed func))
+        (walk_in rank level es (placed arg.value)))) }
 {
     let room = further(room, ARGUMENT)?;
     walk_both(alloc, rank, room, level, scope, place, func, arg)
@@ -370,7 +397,9 @@ fn walk_both(
     func: Term,
     arg: Box<Term>,
 ) -> Result<Built<Term>, Memory>
-    ensures { IfOk result (λ b. Keeps scope.old scope.new (λ es. placed b.term ≡ apply_at rank place (walk_in rank level es (placed func)) (walk_in rank level es (placed arg.value)))) }
+    ensures { IfOk result (λ b. Keeps scope.old scope.new
+        (λ es. placed b.term ≡ apply_at rank place (walk_in rank level es (placed func))
+        (walk_in rank level es (placed arg.value)))) }
 {
     let func = walk(alloc, rank, room, level, scope, func)?;
     let arg = walk(alloc, rank, room, level, scope, Box::into_inner(arg))?;
@@ -389,7 +418,8 @@ fn walk_field(
     of: Box<Term>,
     label: Label,
 ) -> Result<Built<Term>, Memory>
-    ensures { IfOk result (λ b. Keeps scope.old scope.new (λ es. placed b.term ≡ field_by place label (walk_in rank level es (placed of.value)))) }
+    ensures { IfOk result (λ b. Keeps scope.old scope.new
+        (λ es. placed b.term ≡ field_by place label (walk_in rank level es (placed of.value)))) }
 {
     let Term { place: own, node } = Box::into_inner(of);
     match node {
@@ -420,7 +450,9 @@ fn walk_picked(
     fields: List<(Label, Term)>,
     label: Label,
 ) -> Result<Built<Term>, Memory>
-    ensures { IfOk result (λ b. Keeps scope.old scope.new (λ es. placed b.term ≡ field_by place label (at own (PlacedNode.rec (walk_each rank level es (placed_fields fields)))))) }
+    ensures { IfOk result (λ b. Keeps scope.old scope.new
+        (λ es. placed b.term ≡ field_by place label
+        (at own (PlacedNode.rec (walk_each rank level es (placed_fields fields)))))) }
 {
     match find(fields.as_slice(), &label) {
         Some(at) => {
@@ -451,7 +483,8 @@ fn walk_whole(
     of: Term,
     label: Label,
 ) -> Result<Built<Term>, Memory>
-    ensures { IfOk result (λ b. Keeps scope.old scope.new (λ es. placed b.term ≡ field_by place label (walk_in rank level es (placed of)))) }
+    ensures { IfOk result (λ b. Keeps scope.old scope.new
+        (λ es. placed b.term ≡ field_by place label (walk_in rank level es (placed of)))) }
 {
     let of = walk(alloc, rank, room, level, scope, of)?;
     field(alloc, room, place, label, of)
@@ -467,7 +500,9 @@ fn walk_fields(
     scope: &mut Scope,
     fields: List<(Label, Term)>,
 ) -> Result<Built<List<(Label, Term)>>, Memory>
-    ensures { IfOk result (λ b. Keeps scope.old scope.new (λ es. fields_with_places b.term ≡ map (λ f. (f.0, walk_in rank level es f.1)) (fields_with_places fields))) }
+    ensures { IfOk result (λ b. Keeps scope.old scope.new
+        (λ es. fields_with_places b.term ≡ map
+        (λ f. (f.0, walk_in rank level es f.1)) (fields_with_places fields))) }
 {
     let mut all = List::new(alloc);
     let mut deep: u64 = 0;
