@@ -10,11 +10,12 @@ use Rattle.sql_profile.specs.declared.tree.Query.{Query}
 use Rattle.sql_profile.specs.declared.tree.Select.{Select}
 use Rattle.sql_profile.specs.declared.tree.Item.{Item}
 use Rattle.sql_profile.specs.declared.tree.ItemValue.{ItemValue}
+use Rattle.sql_profile.specs.declared.tree.Link.{Link}
 use Rattle.sql_profile.specs.declared.tree.Source.{Source}
 use Rattle.sql_profile.specs.declared.tree.Expr.{Expr}
 use Rattle.sql_profile.specs.declared.tree.ExprNode.{ExprNode}
-use Rattle.sql_profile.specs.declared.tree.ExprNode.TheFolds.{fold-ExprNode, fold-Expr, fold-Picked, fold-Query, fold-Select, fold-Item, fold-ItemValue}
-use Rattle.sql_profile.specs.declared.tree.ExprNode.TheOpen.{ExprNode-F, Expr-F, Picked-F, Query-F, Select-F, Item-F, ItemValue-F}
+use Rattle.sql_profile.specs.declared.tree.ExprNode.TheFolds.{fold-ExprNode, fold-Expr, fold-Picked, fold-Query, fold-Select, fold-Item, fold-ItemValue, fold-Link}
+use Rattle.sql_profile.specs.declared.tree.ExprNode.TheOpen.{ExprNode-F, Expr-F, Picked-F, Query-F, Select-F, Item-F, ItemValue-F, Link-F}
 
 -- a source: its table or WITH query, and its alias
 pub record SourceTree : Type 0 where
@@ -107,6 +108,11 @@ mutual
     plain_at : PlacedExpr → PlacedValue
     number_at : PlacedExprs → PlacedValue
 
+-- one more part of a chain, on the right of the operator at a place
+pub record PlacedLink : Type 0 where
+  pub place : ℕ
+  pub right : PlacedExpr
+
 -- the sources of a scalar query, and what it keeps
 pub record PlacedPicked : Type 0 where
   pub from : List Source
@@ -160,6 +166,9 @@ abbrev mutual
   bare_value (plain_at e) = plain (bare_expr e)
   bare_value (number_at es) = number (bare_exprs es)
 
+abbrev pub bare_link : PlacedLink → ExprTree
+bare_link link = bare_expr link.right
+
 abbrev pub bare_with : PlacedWith → WithTree
 bare_with w = record { name = w.name; query = bare_query w.query }
 
@@ -183,58 +192,74 @@ abbrev pub keep_of : Option PlacedExpr → PlacedKeep
 keep_of None = keep_all_at
 keep_of (Some e) = keep_if_at e
 
+-- an expression and further ones behind it, each pair joined by the same operation, from the left
+abbrev pub chain : Binary → ExprTree → List ExprTree → ExprTree
+chain op first [] = first
+chain op first (right ∷ more) = chain op (binary op first right) more
+
+abbrev pub chain_at : Binary → PlacedExpr → List PlacedLink → PlacedExpr
+chain_at op first [] = first
+chain_at op first (link ∷ more) = chain_at op (binary_at link.place op first link.right) more
+
 -- the trees of the program's values: an expression's node is told its place
-abbrev pub node_layer : ExprNode-F (ℕ → PlacedExpr) PlacedValue PlacedExpr PlacedItem PlacedPicked PlacedQuery PlacedSelect → ℕ → PlacedExpr
+abbrev pub node_layer : ExprNode-F (ℕ → PlacedExpr) PlacedValue PlacedExpr PlacedItem PlacedLink PlacedPicked PlacedQuery PlacedSelect → ℕ → PlacedExpr
 node_layer (ExprNode-F.Int n) = λ p. int_at p n
 node_layer (ExprNode-F.Bool b) = λ p. bool_at p b
 node_layer (ExprNode-F.Text t) = λ p. text_at p t
 node_layer (ExprNode-F.Column a c) = λ p. column_at p a c
 node_layer (ExprNode-F.Unary op e) = λ p. unary_at p op e.value
 node_layer (ExprNode-F.Binary op l r) = λ p. binary_at p op l.value r.value
+node_layer (ExprNode-F.Chain op first more) = λ p. chain_at op first.value more
 node_layer (ExprNode-F.Choose t y n) = λ p. choose_at p t.value y.value n.value
 node_layer (ExprNode-F.NotExists q) = λ p. not_exists_at p q.value
 node_layer (ExprNode-F.Count k) = λ p. total_at p HowMany k.value.from k.value.keep (int_at p (pos 1))
 node_layer (ExprNode-F.Sum k e) = λ p. total_at p SumOf k.value.from k.value.keep e.value
 
-abbrev pub value_layer : ItemValue-F (ℕ → PlacedExpr) PlacedValue PlacedExpr PlacedItem PlacedPicked PlacedQuery PlacedSelect → PlacedValue
+abbrev pub value_layer : ItemValue-F (ℕ → PlacedExpr) PlacedValue PlacedExpr PlacedItem PlacedLink PlacedPicked PlacedQuery PlacedSelect → PlacedValue
 value_layer (ItemValue-F.Plain e) = plain_at e
 value_layer (ItemValue-F.Number es) = number_at (exprs_of es)
 
-abbrev pub expr_layer : Expr-F (ℕ → PlacedExpr) PlacedValue PlacedExpr PlacedItem PlacedPicked PlacedQuery PlacedSelect → PlacedExpr
+abbrev pub expr_layer : Expr-F (ℕ → PlacedExpr) PlacedValue PlacedExpr PlacedItem PlacedLink PlacedPicked PlacedQuery PlacedSelect → PlacedExpr
 expr_layer e = e.node e.place
 
-abbrev pub item_layer : Item-F (ℕ → PlacedExpr) PlacedValue PlacedExpr PlacedItem PlacedPicked PlacedQuery PlacedSelect → PlacedItem
+abbrev pub item_layer : Item-F (ℕ → PlacedExpr) PlacedValue PlacedExpr PlacedItem PlacedLink PlacedPicked PlacedQuery PlacedSelect → PlacedItem
 item_layer i = item_at i.place i.name i.value
 
-abbrev pub picked_layer : Picked-F (ℕ → PlacedExpr) PlacedValue PlacedExpr PlacedItem PlacedPicked PlacedQuery PlacedSelect → PlacedPicked
+abbrev pub link_layer : Link-F (ℕ → PlacedExpr) PlacedValue PlacedExpr PlacedItem PlacedLink PlacedPicked PlacedQuery PlacedSelect → PlacedLink
+link_layer l = record { place = l.place; right = l.right }
+
+abbrev pub picked_layer : Picked-F (ℕ → PlacedExpr) PlacedValue PlacedExpr PlacedItem PlacedLink PlacedPicked PlacedQuery PlacedSelect → PlacedPicked
 picked_layer k = record { from = k.from; keep = keep_of k.keep }
 
-abbrev pub query_layer : Query-F (ℕ → PlacedExpr) PlacedValue PlacedExpr PlacedItem PlacedPicked PlacedQuery PlacedSelect → PlacedQuery
+abbrev pub query_layer : Query-F (ℕ → PlacedExpr) PlacedValue PlacedExpr PlacedItem PlacedLink PlacedPicked PlacedQuery PlacedSelect → PlacedQuery
 query_layer q = query_of q.selects
 
-abbrev pub select_layer : Select-F (ℕ → PlacedExpr) PlacedValue PlacedExpr PlacedItem PlacedPicked PlacedQuery PlacedSelect → PlacedSelect
+abbrev pub select_layer : Select-F (ℕ → PlacedExpr) PlacedValue PlacedExpr PlacedItem PlacedLink PlacedPicked PlacedQuery PlacedSelect → PlacedSelect
 select_layer s = select_at s.place (items_of s.items) s.from (keep_of s.keep)
 
 abbrev pub placed_node : ExprNode → ℕ → PlacedExpr
-placed_node = fold-ExprNode (ℕ → PlacedExpr) PlacedValue PlacedExpr PlacedItem PlacedPicked PlacedQuery PlacedSelect node_layer value_layer expr_layer item_layer picked_layer query_layer select_layer
+placed_node = fold-ExprNode (ℕ → PlacedExpr) PlacedValue PlacedExpr PlacedItem PlacedLink PlacedPicked PlacedQuery PlacedSelect node_layer value_layer expr_layer item_layer link_layer picked_layer query_layer select_layer
 
 abbrev pub placed_value : ItemValue → PlacedValue
-placed_value = fold-ItemValue (ℕ → PlacedExpr) PlacedValue PlacedExpr PlacedItem PlacedPicked PlacedQuery PlacedSelect node_layer value_layer expr_layer item_layer picked_layer query_layer select_layer
+placed_value = fold-ItemValue (ℕ → PlacedExpr) PlacedValue PlacedExpr PlacedItem PlacedLink PlacedPicked PlacedQuery PlacedSelect node_layer value_layer expr_layer item_layer link_layer picked_layer query_layer select_layer
 
 abbrev pub placed_expr : Expr → PlacedExpr
-placed_expr = fold-Expr (ℕ → PlacedExpr) PlacedValue PlacedExpr PlacedItem PlacedPicked PlacedQuery PlacedSelect node_layer value_layer expr_layer item_layer picked_layer query_layer select_layer
+placed_expr = fold-Expr (ℕ → PlacedExpr) PlacedValue PlacedExpr PlacedItem PlacedLink PlacedPicked PlacedQuery PlacedSelect node_layer value_layer expr_layer item_layer link_layer picked_layer query_layer select_layer
 
 abbrev pub placed_item : Item → PlacedItem
-placed_item = fold-Item (ℕ → PlacedExpr) PlacedValue PlacedExpr PlacedItem PlacedPicked PlacedQuery PlacedSelect node_layer value_layer expr_layer item_layer picked_layer query_layer select_layer
+placed_item = fold-Item (ℕ → PlacedExpr) PlacedValue PlacedExpr PlacedItem PlacedLink PlacedPicked PlacedQuery PlacedSelect node_layer value_layer expr_layer item_layer link_layer picked_layer query_layer select_layer
+
+abbrev pub placed_link : Link → PlacedLink
+placed_link = fold-Link (ℕ → PlacedExpr) PlacedValue PlacedExpr PlacedItem PlacedLink PlacedPicked PlacedQuery PlacedSelect node_layer value_layer expr_layer item_layer link_layer picked_layer query_layer select_layer
 
 abbrev pub placed_picked : Picked → PlacedPicked
-placed_picked = fold-Picked (ℕ → PlacedExpr) PlacedValue PlacedExpr PlacedItem PlacedPicked PlacedQuery PlacedSelect node_layer value_layer expr_layer item_layer picked_layer query_layer select_layer
+placed_picked = fold-Picked (ℕ → PlacedExpr) PlacedValue PlacedExpr PlacedItem PlacedLink PlacedPicked PlacedQuery PlacedSelect node_layer value_layer expr_layer item_layer link_layer picked_layer query_layer select_layer
 
 abbrev pub placed_query : Query → PlacedQuery
-placed_query = fold-Query (ℕ → PlacedExpr) PlacedValue PlacedExpr PlacedItem PlacedPicked PlacedQuery PlacedSelect node_layer value_layer expr_layer item_layer picked_layer query_layer select_layer
+placed_query = fold-Query (ℕ → PlacedExpr) PlacedValue PlacedExpr PlacedItem PlacedLink PlacedPicked PlacedQuery PlacedSelect node_layer value_layer expr_layer item_layer link_layer picked_layer query_layer select_layer
 
 abbrev pub placed_select : Select → PlacedSelect
-placed_select = fold-Select (ℕ → PlacedExpr) PlacedValue PlacedExpr PlacedItem PlacedPicked PlacedQuery PlacedSelect node_layer value_layer expr_layer item_layer picked_layer query_layer select_layer
+placed_select = fold-Select (ℕ → PlacedExpr) PlacedValue PlacedExpr PlacedItem PlacedLink PlacedPicked PlacedQuery PlacedSelect node_layer value_layer expr_layer item_layer link_layer picked_layer query_layer select_layer
 
 abbrev pub placed_with : With → PlacedWith
 placed_with w = record { name = w.name; place = w.place; query = placed_query w.query }
@@ -245,6 +270,9 @@ placed t = record { withs = map placed_with t.withs; main = placed_query t.main 
 -- the trees without places
 abbrev pub expr_tree : Expr → ExprTree
 expr_tree e = bare_expr (placed_expr e)
+
+abbrev pub link_tree : Link → ExprTree
+link_tree l = bare_link (placed_link l)
 
 abbrev pub query_tree : Query → QueryTree
 query_tree q = bare_query (placed_query q)

@@ -1,5 +1,5 @@
 // Laws of the definitions, each on a function that does nothing.
-ghost use Rattle.std.specs.Prelude.{◌≡◌, ◌≢◌, ◌<◌, ◌^◌, ◌↔◌, ◌⊎◌, ◌++◌, ◌∷◌, ℕ, List, All, Contains, Some, None, false, length, map, zip};
+ghost use Rattle.std.specs.Prelude.{◌≡◌, ◌≢◌, ◌<◌, ◌^◌, ◌↔◌, ◌⊎◌, ◌++◌, ◌∷◌, [], ℕ, List, All, Contains, Some, None, false, length, map, zip};
 ghost use Rattle.std.specs.List.{AllByRecursion as Each};
 ghost use Rattle.std.specs.Str.{IsUtf8};
 ghost use Rattle.nq_model.specs.Bags.{Reordered};
@@ -10,6 +10,7 @@ ghost use Rattle.nq_model.specs.Orders.{AreDistinct};
 ghost use Rattle.nq_model.specs.Tables.{Columns, names_of, types_of};
 ghost use Rattle.nq_model.specs.declared.table.Cell.{Cell};
 ghost use Rattle.nq_model.specs.declared.table.TableShape.{TableShape};
+ghost use Rattle.nq_model.specs.declared.term.Binary.{Binary};
 ghost use Rattle.nq_model.specs.NamedRows.{NamedTables};
 ghost use Rattle.sql_profile.specs.AllowedAnswers.{Scope, TreeAllows, ValueGives};
 ghost use Rattle.sql_profile.specs.NumberedKeys.{IsNthOf, keys_of, number_cells};
@@ -19,7 +20,7 @@ ghost use Rattle.sql_profile.specs.Servers.{filled_of, held_of, table_names};
 ghost use Rattle.sql_profile.specs.Spellable.{IsSpellable};
 ghost use Rattle.sql_profile.specs.Texts.{Fault, HasFault, IsAskable, Spells, TextAllows};
 ghost use Rattle.sql_profile.specs.Tokens.{Edition, First};
-ghost use Rattle.sql_profile.specs.Trees.{ExprTrees, PlacedSql, SqlTree, bare, number};
+ghost use Rattle.sql_profile.specs.Trees.{ExprTree, ExprTrees, PlacedExpr, PlacedLink, PlacedSql, SqlTree, bare, bare_expr, bare_link, binary, binary_at, chain, chain_at, number};
 ghost use Rattle.sql_profile.specs.declared.server.Loaded.{Loaded};
 
 /// A text spells exactly one tree, or has exactly one fault, at each depth. A depth of its own
@@ -55,6 +56,19 @@ pub fn scope_laws()
         → Each (λ n. name ≢ n) (names_in others) → found name others ≡ None }
     ensures not_among { (name : List ℕ) (names : List (List ℕ)) → (among name names ≡ false) ↔ Each
         (λ n. name ≢ n) names }
+{}
+
+/// The last link of a chain is its outermost operation. The places of a chain are those of its
+/// links, and without them it joins the same parts.
+pub fn chain_laws()
+    ensures one_more { (op : Binary) (first : PlacedExpr) (more : List PlacedLink)
+        (link : PlacedLink)
+        → chain_at op first (more ++ link ∷ [])
+        ≡ binary_at link.place op (chain_at op first more) link.right }
+    ensures bare_more { (op : Binary) (first : ExprTree) (more : List ExprTree) (right : ExprTree)
+        → chain op first (more ++ right ∷ []) ≡ binary op (chain op first more) right }
+    ensures bare_of { (op : Binary) (first : PlacedExpr) (more : List PlacedLink)
+        → bare_expr (chain_at op first more) ≡ chain op (bare_expr first) (map bare_link more) }
 {}
 
 /// What SQL allows as an answer. A tree that is well scoped over tables whose rows fit allows only

@@ -8,6 +8,10 @@ mod server;
 mod tree;
 
 pub use answer::{Answer, Misfit, fits, misfit_laws};
-pub use laws::{answer_laws, ask_laws, loaded_laws, printing_laws, scope_laws, text_laws};
+pub use laws::{
+    answer_laws, ask_laws, chain_laws, loaded_laws, printing_laws, scope_laws, text_laws,
+};
 pub use server::{Loaded, ServerFault, SqlServer, ask_text, load_table};
-pub use tree::{Expr, ExprNode, Item, ItemValue, Picked, Query, Select, Source, SqlText, With};
+pub use tree::{
+    Expr, ExprNode, Item, ItemValue, Link, Picked, Query, Select, Source, SqlText, With,
+};

@@ -66,9 +66,13 @@ pub struct Expr {
     pub node: ExprNode,
 }
 
-/// What an expression is. An `Int` is from 0 to 2^63 - 1. A `Choose` is a CASE of one test, and
-/// `NotExists` asks whether no SELECT of the query has a row. `Count` and `Sum` are scalar queries:
-/// how many combinations are kept, and the sum of a value over them, at 64 bits.
+/// What an expression is. An `Int` is from 0 to 2^63 - 1. A `Chain` is the `Binary` operations
+/// `((first op right) op right) ..`, grouped to the left, in a flat list, so that long sums and
+/// conditions are no deeper than their parts. It stands at the places of its links, and at that of
+/// `first` where it has none; the place beside the node, that of the last link, tells nothing more.
+/// A `Choose` is a CASE of one test, and `NotExists` asks whether no SELECT of the query has a row.
+/// `Count` and `Sum` are scalar queries: how many combinations are kept, and the sum of a value
+/// over them, at 64 bits.
 #[cycle(sql)]
 #[derive(Drop)]
 pub enum ExprNode {
@@ -88,6 +92,11 @@ pub enum ExprNode {
         left: Box<Expr>,
         right: Box<Expr>,
     },
+    Chain {
+        op: Binary,
+        first: Box<Expr>,
+        more: List<Link>,
+    },
     Choose {
         test: Box<Expr>,
         yes: Box<Expr>,
@@ -99,6 +108,14 @@ pub enum ExprNode {
         over: Box<Picked>,
         value: Box<Expr>,
     },
+}
+
+/// One more part of a chain, on the right of the operator at this place.
+#[cycle(sql)]
+#[derive(Drop)]
+pub struct Link {
+    pub place: u64,
+    pub right: Expr,
 }
 
 /// The sources of a scalar query, and the condition after WHERE.
