@@ -2,3 +2,4 @@ pub mod Quotes
 pub mod Items
 pub mod Texts
 pub mod Totals
+pub mod Chains

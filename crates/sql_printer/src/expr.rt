@@ -3,12 +3,13 @@ ghost use Rattle.std.specs.Prelude.{◌≡◌, ◌++◌, OnOk, codes, string_byt
 ghost use Rattle.sql_profile.specs.Printed.{before_operand, between_operands, printed_expr, printed_from, printed_keep, printed_keys};
 ghost use Rattle.sql_profile.specs.Parts.{exprs_tree, picked_from, picked_keep};
 ghost use Rattle.sql_profile.specs.Trees.{column, expr_tree, not_exists, query_tree, unary};
+ghost use Rattle.sql_printer.specs.Chains.{openings, printed_links};
 
 use crate::from::put_from;
 use crate::literal::{put_lead, put_literal, put_name, put_truth};
 use crate::query::{put_keep, put_query};
 use nq_model::{Binary, Label, Memory, Unary};
-use sql_profile::{Expr, ExprNode, Picked, Query};
+use sql_profile::{Expr, ExprNode, Link, Picked, Query};
 
 // The expression, with each operation in parentheses.
 #[cycle(put)]
@@ -26,6 +27,11 @@ pub(crate) fn put_expr(text: &mut String, expr: &Expr) -> Result<(), Memory>
             text.push_str("(")?;
             put_part(text, left, between_operands(*op))?;
             put_part(text, right, ")")
+        }
+        ExprNode::Chain { op, first, more } => {
+            put_openings(text, more.len())?;
+            put_expr(text, first)?;
+            put_links(text, *op, more.as_slice())
         }
         ExprNode::Choose { test, yes, no } => {
             text.push_str("CASE WHEN ")?;
@@ -74,6 +80,29 @@ fn put_unary(text: &mut String, op: Unary, of: &Expr) -> Result<(), Memory>
     text.push_str("(")?;
     text.push_str(before_operand(op))?;
     put_part(text, of, ")")
+}
+
+// The parentheses that a chain of so many links opens.
+fn put_openings(text: &mut String, links: usize) -> Result<(), Memory>
+    ensures { OnOk result (string_bytes text.new ≡ string_bytes text.old ++ openings links) }
+{
+    for _ in 0..links {
+        text.push_str("(")?;
+    }
+    Ok(())
+}
+
+// What stands behind the first part of a chain.
+#[cycle(put)]
+fn put_links(text: &mut String, op: Binary, links: &[Link]) -> Result<(), Memory>
+    ensures { OnOk result (string_bytes text.new
+        ≡ string_bytes text.old ++ printed_links op links.now) }
+{
+    for link in links {
+        text.push_str(between_operands(op))?;
+        put_part(text, &link.right, ")")?;
+    }
+    Ok(())
 }
 
 #[cycle(put)]

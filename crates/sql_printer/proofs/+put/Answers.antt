@@ -2,10 +2,21 @@ use Rattle.std.proofs.Common.{[], ◌++◌, codes, string_bytes, sym, ap, ◌∙
 use Rattle.sql_profile.specs.Parts.{selects_tree}
 use Rattle.sql_profile.specs.Printed.{printed_query}
 use Rattle.sql_profile.proofs.Parts.{query_is}
+use Rattle.sql_printer.proofs.Chains.{chain_written, choice_written}
 use Rattle.sql_printer.proofs.Items.{item_text, items_joined, key_text, keys_joined, parts_end, select_text, selects_joined}
 use Rattle.sql_printer.proofs.Texts.{three_pieces}
 use Rattle.sql_printer.proofs.Totals.{count_printed, on_ok, sum_printed}
 use Rattle.sql_printer.proofs.+put.Goals as goal
+
+pub expr::put_expr-returns-in_ok-put_expr-in-Chain : goal.expr::put_expr-returns-in_ok-put_expr-in-Chain
+expr::put_expr-returns-in_ok-put_expr-in-Chain t c =
+    on_ok c.put_links.result (chain_written c.args.expr.now c.in-Chain.op c.in-Chain.first c.in-Chain.more c.as_slice.result.now c.len.result c.deref-in-Chain.result.now (string_bytes c.args.text.now) _ _ _ c.in-Chain.is c.deref-in-Chain.ensures
+    c.len.ensures c.as_slice.ensures c.in_ok-put_openings-in-Chain.ensures c.in_ok-put_expr-in-Chain.ensures) c.put_links.ensures
+
+pub expr::put_expr-returns-in_ok-put_part-in-Choose-2 : goal.expr::put_expr-returns-in_ok-put_part-in-Choose-2
+expr::put_expr-returns-in_ok-put_part-in-Choose-2 t c =
+    on_ok c.put_part-in-Choose-3.result (choice_written c.args.expr.now c.in-Choose.test c.in-Choose.yes c.in-Choose.no c.deref-in-Choose.result.now c.deref-in-Choose-2.result.now c.deref-in-Choose-3.result.now (string_bytes c.args.text.now) _ _ _ _
+    c.in-Choose.is c.deref-in-Choose.ensures c.deref-in-Choose-2.ensures c.deref-in-Choose-3.ensures c.in_ok-push_str-in-Choose.ensures.bytes c.in_ok-put_part-in-Choose.ensures c.in_ok-put_part-in-Choose-2.ensures) c.put_part-in-Choose-3.ensures
 
 pub expr::put_expr-returns-in_ok-push_str-in-Count : goal.expr::put_expr-returns-in_ok-push_str-in-Count
 expr::put_expr-returns-in_ok-push_str-in-Count t c =
