@@ -8,7 +8,7 @@ use nq_model::Memory;
 const MOST_LEVELS: u64 = 2000;
 
 /// How deep a part is in the text, and how many levels of expressions its tree has, where
-/// parentheses are none.
+/// parentheses are none and a chain is one.
 #[derive(Clone, Copy)]
 pub struct Extent {
     pub depth: u64,
@@ -79,4 +79,17 @@ pub fn deeper(inner: Extent) -> Result<Extent, Memory>
     } else {
         Err(Memory)
     }
+}
+
+/// That of a chain with one more part behind it. However long it is, its tree has one level more
+/// than its deepest part; want of memory where that is too many.
+pub fn longer(chain: Extent, part: Extent) -> Result<Extent, Memory>
+    ensures { IfOk result (λ whole. whole.depth ≡ suc (max chain.depth part.depth)) }
+{
+    let beside = deeper(part)?;
+    let depth = one_more(chain.depth.max(part.depth))?;
+    Ok(Extent {
+        depth,
+        levels: chain.levels.max(beside.levels),
+    })
 }

@@ -4,6 +4,7 @@
 mod begin;
 mod behind;
 mod between;
+mod chain;
 mod extent;
 mod fault;
 mod fits;

@@ -5,11 +5,12 @@ ghost use Rattle.sql_profile.specs.Trees.{placed_node, placed_picked};
 ghost use Rattle.sql_reader.specs.Parts.{binary, choice, in_parens, leaf, minus, negation, not_exists, scalar, scalar_tree};
 ghost use Rattle.sql_reader.specs.Views.{boxed_tree, kept_tree, part_view, scalar_view, selects_view};
 
+use crate::chain::{Chain, chain_extent, chain_of, is_chained};
 use crate::extent::{Extent, deeper, enclosed, flat, greater};
 use crate::levels::level;
 use crate::lists::{Scalar, Selects};
 use nq_model::{Binary, List, Memory, Unary, boxed};
-use sql_profile::{Expr, ExprNode, Picked, Query, Source};
+use sql_profile::{Expr, ExprNode, Link, Picked, Query, Source};
 use std::alloc::Global;
 
 /// An expression, the level at which it may stand, and how deep it is.
@@ -154,6 +155,18 @@ pub fn binary(
     ensures { IfOk result (λ whole.
         part_view whole ≡ binary (part_view left) place op (part_view right)) }
 {
+    if is_chained(op) {
+        chained(alloc, left, place, op, right)
+    } else {
+        paired(alloc, left, place, op, right)
+    }
+}
+
+// Two expressions in a node of their own.
+fn paired(alloc: Global, left: Part, place: u64, op: Binary, right: Part) -> Result<Part, Memory>
+    ensures { IfOk result (λ whole.
+        part_view whole ≡ binary (part_view left) place op (part_view right)) }
+{
     let extent = deeper(greater(left.extent, right.extent))?;
     let node = ExprNode::Binary {
         op,
@@ -161,4 +174,28 @@ pub fn binary(
         right: right.expr,
     };
     made(alloc, place, node, level(op), extent)
+}
+
+// The right expression as one more link of the left one, which is a chain or begins one.
+#[tactic(auto, using(crate::proofs::Putting::link_put))]
+fn chained(alloc: Global, left: Part, place: u64, op: Binary, right: Part) -> Result<Part, Memory>
+    ensures { IfOk result (λ whole.
+        part_view whole ≡ binary (part_view left) place op (part_view right)) }
+{
+    let before = left.extent;
+    let behind = right.extent;
+    let Chain { first, links } = chain_of(alloc, op, left.expr)?;
+    let extent = chain_extent(links.len(), before, behind)?;
+    let mut more = links;
+    more.push(Link {
+        place,
+        right: Box::into_inner(right.expr),
+    })?;
+    made(
+        alloc,
+        place,
+        ExprNode::Chain { op, first, more },
+        level(op),
+        extent,
+    )
 }
