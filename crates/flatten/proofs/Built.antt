@@ -7,9 +7,11 @@ use Rattle.nq_model.specs.NamedRows.{Label}
 use Rattle.nq_model.specs.declared.term.Unary.{Unary}
 use Rattle.nq_model.specs.declared.term.Binary.{Binary}
 use Rattle.sql_profile.specs.declared.tree.Expr.{Expr}
+use Rattle.sql_profile.specs.declared.tree.Link.{Link}
 use Rattle.sql_profile.specs.declared.tree.Query.{Query}
 use Rattle.sql_profile.specs.declared.tree.ExprNode.TheVariants as node
-use Rattle.sql_profile.specs.Trees.{ExprTree, bare_expr, expr_tree, query_tree, placed_node, PlacedPicked, bare_source, bare_keep}
+use Rattle.sql_profile.specs.Trees.{ExprTree, bare_expr, chain, expr_tree, link_tree, query_tree, placed_node, PlacedPicked, bare_source, bare_keep}
+use Rattle.sql_profile.proofs.Parts.{chain_is, link_is}
 use Rattle.sql_profile.proofs.Trees.{expr_placed, node_int, node_bool, node_text, node_column, node_unary, node_binary, node_choose, node_not_exists, node_count, node_sum, picked_placed}
 
 pub expr_built : (e : Expr) → expr_tree e ≡ bare_expr (placed_node e.node e.place)
@@ -32,6 +34,12 @@ unary_built p op e = expr_built (record { place = p; node = node.Unary op e }) �
 
 pub binary_built : (p : ℕ) (op : Binary) (l r : Box Expr Global) → expr_tree (record { place = p; node = node.Binary op l r }) ≡ ExprTree.binary op (expr_tree l.value) (expr_tree r.value)
 binary_built p op l r = expr_built (record { place = p; node = node.Binary op l r }) ∙ ap bare_expr (node_binary op l r p)
+
+pub chain_built : (p : ℕ) (op : Binary) (first : Box Expr Global) (more : List Link) → expr_tree (record { place = p; node = node.Chain op first more }) ≡ chain op (expr_tree first.value) (map link_tree more)
+chain_built p op first more = expr_built (record { place = p; node = node.Chain op first more }) ∙ chain_is op first more p
+
+pub link_built : (p : ℕ) (e : Expr) → link_tree (record { place = p; right = e }) ≡ expr_tree e
+link_built p e = link_is (record { place = p; right = e })
 
 pub choose_built : (p : ℕ) (t y n : Box Expr Global) → expr_tree (record { place = p; node = node.Choose t y n }) ≡ ExprTree.choose (expr_tree t.value) (expr_tree y.value) (expr_tree n.value)
 choose_built p t y n = expr_built (record { place = p; node = node.Choose t y n }) ∙ ap bare_expr (node_choose t y n p)

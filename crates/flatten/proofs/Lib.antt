@@ -18,3 +18,4 @@ pub mod Examples
 pub mod Built
 pub mod Lists
 pub mod Clauses
+pub mod Chains

@@ -22,7 +22,7 @@ use Rattle.sql_profile.specs.declared.tree.ExprNode.TheVariants as node
 use Rattle.sql_profile.specs.declared.tree.Query.{Query, out-Query, fold-roll-Query, roll-Query}
 use Rattle.sql_profile.specs.declared.tree.Select.{Select, out-Select}
 use Rattle.sql_profile.specs.declared.tree.With.{With}
-use Rattle.sql_profile.specs.Trees.{SourceTree, WithTree, bare_with, placed_with, with_tree, PlacedExpr, PlacedItem, PlacedPicked, picked_layer, PlacedQuery, PlacedSelect, PlacedValue, node_layer, value_layer, expr_layer, item_layer, query_layer, select_layer, query_of, placed_query, placed_select, ExprTree, ExprTrees, then_expr, then_select, select, no_item, then_item, ValueTree, plain, number, bare_query, bare_select, bare_items, bare_source, bare_value, expr_tree, query_tree, select_tree, items_of, placed_item}
+use Rattle.sql_profile.specs.Trees.{SourceTree, WithTree, bare_with, placed_with, with_tree, PlacedExpr, PlacedItem, PlacedLink, PlacedPicked, link_layer, picked_layer, PlacedQuery, PlacedSelect, PlacedValue, node_layer, value_layer, expr_layer, item_layer, query_layer, select_layer, query_of, placed_query, placed_select, ExprTree, ExprTrees, then_expr, then_select, select, no_item, then_item, ValueTree, plain, number, bare_query, bare_select, bare_items, bare_source, bare_value, expr_tree, query_tree, select_tree, items_of, placed_item}
 use Rattle.sql_profile.proofs.Trees.{query_placed, select_placed, item_placed, value_plain, value_number}
 use Rattle.flatten.specs.Names.{one_name, outer_column, number_name, answer_name, let_alias, with_name}
 use Rattle.flatten.specs.Exprs.{column_expr, one_item, tests_query, base_expr, order_keys}
@@ -148,7 +148,7 @@ pub let_done : (S : List TableShape) (gens : List Gen) (es : List Expr) (is : Li
 let_done S gens es is k h = let_listed S gens (order_keys none_outer (columns_in (column_names S) gens)) is (h ∙ ap (λ e. gens_items S gens ++ (number_name, number e) ∷ []) k)
 
 query_made : (ss : List Select) → placed_query (roll-Query (record { selects = ss })) ≡ query_of (map placed_select ss)
-query_made ss = fold-roll-Query (ℕ → PlacedExpr) PlacedValue PlacedExpr PlacedItem PlacedPicked PlacedQuery PlacedSelect node_layer value_layer expr_layer item_layer picked_layer query_layer select_layer (record { selects = ss })
+query_made ss = fold-roll-Query (ℕ → PlacedExpr) PlacedValue PlacedExpr PlacedItem PlacedLink PlacedPicked PlacedQuery PlacedSelect node_layer value_layer expr_layer item_layer link_layer picked_layer query_layer select_layer (record { selects = ss })
 
 pub not_exists_of : (p : ℕ) (q : Box Query Global) (ss : List Select) → q.value ≡ roll-Query (record { selects = ss }) → expr_tree (record { place = p; node = node.NotExists q }) ≡ ExprTree.not_exists (query_from (map select_tree ss))
 not_exists_of p q ss e = not_exists_built p q ∙ ap (λ (z : Query). ExprTree.not_exists (query_tree z)) e ∙ ap (λ z. ExprTree.not_exists (bare_query z)) (query_made ss) ∙ ap ExprTree.not_exists (selects_listed ss)

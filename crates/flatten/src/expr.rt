@@ -1,11 +1,10 @@
 // Base terms as expressions, and conditions as what stands behind WHERE.
-ghost use Rattle.std.specs.Prelude.{◌≡◌, IfOk, cond, map, pos};
+ghost use Rattle.std.specs.Prelude.{◌≡◌, ◌+◌, IfOk, cond, map, pos};
 ghost use Rattle.nq_model.specs.Totals.{HowMany};
-ghost use Rattle.nq_model.specs.declared.term.Binary.TheVariants.{And};
-ghost use Rattle.nq_ir.specs.Trees.{BaseTree, base_tree, test_part, tests_of, conds_tree};
-ghost use Rattle.sql_profile.specs.Trees.{ExprTree, expr_tree, query_tree, select_tree};
+ghost use Rattle.nq_ir.specs.Trees.{BaseTree, base_tree, test_part, tests_of, conds_of, conds_tree};
+ghost use Rattle.sql_profile.specs.Trees.{ExprTree, chain as sql_chain, expr_tree, link_tree, query_tree, select_tree};
 ghost use Rattle.flatten.specs.Names.{let_alias, alias, outer_column};
-ghost use Rattle.flatten.specs.Exprs.{base_expr, conds_keep, one_item};
+ghost use Rattle.flatten.specs.Exprs.{base_expr, conds_keep, joined, one_item};
 ghost use Rattle.flatten.specs.Emitted.{in_gens};
 ghost use Rattle.flatten.specs.Views.{keep_tree, items_tree, picked_tree, query_from, test_picked, test_select};
 
@@ -13,7 +12,7 @@ use crate::names::{alias, let_alias, one_name, outer_column};
 use crate::source::sources;
 use nq_ir::{Base, Gen, Test};
 use nq_model::{Binary, Label, List, Memory, boxed};
-use sql_profile::{Expr, ExprNode, Item, ItemValue, Picked, Query, Select};
+use sql_profile::{Expr, ExprNode, Item, ItemValue, Link, Picked, Query, Select};
 use std::alloc::Global;
 
 /// Whether the generator with a number is one of these.
@@ -56,29 +55,20 @@ pub(crate) fn column(
     })
 }
 
-// How many levels are left below some more. The stack is memory, so a deeper tree is want of
+// How many levels are left below one more. The stack is memory, so a deeper tree is want of
 // memory.
-fn below(levels: u64, more: usize) -> Result<u64, Memory> {
-    match levels.checked_sub(more as u64) {
+fn below(levels: u64) -> Result<u64, Memory>
+    ensures { IfOk result (λ left. left + 1 ≡ levels) }
+{
+    match levels.checked_sub(1) {
         Some(left) => Ok(left),
         None => Err(Memory),
     }
 }
 
-// Both hold.
-#[tactic(auto, using(crate::proofs::Built::binary_built))]
-fn both(alloc: Global, left: Expr, right: Expr) -> Result<Expr, Memory>
-    ensures { IfOk result (λ made.
-        expr_tree made ≡ ExprTree.binary And (expr_tree left) (expr_tree right)) }
-{
-    Ok(Expr {
-        place: 0,
-        node: ExprNode::Binary {
-            op: Binary::And,
-            left: boxed(alloc, left)?,
-            right: boxed(alloc, right)?,
-        },
-    })
+// Whether operations of this kind are kept as chains: those of which texts have thousands.
+fn is_chained(op: Binary) -> bool {
+    matches!(op, Binary::Add | Binary::And | Binary::Or)
 }
 
 /// A base term as an expression of at most so many levels, where these generators stand outside.
@@ -88,7 +78,7 @@ pub(crate) fn expr(alloc: Global, outer: &[Gen], base: &Base, levels: u64) -> Re
     ensures { IfOk result (λ made.
         expr_tree made ≡ base_expr (in_gens outer.now) (base_tree base.now)) }
 {
-    let levels = below(levels, 1)?;
+    let levels = below(levels)?;
     match base {
         Base::Int(number) => Ok(Expr {
             place: 0,
@@ -113,18 +103,8 @@ pub(crate) fn expr(alloc: Global, outer: &[Gen], base: &Base, levels: u64) -> Re
                 node: ExprNode::Unary { op: *op, of },
             })
         }
-        Base::Binary { op, left, right } => {
-            let left = boxed(alloc, expr(alloc, outer, left, levels)?)?;
-            let right = boxed(alloc, expr(alloc, outer, right, levels)?)?;
-            Ok(Expr {
-                place: 0,
-                node: ExprNode::Binary {
-                    op: *op,
-                    left,
-                    right,
-                },
-            })
-        }
+        Base::Binary { op, .. } if is_chained(*op) => chain(alloc, outer, *op, base, levels),
+        Base::Binary { op, left, right } => pair(alloc, outer, *op, left, right, levels),
         Base::Choose { test, yes, no } => {
             let test = boxed(alloc, expr(alloc, outer, test, levels)?)?;
             let yes = boxed(alloc, expr(alloc, outer, yes, levels)?)?;
@@ -145,6 +125,69 @@ pub(crate) fn expr(alloc: Global, outer: &[Gen], base: &Base, levels: u64) -> Re
             })
         }
     }
+}
+
+// An operation on two terms.
+#[cycle(expr)]
+#[tactic(auto, using(crate::proofs::Built::binary_built))]
+fn pair(
+    alloc: Global,
+    outer: &[Gen],
+    op: Binary,
+    left: &Base,
+    right: &Base,
+    levels: u64,
+) -> Result<Expr, Memory>
+    ensures { IfOk result (λ made.
+        expr_tree made ≡ ExprTree.binary op (base_expr (in_gens outer.now) (base_tree left.now))
+        (base_expr (in_gens outer.now) (base_tree right.now))) }
+{
+    let left = boxed(alloc, expr(alloc, outer, left, levels)?)?;
+    let right = boxed(alloc, expr(alloc, outer, right, levels)?)?;
+    Ok(Expr {
+        place: 0,
+        node: ExprNode::Binary { op, left, right },
+    })
+}
+
+// A term as a chain of an operation, however often that stands in its left part. The links are
+// found from the last to the first.
+#[cycle(expr)]
+fn chain(alloc: Global, outer: &[Gen], op: Binary, base: &Base, levels: u64) -> Result<Expr, Memory>
+    ensures { IfOk result (λ made.
+        expr_tree made ≡ base_expr (in_gens outer.now) (base_tree base.now)) }
+{
+    let mut links = Vec::new(alloc);
+    let mut left = base;
+    while let Base::Binary {
+        op: own,
+        left: before,
+        right,
+    } = left
+    {
+        if *own != op {
+            break;
+        }
+        let right = expr(alloc, outer, right, levels)?;
+        links.push(Link { place: 0, right })?;
+        left = before;
+    }
+    links.reverse();
+    let first = expr(alloc, outer, left, levels)?;
+    chained(alloc, op, first, List::from_vec(links))
+}
+
+// An expression and links behind it as one chain.
+#[tactic(auto, using(crate::proofs::Built::chain_built))]
+fn chained(alloc: Global, op: Binary, first: Expr, more: List<Link>) -> Result<Expr, Memory>
+    ensures { IfOk result (λ made.
+        expr_tree made ≡ sql_chain op (expr_tree first) (map link_tree more)) }
+{
+    let first = boxed(alloc, first)?;
+    Ok(Expr {
+        place: 0,
+        node: ExprNode::Chain { op, first, more },
+    })
 }
 
 // How many combinations the sources and conditions of a comprehension keep.
@@ -251,18 +294,53 @@ pub(crate) fn keep(
     ensures { IfOk result (λ made.
         keep_tree made ≡ conds_keep (in_gens outer.now) (conds_tree conds.now)) }
 {
-    let levels = below(levels, conds.len())?;
     match conds.split_first() {
         None => Ok(None),
-        Some((first, rest)) => {
-            let mut all = expr(alloc, outer, first, levels)?;
-            for cond in rest {
-                let right = expr(alloc, outer, cond, levels)?;
-                all = both(alloc, all, right)?;
-            }
-            Ok(Some(all))
-        }
+        Some((first, rest)) => Ok(Some(all_of(alloc, outer, first, rest, levels)?)),
     }
+}
+
+// The conjunction of conditions, of at most so many levels.
+#[cycle(expr)]
+fn all_of(
+    alloc: Global,
+    outer: &[Gen],
+    first: &Base,
+    rest: &[Base],
+    levels: u64,
+) -> Result<Expr, Memory>
+    ensures { IfOk result (λ made.
+        expr_tree made ≡ joined (in_gens outer.now)
+        (base_expr (in_gens outer.now) (base_tree first.now))
+        (conds_of (map base_tree rest.now))) }
+{
+    let levels = below(levels)?;
+    let first = expr(alloc, outer, first, levels)?;
+    if rest.is_empty() {
+        return Ok(first);
+    }
+    let links = conjuncts(alloc, outer, rest, levels)?;
+    chained(alloc, Binary::And, first, links)
+}
+
+// Each condition as a link of a conjunction.
+#[cycle(expr)]
+#[tactic(auto, using(crate::proofs::Built::link_built))]
+fn conjuncts(
+    alloc: Global,
+    outer: &[Gen],
+    conds: &[Base],
+    levels: u64,
+) -> Result<List<Link>, Memory>
+    ensures { IfOk result (λ links.
+        map link_tree links ≡ map (base_expr (in_gens outer.now)) (map base_tree conds.now)) }
+{
+    let mut links = List::with_capacity(alloc, conds.len())?;
+    for cond in conds {
+        let right = expr(alloc, outer, cond, levels)?;
+        links.push(Link { place: 0, right })?;
+    }
+    Ok(links)
 }
 
 // `1 AS "one"`.

@@ -1,14 +1,51 @@
-use Rattle.std.proofs.Common.{◌≡◌, map, take, drop}
-use Rattle.nq_ir.specs.Trees.{base_tree, conds_of, test_part}
-use Rattle.sql_profile.specs.Trees.{expr_tree, select_tree}
-use Rattle.flatten.specs.Exprs.{joined}
+use Rattle.std.proofs.Common.{◌≡◌, ◌+◌, ◌*◌, map, take}
+use Rattle.nq_ir.specs.Trees.{base_tree, test_part}
+use Rattle.sql_profile.specs.Trees.{link_tree, select_tree}
+use Rattle.flatten.specs.Exprs.{base_expr}
 use Rattle.flatten.specs.Emitted.{in_gens}
 use Rattle.flatten.specs.Views.{test_select}
+use Rattle.flatten.proofs.Chains.{spine}
 use Rattle.flatten.proofs.expr.+expr.Given as goal
 
-abbrev pub invariant-keep-loop-cond : goal.invariant-keep-loop-cond
-invariant-keep-loop-cond l =
-    joined (in_gens l.outer) (expr_tree l.all) (conds_of (map base_tree (drop l.cond-index l.rest))) ≡ joined (in_gens l.outer) (expr_tree l.initial.all) (conds_of (map base_tree l.rest))
+-- each level of an expression is built by some functions that go down no level
+abbrev pub decreases-expr : goal.decreases-expr
+decreases-expr l = l.levels * 8
+
+abbrev pub decreases-pair : goal.decreases-pair
+decreases-pair l = l.levels * 8 + 1
+
+abbrev pub decreases-chain : goal.decreases-chain
+decreases-chain l = l.levels * 8 + 1
+
+abbrev pub decreases-conjuncts : goal.decreases-conjuncts
+decreases-conjuncts l = l.levels * 8 + 1
+
+abbrev pub decreases-all_of : goal.decreases-all_of
+decreases-all_of l = l.levels * 8 + 1
+
+abbrev pub decreases-keep : goal.decreases-keep
+decreases-keep l = l.levels * 8 + 2
+
+abbrev pub decreases-picked : goal.decreases-picked
+decreases-picked l = l.levels * 8 + 3
+
+abbrev pub decreases-test_select : goal.decreases-test_select
+decreases-test_select l = l.levels * 8 + 3
+
+abbrev pub decreases-count : goal.decreases-count
+decreases-count l = l.levels * 8 + 4
+
+abbrev pub decreases-selects : goal.decreases-selects
+decreases-selects l = l.levels * 8 + 4
+
+abbrev pub decreases-emptiness : goal.decreases-emptiness
+decreases-emptiness l = l.levels * 8 + 5
+
+abbrev pub invariant-chain-loop-left : goal.invariant-chain-loop-left
+invariant-chain-loop-left l = spine (in_gens l.outer) l.op l.left l.links.items ≡ base_expr (in_gens l.outer) (base_tree l.base)
+
+abbrev pub invariant-conjuncts-loop-cond : goal.invariant-conjuncts-loop-cond
+invariant-conjuncts-loop-cond l = map link_tree l.links ≡ map (base_expr (in_gens l.outer)) (map base_tree (take l.cond-index l.conds))
 
 abbrev pub invariant-selects-loop-test : goal.invariant-selects-loop-test
 invariant-selects-loop-test l = map select_tree l.selects ≡ map (test_select (in_gens l.outer)) (map test_part (take l.test-index l.tests))
