@@ -5,3 +5,4 @@ pub mod Walks
 pub mod Outcomes
 pub mod Turns
 pub mod Selects
+pub mod Chains

@@ -18,7 +18,7 @@ use Rattle.sql_scope.proofs.Scopes.{Sources}
 use Rattle.sql_scope.proofs.Walks.{item_broken, item_fine, item_twice, items_left, prefixed_none, source_broken, source_fine, sources_left}
 
 -- the element at a place, and those behind it
-drop_step : {A : Type 0} (xs : List A) (i : ℕ) (x : A) → i < length xs → x ≡ get_or xs i x → drop i xs ≡ x ∷ drop (i + 1) xs
+pub drop_step : {A : Type 0} (xs : List A) (i : ℕ) (x : A) → i < length xs → x ≡ get_or xs i x → drop i xs ≡ x ∷ drop (i + 1) xs
 drop_step [] i x h e = absurd (omega (arith, h))
 drop_step (y ∷ ys) zero x h e = ap (λ z. z ∷ ys) (sym e)
 drop_step (y ∷ ys) (suc i) x h e =

@@ -1,15 +1,17 @@
 -- What a step of the walk answers, beside its verdict; and what the program's values stand for.
-use Rattle.std.specs.Prelude.{◌≡◌, ℕ, ⊤, cond, List, [], ◌++◌, map, Option, Some, None, is_some, Result, Ok, Err}
+use Rattle.std.specs.Prelude.{◌≡◌, ℕ, ⊤, cond, List, [], ◌∷◌, ◌++◌, map, Option, Some, None, is_some, Result, Ok, Err}
 use Rattle.std.specs.Borrow.{Bor}
 use Rattle.std.specs.Option.{option_map}
 use Rattle.nq_model.specs.Tables.{Columns, types_of}
+use Rattle.nq_model.specs.Operators.{binary_type}
 use Rattle.nq_model.specs.declared.table.ColumnType.{ColumnType}
 use Rattle.nq_model.specs.declared.table.ColumnType.TheVariants.{Int}
+use Rattle.nq_model.specs.declared.term.Binary.{Binary}
 use Rattle.sql_profile.specs.declared.tree.Expr.{Expr}
 use Rattle.sql_profile.specs.declared.tree.Item.{Item}
 use Rattle.sql_profile.specs.declared.tree.Source.{Source}
 use Rattle.sql_profile.specs.Scope.{Aliases, Broken, Fine, Shapes, Verdict, and_then, expr_place, found, judge_expr, judge_items, judge_keep, judge_sources, or_broken, same_types, unless, wants}
-use Rattle.sql_profile.specs.Trees.{PlacedExpr, PlacedExprs, PlacedItems, PlacedKeep, PlacedPicked, PlacedSelect, select_at, exprs_of, items_of, keep_of, placed_expr, placed_item}
+use Rattle.sql_profile.specs.Trees.{PlacedExpr, PlacedExprs, PlacedItems, PlacedKeep, PlacedLink, PlacedPicked, PlacedSelect, select_at, exprs_of, items_of, keep_of, placed_expr, placed_item}
 use Rattle.sql_scope.specs.declared.fault.ScopeFault.{ScopeFault}
 use Rattle.sql_scope.specs.declared.fault.ScopeFault.TheVariants as fault
 use Rattle.sql_scope.specs.declared.aliases.Scope.{Scope}
@@ -72,3 +74,9 @@ judge_picked ts env over = and_then (judge_sources ts [] over.from) (λ own. and
 -- the value of a scalar query where its aliases are seen
 abbrev pub judge_summed : Shapes → Aliases → PlacedExpr → Verdict ColumnType
 judge_summed ts env e = and_then (judge_expr ts env e) (λ i. wants Int i 10 (expr_place e))
+
+-- the links of a chain, behind parts of this type
+abbrev pub judge_links : Shapes → Aliases → Binary → ColumnType → List PlacedLink → Verdict ColumnType
+judge_links ts env op k [] = Fine k
+judge_links ts env op k (link ∷ more) =
+    and_then (judge_expr ts env link.right) (λ j. and_then (or_broken 5 link.place (binary_type op k j)) (λ i. judge_links ts env op i more))

@@ -6,6 +6,7 @@ mod aliases;
 mod base;
 mod fault;
 mod names;
+mod place;
 mod rules;
 mod tables;
 mod text;

@@ -1,16 +1,17 @@
 // The walk over expressions and queries in judging order.
-ghost use Rattle.std.specs.Prelude.{◌≡◌, [], IfErr, IfOk};
+ghost use Rattle.std.specs.Prelude.{◌≡◌, [], IfErr, IfOk, map};
 ghost use Rattle.sql_profile.specs.Scope.{Fine, judge_expr, judge_items, judge_keep, judge_keys, judge_query, judge_select, judge_sources, judge_value};
-ghost use Rattle.sql_profile.specs.Trees.{placed_expr, placed_picked, placed_query, placed_select, placed_value};
-ghost use Rattle.sql_scope.specs.Steps.{Faults, Gives, aliases_in, alike, bounds, judge_columns, judge_parts, judge_picked, judge_source, judge_summed, placed_items, placed_keep, placed_keys};
+ghost use Rattle.sql_profile.specs.Trees.{placed_expr, placed_link, placed_picked, placed_query, placed_select, placed_value};
+ghost use Rattle.sql_scope.specs.Steps.{Faults, Gives, aliases_in, alike, bounds, judge_columns, judge_links, judge_parts, judge_picked, judge_source, judge_summed, placed_items, placed_keep, placed_keys};
 
 use crate::aliases::{Scope, Sources};
 use crate::fault::ScopeFault;
 use crate::names::{Columns, Names};
+use crate::place::place_of;
 use crate::rules;
 use crate::tables::Tables;
-use nq_model::ColumnType;
-use sql_profile::{Expr, ExprNode, Item, ItemValue, Picked, Query, Select, Source};
+use nq_model::{Binary, ColumnType};
+use sql_profile::{Expr, ExprNode, Item, ItemValue, Link, Picked, Query, Select, Source};
 use std::alloc::Global;
 
 // The columns of a whole query, where no alias is seen.
@@ -49,6 +50,10 @@ fn judge_expr<'t, 'a>(
             let right = judge_expr(alloc, tables, scope, right)?;
             rules::binary(*op, place, left, right)
         }
+        ExprNode::Chain { op, first, more } => {
+            let first = judge_expr(alloc, tables, scope, first)?;
+            judge_links(alloc, tables, scope, *op, first, more.as_slice())
+        }
         ExprNode::Choose { test, yes, no } => {
             let test = judge_expr(alloc, tables, scope, test)?;
             let yes = judge_expr(alloc, tables, scope, yes)?;
@@ -69,6 +74,28 @@ fn judge_expr<'t, 'a>(
             judge_summed(alloc, tables, &inner, value)
         }
     }
+}
+
+// The type of a chain whose first part has this type: link by link, each by its part and then by
+// its operator.
+#[cycle(judge)]
+fn judge_links<'t, 'a>(
+    alloc: Global,
+    tables: &'t Tables<'a>,
+    scope: &Scope<'_, 't, 'a>,
+    op: Binary,
+    first: ColumnType,
+    links: &'a [Link],
+) -> Result<ColumnType, ScopeFault>
+    ensures { Gives result (judge_links tables.now (aliases_in scope.now) op first
+        (map placed_link links.now)) }
+{
+    let mut given = first;
+    for link in links {
+        let right = judge_expr(alloc, tables, scope, &link.right)?;
+        given = rules::binary(op, link.place, given, right)?;
+    }
+    Ok(given)
 }
 
 // The aliases of a scalar query, whose condition, if there is one, is a truth value.
@@ -103,7 +130,7 @@ fn judge_summed<'t, 'a>(
         (placed_expr value.now)) }
 {
     let given = judge_expr(alloc, tables, scope, value)?;
-    rules::summed(value.place, given)
+    rules::summed(place_of(value), given)
 }
 
 // The columns of a query: those of its first SELECT, as which each further one has to be typed.
@@ -188,7 +215,7 @@ fn judge_keep<'t, 'a>(
         None => Ok(ColumnType::Bool),
         Some(condition) => {
             let given = judge_expr(alloc, tables, scope, condition)?;
-            rules::condition(condition.place, given)
+            rules::condition(place_of(condition), given)
         }
     }
 }

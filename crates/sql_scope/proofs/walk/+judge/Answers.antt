@@ -1,6 +1,7 @@
 use Rattle.std.proofs.Common.{◌∙◌, sym}
 use Rattle.sql_profile.specs.Trees.{placed_picked}
 use Rattle.sql_scope.specs.Steps.{Faults, aliases_in, judge_picked}
+use Rattle.sql_scope.proofs.Chains.{chain_faulty, chain_gives, links_end, links_faulty, links_go_on}
 use Rattle.sql_scope.proofs.Selects.{count_fine, count_faulty, picked_fine, picked_faulty, select_gives, sum_faulty, sum_gives}
 use Rattle.sql_scope.proofs.Turns.{among_looked, given_on, handed_on, items_faulty, items_end, items_go_on, items_twice}
 use Rattle.sql_scope.proofs.walk.+judge.Goals as goal
@@ -54,3 +55,27 @@ pub judge_expr-returns-in_err-own-in-Sum : goal.judge_expr-returns-in_err-own-in
 judge_expr-returns-in_err-own-in-Sum t c =
     given_on c.from_residual-in_err-own-in-Sum.result c.in_err-own-in-Sum.field-0.0 _ c.from_residual-in_err-own-in-Sum.ensures.1
     (sum_faulty c.args.tables.now (aliases_in c.args.scope.now) c.args.expr.now c.in-Sum.over c.in-Sum.value c.deref-in-Sum.result.now c.in_err-own-in-Sum.field-0.0 c.deref-in-Sum.ensures c.in-Sum.is c.in_err-own-in-Sum.ensures.err)
+
+pub judge_expr-returns-in_err-first-in-Chain : goal.judge_expr-returns-in_err-first-in-Chain
+judge_expr-returns-in_err-first-in-Chain t c =
+    given_on c.from_residual-in_err-first-in-Chain.result c.in_err-first-in-Chain.field-0.0 _ c.from_residual-in_err-first-in-Chain.ensures.1
+    (chain_faulty c.args.tables.now (aliases_in c.args.scope.now) c.args.expr.now c.in-Chain.op c.in-Chain.first c.in-Chain.more c.deref-in-Chain.result.now c.in-Chain.is c.deref-in-Chain.ensures c.in_err-first-in-Chain.field-0.0 c.in_err-first-in-Chain.ensures)
+
+pub judge_expr-returns-in_ok-first-in-Chain : goal.judge_expr-returns-in_ok-first-in-Chain
+judge_expr-returns-in_ok-first-in-Chain t c =
+    chain_gives c.args.tables.now (aliases_in c.args.scope.now) c.args.expr.now c.in-Chain.op c.in-Chain.first c.in-Chain.more c.deref-in-Chain.result.now c.in-Chain.is c.deref-in-Chain.ensures c.in_ok-first-in-Chain.first c.as_slice.result.now
+    c.judge_links.result c.in_ok-first-in-Chain.ensures c.as_slice.ensures c.judge_links.ensures
+
+pub judge_links-returns-in_err-right : goal.judge_links-returns-in_err-right
+judge_links-returns-in_err-right t c =
+    given_on c.from_residual.result c.in_err-right.field-0.0 _ c.from_residual.ensures.1
+    (links_faulty c.args.tables.now (aliases_in c.args.scope.now) c.args.op c.loop-link.given c.args.links.now c.loop-link.link-index c.link-item.result _ c.loop-link-test.true c.link-item.is c.loop-link.invariant c.in_err-right.field-0.0 c.in_err-right.ensures)
+
+pub judge_links-loop-link-preserved : goal.judge_links-loop-link-preserved
+judge_links-loop-link-preserved t c =
+    links_go_on c.args.tables.now (aliases_in c.args.scope.now) c.args.op c.loop-link.given c.args.links.now c.loop-link.link-index c.link-item.result _ c.loop-link-test.true c.link-item.is c.loop-link.invariant
+    c.in_ok-right.right c.in_ok-given.given c.in_ok-right.ensures c.in_ok-given.ensures
+
+pub judge_links-returns : goal.judge_links-returns
+judge_links-returns t c =
+    links_end c.args.tables.now (aliases_in c.args.scope.now) c.args.op c.loop-link.given c.args.links.now c.loop-link.link-index _ c.loop-link-test.false c.loop-link.invariant
