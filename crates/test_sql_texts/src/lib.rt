@@ -3,6 +3,8 @@
 #![tactic(auto)]
 
 #[cfg(test)]
+mod long;
+#[cfg(test)]
 mod printed;
 #[cfg(test)]
 mod refused;

@@ -3,7 +3,7 @@ use nq_model::{ColumnType, Label, List, Memory, Schema, TableShape};
 use sql_printer::print;
 use sql_reader::read_sql;
 use sql_scope::scope;
-use std::alloc::Global;
+use std::alloc::{AllocError, Global};
 use std::str;
 
 const TABLES: [(&str, &[(&str, ColumnType)]); 4] = [
@@ -76,4 +76,22 @@ pub(crate) fn shown(
         write!(shown, " {ty:?}")?;
     }
     Ok(shown)
+}
+
+/// A text with the first piece, so many of the second, the third, so many of the fourth, and the last.
+pub(crate) fn repeated(
+    alloc: Global,
+    pieces: (&str, &str, &str, &str, &str),
+    count: usize,
+) -> Result<String, AllocError> {
+    let mut text = String::from_str(alloc, pieces.0)?;
+    for _ in 0..count {
+        text.push_str(pieces.1)?;
+    }
+    text.push_str(pieces.2)?;
+    for _ in 0..count {
+        text.push_str(pieces.3)?;
+    }
+    text.push_str(pieces.4)?;
+    Ok(text)
 }

@@ -1,4 +1,5 @@
 // Whole SQL texts, with faults and places worked out by hand.
+use crate::shown::repeated;
 use sql_reader::read_sql;
 use std::alloc::{AllocError, Global};
 use std::process::Abort;
@@ -135,26 +136,8 @@ fn shown(alloc: Global, text: &[u8], depth: u64) -> Result<String, AllocError> {
     }
 }
 
-// A text with the first piece, so many of the second, the third, so many of the fourth, and the last.
-fn repeated(
-    alloc: Global,
-    pieces: (&str, &str, &str, &str, &str),
-    count: usize,
-) -> Result<String, AllocError> {
-    let mut text = String::from_str(alloc, pieces.0)?;
-    for _ in 0..count {
-        text.push_str(pieces.1)?;
-    }
-    text.push_str(pieces.2)?;
-    for _ in 0..count {
-        text.push_str(pieces.3)?;
-    }
-    text.push_str(pieces.4)?;
-    Ok(text)
-}
-
 // Pieces, how many times two of them stand, and what comes of the text at a depth of its bytes.
-const REPEATED: [((&str, &str, &str, &str, &str), usize, &str); 7] = [
+const REPEATED: [((&str, &str, &str, &str, &str), usize, &str); 10] = [
     (("SELECT 1 AS \"", "n", "\"", "", ""), 128, "spelled"),
     (
         ("SELECT 1 AS \"", "n", "\"", "", ""),
@@ -167,8 +150,11 @@ const REPEATED: [((&str, &str, &str, &str, &str), usize, &str); 7] = [
         20000,
         "Unexpected { place: 40008 }",
     ),
-    (("SELECT 1", " + 1", " AS \"n\"", "", ""), 1999, "spelled"),
-    (("SELECT 1", " + 1", " AS \"n\"", "", ""), 2000, "Memory"),
+    (("SELECT 1", " - 1", " AS \"n\"", "", ""), 1999, "spelled"),
+    (("SELECT 1", " - 1", " AS \"n\"", "", ""), 2000, "Memory"),
+    (("SELECT 1", " + 1", " AS \"n\"", "", ""), 5000, "spelled"),
+    (("SELECT ", "1 + (", "1", ")", " AS \"n\""), 1999, "spelled"),
+    (("SELECT ", "1 + (", "1", ")", " AS \"n\""), 2000, "Memory"),
     (
         (
             "SELECT 1 AS \"n\"",
