@@ -5,3 +5,4 @@ pub mod Parts
 pub mod Besides
 pub mod Evaluating
 pub mod Sums
+pub mod Chains
