@@ -9,6 +9,7 @@ pub mod PlacedKeys
 pub mod ColumnRows
 pub mod Evaluating
 pub mod Starting
+pub mod Links
 pub mod Meanings
 pub mod Scalars
 pub mod Fitting

@@ -1,4 +1,5 @@
 pub mod Scopes
+pub mod Links
 pub mod Lists
 pub mod RowNames
 pub mod Naming
@@ -6,6 +7,7 @@ pub mod Remembering
 pub mod Combinations
 pub mod Scalars
 pub mod Sifting
+pub mod ScalarQueries
 pub mod Conditions
 pub mod Chains
 pub mod Recalling

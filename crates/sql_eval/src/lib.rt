@@ -26,6 +26,7 @@ mod remembered;
 mod resolve;
 mod resolved;
 mod scalar;
+mod scalar_query;
 mod scope;
 mod sifted;
 mod sifting;
