@@ -1,6 +1,6 @@
 // The rows of flattened let forms, worked out by hand: those of a query of branches with their employees, and of these
 // with their tasks and one task more. A branch that stands twice, and its employees, have ties.
-use crate::forms::{Form, Held, Named, Over, Part, made};
+use crate::forms::{Form, Held, Named, Over, Part, made, summed};
 use crate::held::{organisation, schema};
 use crate::told::{line, listed};
 use flatten::flatten;
@@ -160,5 +160,18 @@ fn flattened_forms_give_what_they_allow(rt: HostRuntime) -> Result<(), Memory> {
             }
         }
     }
+    Ok(())
+}
+
+#[test]
+fn long_operations_are_flattened(rt: HostRuntime) -> Result<(), Memory> {
+    let alloc = rt.alloc();
+    let schema = schema(alloc)?;
+    let text = flatten(alloc, &schema, &summed(alloc, 3000)?, &[INT, INT, INT])?;
+    let rows = evaluate_text(alloc, &[], &text, Ties::AsTheyArise)?;
+    assert_eq!(&rt; in_order(alloc, rows.as_slice())?.as_str(), "0 1 3000 ;");
+    let rows = evaluate(alloc, &[], &text, Joining::HashTables, Arrangement::AsTheyArise)?;
+    let rows = listed(alloc, &rows)?;
+    assert_eq!(&rt; in_order(alloc, rows.as_slice())?.as_str(), "0 1 3000 ;");
     Ok(())
 }

@@ -140,3 +140,32 @@ pub fn made(alloc: Global, form: &Form) -> Result<LetForm, Memory> {
         parts: parts(alloc, form)?,
     })
 }
+
+/// The form of one row that holds the sum of so many ones, joined from the left, under as many conditions that hold.
+pub fn summed(alloc: Global, ones: u64) -> Result<LetForm, Memory> {
+    let mut sum = Base::Int(1);
+    let mut conds = List::new(alloc);
+    conds.push(Base::Bool(true))?;
+    for _ in 1..ones {
+        sum = Base::Binary {
+            op: Binary::Add,
+            left: boxed(alloc, sum)?,
+            right: boxed(alloc, Base::Int(1))?,
+        };
+        conds.push(Base::Bool(true))?;
+    }
+    let mut parts = List::new(alloc);
+    parts.push(LetPart {
+        from: 0,
+        tag: 1,
+        gens: List::new(alloc),
+        conds,
+        shape: Shape::Plain(sum),
+    })?;
+    Ok(LetForm {
+        path: path(alloc, &[])?,
+        element: Ty::Int,
+        lets: List::new(alloc),
+        parts,
+    })
+}
