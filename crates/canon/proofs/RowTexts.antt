@@ -1,11 +1,12 @@
 -- Rows in the order of their cells, and the lines that are written of them.
-use Rattle.std.proofs.Common.{◌≡◌, ◌<◌, ◌+◌, ℕ, zero, suc, List, [], ◌∷◌, ◌++◌, length, map, take, get_or, All, IsPermutation, codes, refl, sym, ap, ap₂, ◌∙◌, subst, arith, append_assoc, add-zero}
-use Rattle.std.specs.List.{join_with_byte}
+use Rattle.std.proofs.Common.{◌≡◌, ◌<◌, ◌+◌, ℕ, zero, suc, List, [], ◌∷◌, ◌++◌, length, map, take, get_or, All, IsPermutation, codes, decimal, refl, sym, ap, ap₂, ◌∙◌, subst, arith, append_assoc, add-zero}
+use Rattle.std.specs.List.{flat_map, join_with_byte}
 use Rattle.std.specs.List.Sorted.{IsSortedByKey}
 use Rattle.std.specs.Cmp.Lexicographic.{lists_total}
 use Rattle.std.specs.Ordering.{is_lt}
 use Rattle.std.proofs.lemmas.List.{take_more, length-map}
 use Rattle.std.proofs.lemmas.List.Sorted.{All-permutation}
+use Rattle.nq_model.specs.Bags.{Reordered}
 use Rattle.nq_model.specs.Canonical.{cell_text}
 use Rattle.nq_model.specs.Cells.{cell_cmp, column_type_of, RowFits}
 use Rattle.nq_model.specs.NamedRows.{no_cell}
@@ -13,13 +14,14 @@ use Rattle.nq_model.specs.Numberings.{Rises, count_from, key_lt}
 use Rattle.nq_model.specs.Orders.{sorted_by}
 use Rattle.nq_model.specs.declared.table.Cell.{Cell}
 use Rattle.nq_model.specs.declared.table.ColumnType.{ColumnType}
+use Rattle.nq_model.proofs.Bags.{matched_length}
 use Rattle.nq_model.proofs.Canonical.{cell_order, lists_tie}
-use Rattle.nq_model.proofs.Orders.{IsStrictOrder}
+use Rattle.nq_model.proofs.Orders.{IsStrictOrder, sorted_reordered}
 use Rattle.rows.specs.Places.{row_at, rows_at}
 use Rattle.row_order.specs.Keys.{key_of, keys_at}
 use Rattle.row_order.proofs.Rising.{rises_next}
 use Rattle.canon.proofs.Sorting.{sorted_by_key}
-use Rattle.canon.specs.RowTexts.{bar, row_cmp}
+use Rattle.canon.specs.RowTexts.{bar, row_cmp, row_line, rows_text, sorted_rows}
 
 -- 1. lines
 
@@ -119,3 +121,14 @@ module _ (rows : List (List Cell)) (types : List ColumnType) (fit : All (RowFits
   rows_in_order =
       sorted_by_key row_cmp (row_at rows) row_order (count_from 0 (length rows)) places permuted in_order
       ∙ ap (sorted_by row_cmp) (rows_from [] rows)
+
+-- 3. rows in any order
+
+pub rows_one : (rows others : List (List Cell)) → Reordered rows others → sorted_rows rows ≡ sorted_rows others
+rows_one rows others same = sorted_reordered row_cmp row_order rows others same
+
+pub one_text : (rows others : List (List Cell)) → Reordered rows others → rows_text rows ≡ rows_text others
+unfolding rows_text
+one_text rows others same =
+    ap₂ (λ (n : ℕ) (ordered : List (List Cell)). codes "rows " ++ (decimal n ++ (codes "\n" ++ flat_map row_line ordered)))
+    (matched_length (λ r s. r ≡ s) rows others same) (rows_one rows others same)

@@ -12,6 +12,10 @@ use Rattle.nq_model.specs.declared.table.Cell.{Cell}
 abbrev pub row_cmp : List Cell → List Cell → Ordering
 row_cmp = slice_cmp cell_cmp
 
+-- the rows in order, each as often as before
+abbrev pub sorted_rows : List (List Cell) → List (List Cell)
+sorted_rows rows = sorted_by row_cmp rows
+
 -- the canonical texts of a row's cells, with `|` (124) between them, and a newline
 abbrev pub row_line : List Cell → List ℕ
 row_line row = join_with_byte 124 (map cell_text row) ++ codes "\n"
@@ -23,4 +27,4 @@ bar (suc place) = codes "|"
 
 -- `rows K`, and a line for each row, in order
 unfoldable pub rows_text : List (List Cell) → List ℕ
-rows_text rows = codes "rows " ++ (decimal (length rows) ++ (codes "\n" ++ flat_map row_line (sorted_by row_cmp rows)))
+rows_text rows = codes "rows " ++ (decimal (length rows) ++ (codes "\n" ++ flat_map row_line (sorted_rows rows)))

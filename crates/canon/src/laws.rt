@@ -1,9 +1,13 @@
-// Laws of the canonical form and of its text, each on a function that does nothing.
+// Laws of the canonical form and of its text, and of rows in order, each on a function that does
+// nothing.
 ghost use Rattle.std.specs.Prelude.{◌≡◌, ◌++◌, ◌↔◌, List, ℕ};
+ghost use Rattle.nq_model.specs.Bags.{Reordered};
 ghost use Rattle.nq_model.specs.Types.{TypeTree};
 ghost use Rattle.nq_model.specs.Values.{Nested, Same};
 ghost use Rattle.nq_model.specs.Canonical.{canonical, written, canonical_text};
 ghost use Rattle.nq_model.specs.ValueTypes.{IsOfType};
+ghost use Rattle.nq_model.specs.declared.table.Cell.{Cell};
+ghost use Rattle.canon.specs.RowTexts.{rows_text, sorted_rows};
 ghost use Rattle.canon.specs.Sorted.{IsSortedDeep};
 ghost use Rattle.canon.specs.Texts.{Ends};
 
@@ -24,4 +28,14 @@ pub fn text_laws()
         → written v ++ x ≡ written w ++ y → (v ≡ w) × (x ≡ y) }
     ensures same { (t : TypeTree) (v w : Nested) → IsOfType t v → IsOfType t w
         → (canonical_text v ≡ canonical_text w) ↔ Same v w }
+{}
+
+/// Rows in order are the same rows, and rows that are the same in any order have one order and one
+/// text.
+pub fn row_laws()
+    ensures kept { (rows : List (List Cell)) → Reordered rows (sorted_rows rows) }
+    ensures one { (rows others : List (List Cell)) → Reordered rows others
+        → sorted_rows rows ≡ sorted_rows others }
+    ensures text { (rows others : List (List Cell)) → Reordered rows others
+        → rows_text rows ≡ rows_text others }
 {}

@@ -5,9 +5,9 @@ ghost use Rattle.nq_model.specs.Cells.{RowFits};
 ghost use Rattle.rows.specs.Places.{row_at, rows_at};
 ghost use Rattle.canon.specs.RowTexts.{bar, row_line, rows_text};
 
-use crate::row_text::{columns_between, write_cell};
+use crate::row_text::write_cell;
+use crate::sorted_rows::row_places;
 use nq_model::{ColumnType, List, Memory};
-use row_order::order;
 use rows::Rows;
 use std::alloc::Global;
 
@@ -52,8 +52,7 @@ pub fn write_row_lines(alloc: Global, rows: &Rows, types: &[ColumnType]) -> Resu
     requires { All (RowFits types.now) rows.now }
     ensures { IfOk result (λ text. text ≡ rows_text rows.now) }
 {
-    let columns = columns_between(alloc, 0, types.len())?;
-    let places = order(alloc, rows, columns.as_slice())?;
+    let places = row_places(alloc, rows, types)?;
     let mut text = format!(in alloc; "rows {}\n", rows.len())?;
     write_lines(&mut text, rows, places.as_slice())?;
     Ok(List::from_vec(text.into_bytes()))
