@@ -52,7 +52,7 @@ no_float_of Less a b c p q r = p
 no_float_of Equal a b c p q r = q
 no_float_of Greater a b c p q r = r
 
-either : (a b : Bool) → a ≡ false → b ≡ false → (a || b) ≡ false
+pub either : (a b : Bool) → a ≡ false → b ≡ false → (a || b) ≡ false
 either a b p q = rw (p, q) refl
 
 first_of_two : (a b : Bool) → (a || b) ≡ false → a ≡ false
@@ -87,9 +87,3 @@ mutual
   no_float_elements : (vs : Elements) → items_have_float (items_json vs) ≡ false
   no_float_elements end = refl
   no_float_elements (more v vs) = either (has_float (json v)) (items_have_float (items_json vs)) (no_float v) (no_float_elements vs)
-
--- the text of a value
-pub text_is : (v : Nested) (d : Data) (text longer : List ℕ) → d ≡ json v → (has_float d ≡ false → text ≡ compact_text d) → longer ≡ text ++ 10 ∷ [] → longer ≡ json_text v
-unfolding json_text
-text_is v d text longer is written pushed =
-    pushed ∙ ap (λ (t : List ℕ). t ++ 10 ∷ []) (written (ap has_float is ∙ no_float v) ∙ ap compact_text is)

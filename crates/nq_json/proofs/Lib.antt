@@ -11,3 +11,4 @@ mod RowFacts
 pub mod TableFacts
 mod CellFacts
 mod Arrays
+mod RowForms

@@ -4,3 +4,4 @@ pub mod Reading
 pub mod Tables
 pub mod Cells
 pub mod Faults
+pub mod Rows

@@ -1,11 +1,12 @@
 // Values as JSON.
-ghost use Rattle.std.specs.Prelude.{◌≡◌, ◌≤◌, IfOk, Some, map};
+ghost use Rattle.std.specs.Prelude.{◌≡◌, ◌≤◌, false, IfOk, Some, map};
 ghost use Rattle.std.specs.Str.{IsUtf8};
 ghost use Rattle.nq_model.specs.Values.{nested, fields_of, fields_view, elements_of};
 ghost use Rattle.serde_json.specs.Data.{depth};
 ghost use Rattle.serde_json.specs.Read.{read, max_depth};
 ghost use Rattle.serde_json.specs.View.{view, items_view, members_view};
-ghost use Rattle.nq_json.specs.Json.{json, members_json, items_json, json_text};
+ghost use Rattle.serde_json.specs.Written.{has_float};
+ghost use Rattle.nq_json.specs.Json.{json, members_json, items_json, json_line, json_text};
 
 use nq_model::{Label, List, Memory, Value};
 use serde_json::{Map, Value as Json};
@@ -57,6 +58,20 @@ fn items(alloc: Global, elements: &[Value]) -> Result<Vec<Json>, Memory>
     Ok(items)
 }
 
+/// The compact text of a JSON value without a float, and a newline. It is read back where the value
+/// nests at most 127 deep. Fails only if memory runs out.
+pub fn write_line(alloc: Global, json: &Json) -> Result<List<u8>, Memory>
+    requires { has_float (view json.now) ≡ false }
+    ensures text { IfOk result (λ text. text ≡ json_line (view json.now)) }
+    ensures utf8 { IfOk result (λ text. IsUtf8 text) }
+    ensures reads_back { IfOk result (λ text. depth (view json.now) ≤ max_depth
+        → read text ≡ Some (view json.now)) }
+{
+    let mut text = json.to_vec(alloc)?;
+    text.push(b'\n')?;
+    Ok(List::from_vec(text))
+}
+
 /// The compact text of the JSON form of a value, and a newline. It is read back where the form
 /// nests at most 127 deep. Fails only if memory runs out.
 pub fn write_json(alloc: Global, value: &Value) -> Result<List<u8>, Memory>
@@ -66,7 +81,6 @@ pub fn write_json(alloc: Global, value: &Value) -> Result<List<u8>, Memory>
         → read text ≡ Some (json (nested value.now))) }
 {
     let form = json_of(alloc, value)?;
-    let mut text = form.to_vec(alloc)?;
-    text.push(b'\n')?;
-    Ok(List::from_vec(text))
+    let text = write_line(alloc, &form)?;
+    Ok(text)
 }

@@ -1,19 +1,18 @@
-use Rattle.std.proofs.Common.{[], ◌∷◌, ◌∙◌, ap, Some}
-use Rattle.std.proofs.lemmas.Str.{IsUtf8-append}
+use Rattle.std.proofs.Common.{ap, ◌∙◌, Some}
 use Rattle.nq_model.specs.Values.{nested}
-use Rattle.serde_json.specs.View.{view}
-use Rattle.nq_json.proofs.Forms.{text_is}
-use Rattle.nq_json.proofs.Newline.{newline_read, newline_utf8}
+use Rattle.serde_json.specs.Written.{has_float}
+use Rattle.nq_json.specs.Json.{json_line, json_text}
+use Rattle.nq_json.proofs.Forms.{no_float}
 use Rattle.nq_json.proofs.form.write_json.Goals as goal
 
+pub write_line-requires : goal.write_line-requires
+write_line-requires c = ap has_float c.in_ok-form.ensures ∙ no_float (nested c.args.value.now)
+
 pub returns-clause-text : goal.returns-clause-text
-returns-clause-text c = text_is (nested c.args.value.now) (view c.in_ok-form.form) c.in_ok-text.text.items _ c.in_ok-form.ensures c.in_ok-text.ensures.text (c.from_vec.ensures ∙ c.in_ok-push.ensures.items)
+unfolding json_text
+returns-clause-text c = c.in_ok-text.ensures.text ∙ ap json_line c.in_ok-form.ensures
 
 pub returns-clause-reads_back : goal.returns-clause-reads_back
 returns-clause-reads_back c = λ shallow.
     let is = c.in_ok-form.ensures in
-    rw (c.from_vec.ensures ∙ c.in_ok-push.ensures.items)
-    (newline_read c.in_ok-text.text.items _ c.in_ok-text.ensures.compact (c.in_ok-text.ensures.reads_back (rw is shallow) ∙ ap Some is))
-
-pub returns-clause-utf8 : goal.returns-clause-utf8
-returns-clause-utf8 c = rw (c.from_vec.ensures ∙ c.in_ok-push.ensures.items) (IsUtf8-append c.in_ok-text.text.items (10 ∷ []) c.in_ok-text.ensures.utf8 newline_utf8)
+    c.in_ok-text.ensures.reads_back (rw is shallow) ∙ ap Some is
