@@ -12,8 +12,7 @@ use Rattle.stitcher.specs.FlatNumbers.{flat_numbers}
 use Rattle.stitcher.specs.Schemes.{Scheme, element_of}
 use Rattle.stitcher.specs.Stitching.{rows_of, AreAnswersOf}
 use Rattle.nq_execute.proofs.Asks.{both_length}
-use Rattle.nq_execute.specs.Plans.{Indexes, numbers, columns_by, ArePathsOf, IsOne, first_text}
-use Rattle.canon.specs.RowTexts.{rows_text}
+use Rattle.nq_execute.specs.Plans.{Indexes, RowWriting, numbers, columns_by, ArePathsOf, IsOne, first_text, row_text_by}
 use Rattle.nq_execute.specs.Serving.{Fit}
 
 -- the rows of the answer at a path fit the columns there
@@ -65,8 +64,8 @@ pub has_columns : (columns : List (List ColumnType)) → IsOne columns → 0 < l
 has_columns columns one = omega (arith, ap length one.is)
 
 -- its text
-pub rows_finished : (answers : List Answer) (answer : Answer) (text : List ℕ) → 0 < length answers → answer ≡ get_or answers 0 answer → text ≡ rows_text answer.rows → text ≡ first_text (rows_of answers)
-rows_finished [] answer text some is written = absurd (omega (arith, some))
-rows_finished (a ∷ answers) answer text some is written = written ∙ ap (λ (b : Answer). rows_text b.rows) is
+pub rows_finished : (writing : RowWriting) (answers : List Answer) (answer : Answer) (text : List ℕ) → 0 < length answers → answer ≡ get_or answers 0 answer → text ≡ row_text_by writing answer.rows → text ≡ first_text writing (rows_of answers)
+rows_finished writing [] answer text some is written = absurd (omega (arith, some))
+rows_finished writing (a ∷ answers) answer text some is written = written ∙ ap (λ (b : Answer). row_text_by writing b.rows) is
 
 pub ruleset finish_rules = (fit_paths, one_answer, has_one, has_columns, rows_finished)

@@ -4,12 +4,14 @@ use Rattle.nq_model.specs.Canonical.{canonical, canonical_text}
 use Rattle.nq_model.specs.Tables.{types_of}
 use Rattle.nq_model.specs.Types.{TypeTree, type_tree, bag}
 use Rattle.nq_model.specs.Values.{Nested}
+use Rattle.nq_model.specs.declared.table.Cell.{Cell}
 use Rattle.nq_model.specs.declared.table.ColumnType.{ColumnType}
 use Rattle.nq_ir.specs.Meanings.{EachBoth}
 use Rattle.nq_ir.specs.NormalForms.{element_type}
 use Rattle.nq_ir.specs.Parts.{element_types}
 use Rattle.shred_types.specs.Columns.{answer_columns}
 use Rattle.nq_json.specs.Json.{json_text}
+use Rattle.nq_json.specs.Rows.{json_rows_text}
 use Rattle.sql_profile.specs.Texts.{IsAskable}
 use Rattle.sql_profile.specs.Tokens.{First}
 use Rattle.sql_profile.specs.declared.server.Loaded.{Loaded}
@@ -17,11 +19,13 @@ use Rattle.stitcher.specs.FlatNumbers.{flat_numbers}
 use Rattle.stitcher.specs.Schemes.{AnswerRows, stitched}
 use Rattle.nq_execute.specs.Loading.{CanLoad}
 use Rattle.nq_execute.specs.Summaries.{summary_of}
-use Rattle.canon.specs.RowTexts.{rows_text}
+use Rattle.canon.specs.RowTexts.{rows_text, sorted_rows}
 use Rattle.nq_execute.specs.declared.plan.Finish.{Finish as Finishes}
 use Rattle.nq_execute.specs.declared.plan.Finish.TheVariants as code
 use Rattle.nq_execute.specs.declared.plan.Indexes.{Indexes as IndexKinds}
 use Rattle.nq_execute.specs.declared.plan.Indexes.TheVariants as index
+use Rattle.nq_execute.specs.declared.plan.RowWriting.{RowWriting as RowWritings}
+use Rattle.nq_execute.specs.declared.plan.RowWriting.TheVariants as row_way
 use Rattle.nq_execute.specs.declared.plan.Writing.{Writing as Writings}
 use Rattle.nq_execute.specs.declared.plan.Writing.TheVariants as way
 use Rattle.nq_execute.specs.declared.plan.Plan.{Plan as Asked}
@@ -36,11 +40,16 @@ pub data Writing : Type 0 where
   summary : Writing
   json : Writing
 
+-- what is written of rows: a line for each, or one line of JSON, an array of arrays of cells
+pub data RowWriting : Type 0 where
+  lines : RowWriting
+  arrays : RowWriting
+
 -- what is written of answers: the value of this type to which they stitch by these indexes; or the
 -- rows of the one answer
 pub data Finish : Type 0 where
   value : TypeTree → Indexes → Writing → Finish
-  rows : Finish
+  rows : RowWriting → Finish
 
 -- the tables that a server is loaded with, the texts that it is then asked, in order, each with the
 -- types of its columns, and what is written of the answers
@@ -58,10 +67,14 @@ writing_view way.Text = text
 writing_view way.Summary = summary
 writing_view way.Json = json
 
+abbrev pub row_writing_view : RowWritings → RowWriting
+row_writing_view row_way.Lines = lines
+row_writing_view row_way.Arrays = arrays
+
 abbrev pub finish_view : Finishes → Finish
 finish_view (code.Value of indexes writing) =
     value (type_tree of) (indexes_view indexes) (writing_view writing)
-finish_view code.Rows = rows
+finish_view (code.Rows writing) = rows (row_writing_view writing)
 
 -- the plan of the program
 abbrev pub plan_view : Asked → Plan
@@ -91,15 +104,20 @@ text_by json type v = json_text (canonical v)
 unfoldable pub value_text : TypeTree → Indexes → Writing → List AnswerRows → List ℕ
 value_text type indexes writing answers = text_by writing type (value_by indexes type answers)
 
--- the rows of the first answer
-abbrev pub first_text : List AnswerRows → List ℕ
-first_text [] = rows_text []
-first_text (answer ∷ answers) = rows_text answer
+-- what is written of rows, in the order of their cells
+abbrev pub row_text_by : RowWriting → List (List Cell) → List ℕ
+row_text_by lines given = rows_text given
+row_text_by arrays given = json_rows_text (sorted_rows given)
+
+-- and of those of the first answer
+abbrev pub first_text : RowWriting → List AnswerRows → List ℕ
+first_text writing [] = row_text_by writing []
+first_text writing (answer ∷ answers) = row_text_by writing answer
 
 -- what is written of answers
 abbrev pub finished : Finish → List AnswerRows → List ℕ
 finished (value type indexes writing) answers = value_text type indexes writing answers
-finished rows answers = first_text answers
+finished (rows writing) answers = first_text writing answers
 
 -- over these tables the text may be asked, and its columns have these types
 pub record AsksFor (held : List Loaded) (types : List ColumnType) (text : List ℕ) : Type 0 where
@@ -120,7 +138,7 @@ pub record IsOne (columns : List (List ColumnType)) : Type 0 where
 -- answers of these columns are such as the finish asks for: one for each path of a bag type; or one
 abbrev pub CanFinish : Finish → List (List ColumnType) → Type 0
 CanFinish (value type indexes writing) columns = ArePathsOf type indexes columns
-CanFinish rows columns = IsOne columns
+CanFinish (rows writing) columns = IsOne columns
 
 -- the tables may be loaded, each text may be asked over them, and their answers may be finished
 pub record IsServable (plan : Plan) : Type 0 where

@@ -1,18 +1,20 @@
 // What is written of answers.
-ghost use Rattle.std.specs.Prelude.{◌≡◌, IfOk, map};
+ghost use Rattle.std.specs.Prelude.{◌≡◌, All, IfOk, map};
+ghost use Rattle.nq_model.specs.Cells.{RowFits};
 ghost use Rattle.nq_model.specs.Types.{type_tree, bag};
 ghost use Rattle.nq_model.specs.Values.{nested};
 ghost use Rattle.nq_ir.specs.NormalForms.{element_type};
 ghost use Rattle.stitcher.specs.Stitching.{rows_of};
-ghost use Rattle.nq_execute.specs.Plans.{CanFinish, columns_by, finish_view, finished, indexes_view, text_by, value_by, value_text, writing_view};
+ghost use Rattle.nq_execute.specs.Plans.{CanFinish, columns_by, finish_view, finished, indexes_view, row_text_by, row_writing_view, text_by, value_by, value_text, writing_view};
 ghost use Rattle.nq_execute.specs.Serving.{Fit};
 
 use crate::flat::{flat_fields, flat_text};
-use crate::plan::{Finish, Indexes, Writing};
+use crate::plan::{Finish, Indexes, RowWriting, Writing};
 use crate::summary::summarise;
-use canon::{sort_deep, write, write_row_lines};
-use nq_json::write_json;
+use canon::{row_places, sort_deep, write, write_row_lines};
+use nq_json::{write_json, write_json_rows};
 use nq_model::{ColumnType, List, Memory, Ty, Value};
+use rows::Rows;
 use sql_profile::Answer;
 use std::alloc::Global;
 use stitcher::{FlatNumbers, stitch};
@@ -96,9 +98,29 @@ fn value_text(
     }
 }
 
-/// What is written of answers, which fit these columns.
+// What is written of rows, which fit these types.
+fn row_text_by(
+    alloc: Global,
+    writing: &RowWriting,
+    rows: &Rows,
+    types: &[ColumnType],
+) -> Result<List<u8>, Memory>
+    requires { All (RowFits types.now) rows.now }
+    ensures { IfOk result (λ text. text ≡ row_text_by (row_writing_view writing.now) rows.now) }
+{
+    match writing {
+        RowWriting::Lines => write_row_lines(alloc, rows, types),
+        RowWriting::Arrays => {
+            let places = row_places(alloc, rows, types)?;
+            write_json_rows(alloc, rows, places.as_slice())
+        }
+    }
+}
+
+/// What is written of answers, wherever they come from: those to the texts of a plan, in order, each
+/// of which fits the types of its columns. Fails only if memory runs out.
 #[tactic(auto, using(crate::proofs::Finishes::finish_rules))]
-pub fn finish(
+pub fn write_answers(
     alloc: Global,
     finish: &Finish,
     columns: &[List<ColumnType>],
@@ -114,8 +136,9 @@ pub fn finish(
             indexes,
             writing,
         } => value_text(alloc, of, indexes, writing, answers),
-        Finish::Rows => {
-            write_row_lines(alloc, &answers.as_slice()[0].rows, columns[0].as_slice())
+        Finish::Rows(writing) => {
+            let rows = &answers.as_slice()[0].rows;
+            row_text_by(alloc, writing, rows, columns[0].as_slice())
         }
     }
 }

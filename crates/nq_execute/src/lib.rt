@@ -1,6 +1,7 @@
 //! Serving a command: a server is loaded with tables and asked texts, each answer is tried against
 //! its columns before the next text is asked, and the value that the answers stitch to is written
-//! as its canonical text, as its summary or as JSON, or the rows of the one answer.
+//! as its canonical text, as its summary or as JSON, or the rows of the one answer, as lines or as
+//! JSON. Answers that come from elsewhere are written alike.
 #![tactic(auto)]
 
 mod ask;
@@ -13,7 +14,8 @@ mod refusal;
 mod serving;
 mod summary;
 
+pub use finish::write_answers;
 pub use laws::writing_laws;
-pub use plan::{Finish, Indexes, Plan, Writing};
+pub use plan::{Finish, Indexes, Plan, RowWriting, Writing};
 pub use refusal::ServerRefusal;
 pub use serving::serve;

@@ -4,7 +4,7 @@ ghost use Rattle.nq_execute.specs.Plans.{IsServable, plan_view};
 ghost use Rattle.nq_execute.specs.Serving.{ServerCounts, ServeTells, server_state};
 
 use crate::ask::ask_all;
-use crate::finish::finish;
+use crate::finish::write_answers;
 use crate::load::load_tables;
 use crate::plan::Plan;
 use crate::refusal::ServerRefusal;
@@ -13,8 +13,8 @@ use sql_profile::SqlServer;
 use std::alloc::Global;
 
 /// Loads the tables of a plan into a server that holds none, asks it each text in order, tries each
-/// answer against its columns before the next text is asked, and gives the text of the answers: the
-/// canonical text of the value to which they stitch, or its summary, or the rows of the one answer.
+/// answer against its columns before the next text is asked, and gives the text of the answers, as
+/// `write_answers` does.
 ///
 /// Fails with `TableFailed` or `TextFailed` where the server fails, and with `BadAnswer` at the
 /// first answer that does not fit, which no honest server gives. Where memory runs out, the server
@@ -42,5 +42,6 @@ pub fn serve(
         plan.texts.as_slice(),
         plan.columns.as_slice(),
     )?;
-    Ok(finish(alloc, &plan.finish, plan.columns.as_slice(), answers)?)
+    let columns = plan.columns.as_slice();
+    Ok(write_answers(alloc, &plan.finish, columns, answers)?)
 }

@@ -11,25 +11,25 @@ returns-in_err-answers-clause-tells g c =
     (all_loaded _ _ _ c.requires.empty c.in_ok-load_tables.ensures.tells) c.in_ok-load_tables.ensures.asks_stay c.in_ok-load_tables.ensures.honesty_stays c.as_slice.ensures c.as_slice-2.ensures
     c.in_err-answers.field-0.0 c.from_residual-in_err-answers.result is (c.in_err-answers.ensures.tells (finish_view c.args.plan.finish))
 
-pub finish-requires-clause-finishable : goal.finish-requires-clause-finishable
-finish-requires-clause-finishable g c = finishable (plan_view c.args.plan) c.as_slice-3.result.now c.requires.servable c.as_slice-3.ensures
+pub write_answers-requires-clause-finishable : goal.write_answers-requires-clause-finishable
+write_answers-requires-clause-finishable g c = finishable (plan_view c.args.plan) c.as_slice-columns.result.now c.requires.servable c.as_slice-columns.ensures
 
-pub finish-requires-clause-fit : goal.finish-requires-clause-fit
-finish-requires-clause-fit g c =
+pub write_answers-requires-clause-fit : goal.write_answers-requires-clause-fit
+write_answers-requires-clause-fit g c =
     all_fit (plan_view c.args.plan) [] _ [] _ _ _ _ _ c.as_slice.result.now c.as_slice-2.result.now
     (all_loaded _ _ _ c.requires.empty c.in_ok-load_tables.ensures.tells) c.in_ok-load_tables.ensures.asks_stay c.in_ok-load_tables.ensures.honesty_stays c.as_slice.ensures c.as_slice-2.ensures
-    c.in_ok-answers.answers c.as_slice-3.result.now c.requires.servable (c.in_ok-answers.ensures.tells (finish_view c.args.plan.finish)) c.as_slice-3.ensures
+    c.in_ok-answers.answers c.as_slice-columns.result.now c.requires.servable (c.in_ok-answers.ensures.tells (finish_view c.args.plan.finish)) c.as_slice-columns.ensures
 
 -- memory ran out when all texts were answered
-pub returns-in_err-finish-clause-tells : goal.returns-in_err-finish-clause-tells
-returns-in_err-finish-clause-tells g c =
-    let is : c.from_residual-in_err-finish.result ≡ Err refusal.Memory = search rules in
+pub returns-in_err-write_answers-clause-tells : goal.returns-in_err-write_answers-clause-tells
+returns-in_err-write_answers-clause-tells g c =
+    let is : c.from_residual-in_err-write_answers.result ≡ Err refusal.Memory = search rules in
     text_unwritten (plan_view c.args.plan) _ _ _ _ _ _ _ _ c.as_slice.result.now c.as_slice-2.result.now
     (all_loaded _ _ _ c.requires.empty c.in_ok-load_tables.ensures.tells) c.in_ok-load_tables.ensures.asks_stay c.in_ok-load_tables.ensures.honesty_stays c.as_slice.ensures c.as_slice-2.ensures
-    c.in_ok-answers.answers c.from_residual-in_err-finish.result is c.in_ok-answers.ensures.tables_stay (c.in_ok-answers.ensures.tells (finish_view c.args.plan.finish))
+    c.in_ok-answers.answers c.from_residual-in_err-write_answers.result is c.in_ok-answers.ensures.tables_stay (c.in_ok-answers.ensures.tells (finish_view c.args.plan.finish))
 
 pub returns-clause-tells : goal.returns-clause-tells
 returns-clause-tells g c =
     text_serves (plan_view c.args.plan) _ _ _ _ _ _ _ _ c.as_slice.result.now c.as_slice-2.result.now
     (all_loaded _ _ _ c.requires.empty c.in_ok-load_tables.ensures.tells) c.in_ok-load_tables.ensures.asks_stay c.in_ok-load_tables.ensures.honesty_stays c.as_slice.ensures c.as_slice-2.ensures
-    c.in_ok-answers.answers c.in_ok-finish.field-0 c.in_ok-answers.ensures.tables_stay (c.in_ok-answers.ensures.tells (finish_view c.args.plan.finish)) c.in_ok-finish.ensures
+    c.in_ok-answers.answers c.in_ok-write_answers.field-0 c.in_ok-answers.ensures.tables_stay (c.in_ok-answers.ensures.tells (finish_view c.args.plan.finish)) c.in_ok-write_answers.ensures
