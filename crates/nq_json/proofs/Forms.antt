@@ -16,7 +16,8 @@ use Rattle.serde_json.specs.Written.{has_float, items_have_float, members_have_f
 use Rattle.serde_json.specs.View.{view, items_view, items_of, members_view}
 use Rattle.serde_json.specs.declared.value.Value.{Value as Json}
 use Rattle.serde_json.proofs.Views.{members_view-insert_entry}
-use Rattle.nq_json.specs.Json.{json, members_json, items_json, json_text}
+use Rattle.nq_json.specs.Json.{json, members_json, items_json}
+use Rattle.nq_json.proofs.Floats.{either, no_float_put}
 
 pub items_are : (vs : List Nested) → items_of (map json vs) ≡ items_json (elements_of vs)
 items_are [] = refl
@@ -47,30 +48,6 @@ pub items_all : (elements : List Value) (k : ℕ) (items : List Json) → length
 items_all elements k items high was = ap items_of was ∙ ap (λ (vs : List Value). items_of (map json (map nested vs))) (take_all k elements high) ∙ items_are (map nested elements)
 
 -- no value is a float
-no_float_of : (o : Ordering) (a b c : Members) → members_have_float a ≡ false → members_have_float b ≡ false → members_have_float c ≡ false → members_have_float (match_ordering o a b c) ≡ false
-no_float_of Less a b c p q r = p
-no_float_of Equal a b c p q r = q
-no_float_of Greater a b c p q r = r
-
-pub either : (a b : Bool) → a ≡ false → b ≡ false → (a || b) ≡ false
-either a b p q = rw (p, q) refl
-
-first_of_two : (a b : Bool) → (a || b) ≡ false → a ≡ false
-first_of_two false b h = refl
-first_of_two true b h = h
-
-second_of_two : (a b : Bool) → (a || b) ≡ false → b ≡ false
-second_of_two false b h = h
-second_of_two true b h = absurd (cc)
-
-no_float_put : (k : List ℕ) (d : Data) (ms : Members) → has_float d ≡ false → members_have_float ms ≡ false → members_have_float (put k d ms) ≡ false
-no_float_put k d no_members p q = either (has_float d) false p refl
-no_float_put k d (member l e ms) p q =
-    no_float_of (slice_cmp nat_cmp k l) (member k d (member l e ms)) (member l d ms) (member l e (put k d ms))
-    (either (has_float d) (has_float e || members_have_float ms) p q)
-    (either (has_float d) (members_have_float ms) p (second_of_two (has_float e) (members_have_float ms) q))
-    (either (has_float e) (members_have_float (put k d ms)) (first_of_two (has_float e) (members_have_float ms) q) (no_float_put k d ms p (second_of_two (has_float e) (members_have_float ms) q)))
-
 mutual
   pub no_float : (v : Nested) → has_float (json v) ≡ false
   no_float (base (cell.Int (pos n))) = refl

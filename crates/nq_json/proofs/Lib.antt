@@ -1,3 +1,4 @@
+pub mod Floats
 mod Forms
 pub mod Orders
 mod Parts

@@ -31,37 +31,15 @@ number_form (NegInt w) valid z e =
     negative_form w valid ∙ ap of_integer same
 number_form (Float x) valid z e = cc
 
-bool_form : (d : Data) (b : Bool) → as_bool d ≡ Some b → d ≡ boolean b
-bool_form null b e = cc
-bool_form (boolean c) b e = cc
-bool_form (number n) b e = cc
-bool_form (string s) b e = cc
-bool_form (array ds) b e = cc
-bool_form (object ms) b e = cc
-
-text_form : (d : Data) (t : List ℕ) → as_str d ≡ Some t → d ≡ string t
-text_form null t e = cc
-text_form (boolean c) t e = cc
-text_form (number n) t e = cc
-text_form (string s) t e = cc
-text_form (array ds) t e = cc
-text_form (object ms) t e = cc
-
-array_form : (d : Data) (ds : Items) → as_array d ≡ Some ds → d ≡ array ds
-array_form null ds e = cc
-array_form (boolean c) ds e = cc
-array_form (number n) ds e = cc
-array_form (string s) ds e = cc
-array_form (array es) ds e = cc
-array_form (object ms) ds e = cc
-
-object_form : (d : Data) (ms : Members) → as_object d ≡ Some ms → d ≡ object ms
-object_form null ms e = cc
-object_form (boolean c) ms e = cc
-object_form (number n) ms e = cc
-object_form (string s) ms e = cc
-object_form (array es) ms e = cc
-object_form (object ns) ms e = cc
+-- a JSON value is what it is taken for
+taken : (d : Data) → ((b : Bool) → as_bool d ≡ Some b → d ≡ boolean b) × ((t : List ℕ) → as_str d ≡ Some t → d ≡ string t)
+    × ((ds : Items) → as_array d ≡ Some ds → d ≡ array ds) × ((ms : Members) → as_object d ≡ Some ms → d ≡ object ms)
+taken null = (λ b e. cc, λ t e. cc, λ ds e. cc, λ ms e. cc)
+taken (boolean c) = (λ b e. cc, λ t e. cc, λ ds e. cc, λ ms e. cc)
+taken (number n) = (λ b e. cc, λ t e. cc, λ ds e. cc, λ ms e. cc)
+taken (string s) = (λ b e. cc, λ t e. cc, λ ds e. cc, λ ms e. cc)
+taken (array es) = (λ b e. cc, λ t e. cc, λ ds e. cc, λ ms e. cc)
+taken (object ns) = (λ b e. cc, λ t e. cc, λ ds e. cc, λ ms e. cc)
 
 module _ (n after : ℕ) (d : Data) where
   pub int_read : (z : ℤ) → FitsSigned w64 z → d ≡ number (of_integer z) → Some z ≡ option_and_then as_i64 (as_number d) → after ≡ n + 1 → Reads TypeTree.int n d after (base (cell.Int z))
@@ -73,17 +51,17 @@ module _ (n after : ℕ) (d : Data) where
 
   pub bool_read : (b : Bool) → Some b ≡ as_bool d → after ≡ n + 1 → Reads TypeTree.bool n d after (base (cell.Bool b))
   bool_read b is past =
-      let form = bool_form d b (sym is) in
+      let form = (taken d).0 b (sym is) in
       record { value = record { typed = tt; form = sym form }; faultless = rw (sym is) refl; past = rw form past }
 
   pub text_read : (t : List ℕ) → Some t ≡ as_str d → after ≡ n + 1 → Reads TypeTree.text n d after (base (cell.Text t))
   text_read t is past =
-      let form = text_form d t (sym is) in
+      let form = (taken d).1 t (sym is) in
       record { value = record { typed = tt; form = sym form }; faultless = rw (sym is) refl; past = rw form past }
 
   pub bag_read : (a : TypeTree) (ds : Items) (vs : Elements) → as_array d ≡ Some ds → ReadsItems a (n + 1) ds after vs → Reads (TypeTree.bag a) n d after (bag vs)
   bag_read a ds vs is read =
-      let form = array_form d ds is in
+      let form = (taken d).2 ds is in
       record {
         value = record { typed = read.typed; form = ap array read.form ∙ sym form };
         faultless = rw is read.faultless;
@@ -93,7 +71,7 @@ module _ (n after : ℕ) (d : Data) where
   pub record_read : (fs : FieldTypes) (ms : Members) (gs : Fields) → as_object d ≡ Some ms → has_labels fs ms ≡ true → AreRising (keys_of ms)
       → ReadsFields fs (n + 1) ms after gs → Reads (TypeTree.rec fs) n d after (rec gs)
   record_read fs ms gs is labelled rising read =
-      let form = object_form d ms is in
+      let form = (taken d).3 ms is in
       let ordered = in_order gs (subst (λ (m : Members). AreRising (keys_of m)) (sym read.form) rising) in
       record {
         value = record { typed = read.typed; form = ap object (ordered ∙ read.form) ∙ sym form };

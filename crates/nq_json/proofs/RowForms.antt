@@ -8,7 +8,7 @@ use Rattle.serde_json.specs.View.{items_of}
 use Rattle.serde_json.specs.Written.{has_float, items_have_float}
 use Rattle.nq_json.specs.Json.{cell_json}
 use Rattle.nq_json.specs.Rows.{row_json, rows_json}
-use Rattle.nq_json.proofs.Forms.{either}
+use Rattle.nq_json.proofs.Floats.{either}
 
 no_float_cell : (c : Cell) → has_float (cell_json c) ≡ false
 no_float_cell (cell.Int (pos n)) = refl
