@@ -1,7 +1,9 @@
-//! Worked JSON values, with the values that they are the forms of, and worked JSON tables, with the
-//! rows that they give: tests alone, over the calls that are checked elsewhere.
+//! Worked JSON values, with the values that they are the forms of, worked JSON tables, with the rows
+//! that they give, and rows with their JSON: tests alone, over the calls that are checked elsewhere.
 #![tactic(auto)]
 
+#[cfg(test)]
+mod row_arrays;
 #[cfg(test)]
 mod tables;
 #[cfg(test)]
