@@ -1,0 +1,5 @@
+mod NameFacts
+mod TypeFacts
+mod ParentFacts
+mod TextFacts
+mod Floats
