@@ -14,7 +14,9 @@ pub use file_inputs::FileInputs;
 pub use held_inputs::HeldInputs;
 pub use held_sink::HeldSink;
 pub use inputs::{FetchFault, Inputs};
-pub use line::{put_five, put_four, put_one, put_seven, put_six, put_three, put_two};
+pub use line::{
+    put_eight, put_five, put_four, put_nine, put_one, put_seven, put_six, put_three, put_two,
+};
 pub use sink::{PutFault, Sink};
 pub use std_sink::StdSink;
 

@@ -108,3 +108,52 @@ pub fn put_seven<N: Sink>(
         Err(_) => {}
     }
 }
+
+/// Puts a line of eight pieces, each only where those before it were put whole.
+pub fn put_eight<N: Sink>(
+    notes: &mut N,
+    first: &[u8],
+    second: &[u8],
+    third: &[u8],
+    fourth: &[u8],
+    fifth: &[u8],
+    sixth: &[u8],
+    seventh: &[u8],
+    eighth: &[u8],
+)
+    ensures { PutsLine (N.written notes.old) (N.written notes.new)
+        (N.faults notes.old) (N.faults notes.new)
+        (first.now ++ (second.now ++ (third.now ++ (fourth.now
+        ++ (fifth.now ++ (sixth.now ++ (seventh.now ++ eighth.now))))))) }
+{
+    match notes.put(first) {
+        Ok(()) => put_seven(notes, second, third, fourth, fifth, sixth, seventh, eighth),
+        Err(_) => {}
+    }
+}
+
+/// Puts a line of nine pieces, each only where those before it were put whole.
+pub fn put_nine<N: Sink>(
+    notes: &mut N,
+    first: &[u8],
+    second: &[u8],
+    third: &[u8],
+    fourth: &[u8],
+    fifth: &[u8],
+    sixth: &[u8],
+    seventh: &[u8],
+    eighth: &[u8],
+    ninth: &[u8],
+)
+    ensures { PutsLine (N.written notes.old) (N.written notes.new)
+        (N.faults notes.old) (N.faults notes.new)
+        (first.now ++ (second.now ++ (third.now ++ (fourth.now
+        ++ (fifth.now ++ (sixth.now ++ (seventh.now ++ (eighth.now ++ ninth.now)))))))) }
+{
+    match notes.put(first) {
+        Ok(()) => put_eight(
+            notes, second, third, fourth, fifth, sixth, seventh, eighth, ninth,
+        ),
+        Err(_) => {}
+    }
+}
