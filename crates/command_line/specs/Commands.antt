@@ -2,59 +2,91 @@
 use Rattle.std.specs.Prelude.{ℕ, Bool, true, false, List, [], ◌∷◌, codes, Option, Some, None, option_map, cond}
 use Rattle.std.specs.Str.{bytes_eq}
 use Rattle.generated_inputs.specs.Sizes.{size_of}
+use Rattle.nq_execute.specs.Plans.{RowWriting, lines, arrays}
 
--- What is done with a query that is accepted: its value is written, or written as JSON, over the table texts of a folder; or
--- that it is accepted; or its type; or its normal form; or the paths of its type; or the SQL texts that shred it.
+-- What is done with a query that is accepted. Its value over the table texts of a folder is
+-- written, or written as JSON, or that over the JSON tables of a folder; or the value of answers of
+-- a folder, made elsewhere, is written, or written as JSON; or that it is accepted; or its type; or
+-- its normal form; or the paths of its type; or the SQL texts that shred it.
 pub data Aim : Type 0 where
   run : List ℕ → Aim
   run_json : List ℕ → Aim
+  run_json_tables : List ℕ → Aim
+  stitch : List ℕ → Aim
+  stitch_json : List ℕ → Aim
   check : Aim
   show_types : Aim
   show_normal : Aim
   show_paths : Aim
   show_sql : Aim
 
--- a text on the program is written; or a query is put to an aim: the names of a schema and of the query; or the rows of
--- an SQL text are written: the names of a schema, of the text and of a folder; or the summary of a query over generated
--- tables of a size
+-- a text on the program is written; or a query is put to an aim: the names of a schema and of the
+-- query; or the rows of an SQL text are written in a way: the names of a schema, of the text and of
+-- a folder; or the summary of a query over generated tables of a size
 pub data Command : Type 0 where
   help : Command
   version : Command
   of_query : Aim → List ℕ → List ℕ → Command
-  answer : List ℕ → List ℕ → List ℕ → Command
+  answer : RowWriting → List ℕ → List ℕ → List ℕ → Command
   generated : ℕ → Command
 
 -- `--help` or `--version`
 abbrev pub one_word : List ℕ → Option Command
-one_word word = cond (bytes_eq word (codes "--help")) (Some help) (cond (bytes_eq word (codes "--version")) (Some version) None)
+one_word word =
+    cond (bytes_eq word (codes "--help")) (Some help)
+    (cond (bytes_eq word (codes "--version")) (Some version) None)
 
 -- `gen N`
 abbrev pub two_words : List ℕ → List ℕ → Option Command
-two_words word size = cond (bytes_eq word (codes "gen")) (option_map generated (size_of size)) None
+two_words word size =
+    cond (bytes_eq word (codes "gen")) (option_map generated (size_of size)) None
 
 -- `check SCHEMA QUERY`
 abbrev pub three_words : List ℕ → List ℕ → List ℕ → Option Command
-three_words word schema query = cond (bytes_eq word (codes "check")) (Some (of_query check schema query)) None
+three_words word schema query =
+    cond (bytes_eq word (codes "check")) (Some (of_query check schema query)) None
 
 -- what is shown
 abbrev pub shown : List ℕ → Option Aim
 shown what =
     cond (bytes_eq what (codes "types")) (Some show_types)
     (cond (bytes_eq what (codes "normal")) (Some show_normal)
-    (cond (bytes_eq what (codes "paths")) (Some show_paths) (cond (bytes_eq what (codes "sql")) (Some show_sql) None)))
+    (cond (bytes_eq what (codes "paths")) (Some show_paths)
+    (cond (bytes_eq what (codes "sql")) (Some show_sql) None)))
 
--- `run SCHEMA QUERY DIR`, or `answer SCHEMA SQLFILE DIR`, or `show` with `types`, `normal`, `paths` or
--- `sql` and SCHEMA QUERY
+-- `run SCHEMA QUERY DIR`, `answer SCHEMA SQLFILE DIR` or `stitch SCHEMA QUERY DIR`; or `show` with
+-- `types`, `normal`, `paths` or `sql` and SCHEMA QUERY
 abbrev pub four_words : List ℕ → List ℕ → List ℕ → List ℕ → Option Command
 four_words word second third fourth =
     cond (bytes_eq word (codes "run")) (Some (of_query (run fourth) second third))
-    (cond (bytes_eq word (codes "answer")) (Some (answer second third fourth))
-    (cond (bytes_eq word (codes "show")) (option_map (λ aim. of_query aim third fourth) (shown second)) None))
+    (cond (bytes_eq word (codes "answer")) (Some (answer lines second third fourth))
+    (cond (bytes_eq word (codes "stitch")) (Some (of_query (stitch fourth) second third))
+    (cond (bytes_eq word (codes "show"))
+    (option_map (λ aim. of_query aim third fourth) (shown second)) None)))
 
--- `run json SCHEMA QUERY DIR`
+-- what `json` makes of `run`, of `answer` and of `stitch` with their three names
+abbrev pub as_json : List ℕ → List ℕ → List ℕ → List ℕ → Option Command
+as_json word schema text folder =
+    cond (bytes_eq word (codes "run")) (Some (of_query (run_json folder) schema text))
+    (cond (bytes_eq word (codes "answer")) (Some (answer arrays schema text folder))
+    (cond (bytes_eq word (codes "stitch")) (Some (of_query (stitch_json folder) schema text)) None))
+
+-- `run json SCHEMA QUERY DIR`, `answer json SCHEMA SQLFILE DIR` or `stitch json SCHEMA QUERY DIR`
 abbrev pub five_words : List ℕ → List ℕ → List ℕ → List ℕ → List ℕ → Option Command
-five_words word form schema query folder =
-    cond (bytes_eq form (codes "json")) (cond (bytes_eq word (codes "run")) (Some (of_query (run_json folder) schema query)) None) None
+five_words word form schema text folder =
+    cond (bytes_eq form (codes "json")) (as_json word schema text folder) None
+
+-- what `tables` makes of `run json` with its three names
+abbrev pub over_tables : List ℕ → List ℕ → List ℕ → List ℕ → List ℕ → Option Command
+over_tables word form schema query folder =
+    cond (bytes_eq word (codes "run"))
+    (cond (bytes_eq form (codes "json"))
+    (Some (of_query (run_json_tables folder) schema query)) None) None
+
+-- `run json tables SCHEMA QUERY DIR`
+abbrev pub six_words : List ℕ → List ℕ → List ℕ → List ℕ → List ℕ → List ℕ → Option Command
+six_words word form source schema query folder =
+    cond (bytes_eq source (codes "tables")) (over_tables word form schema query folder) None
 
 -- the command that words are, if they are a listed form
 unfoldable pub command_of : List (List ℕ) → Option Command
@@ -62,13 +94,18 @@ command_of (word ∷ []) = one_word word
 command_of (word ∷ size ∷ []) = two_words word size
 command_of (word ∷ schema ∷ query ∷ []) = three_words word schema query
 command_of (word ∷ second ∷ third ∷ fourth ∷ []) = four_words word second third fourth
-command_of (word ∷ form ∷ schema ∷ query ∷ folder ∷ []) = five_words word form schema query folder
+command_of (word ∷ form ∷ schema ∷ text ∷ folder ∷ []) = five_words word form schema text folder
+command_of (word ∷ form ∷ source ∷ schema ∷ query ∷ folder ∷ []) =
+    six_words word form source schema query folder
 command_of _ = None
 
 -- whether a server is asked
 abbrev pub aim_asks : Aim → Bool
 aim_asks (run folder) = true
 aim_asks (run_json folder) = true
+aim_asks (run_json_tables folder) = true
+aim_asks (stitch folder) = false
+aim_asks (stitch_json folder) = false
 aim_asks check = false
 aim_asks show_types = false
 aim_asks show_normal = false
@@ -80,5 +117,5 @@ asks_server None = false
 asks_server (Some help) = false
 asks_server (Some version) = false
 asks_server (Some (of_query aim schema query)) = aim_asks aim
-asks_server (Some (answer schema text folder)) = true
+asks_server (Some (answer writing schema text folder)) = true
 asks_server (Some (generated size)) = true

@@ -6,20 +6,25 @@ unfoldable pub help_text : List ℕ
 help_text =
     codes "nq answers typed queries over flat tables.\n"
     ++ (codes "\n"
-    ++ (codes "nq run SCHEMA QUERY DIR       writes the value of the query over the tables of DIR\n"
-    ++ (codes "nq run json SCHEMA QUERY DIR  writes the value of the query as JSON\n"
-    ++ (codes "nq answer SCHEMA SQLFILE DIR  writes the rows of the SQL text over the tables of DIR\n"
-    ++ (codes "nq gen N                      writes a summary of nested data over generated tables of size N\n"
-    ++ (codes "nq check SCHEMA QUERY         writes ok where the query is accepted\n"
-    ++ (codes "nq show types SCHEMA QUERY    writes the type of the query\n"
-    ++ (codes "nq show normal SCHEMA QUERY   writes the normal form of the query, which is a query itself\n"
-    ++ (codes "nq show paths SCHEMA QUERY    writes a line for each bag constructor of the type\n"
-    ++ (codes "nq show sql SCHEMA QUERY      writes an SQL text for each bag constructor of the type\n"
-    ++ (codes "nq --help                     writes this text\n"
-    ++ (codes "nq --version                  writes the name and the version of the program\n"
+    ++ (codes "nq run SCHEMA QUERY DIR              writes the value of the query\n"
+    ++ (codes "nq run json SCHEMA QUERY DIR         writes the value of the query as JSON\n"
+    ++ (codes "nq run json tables SCHEMA QUERY DIR  writes it as JSON over JSON tables\n"
+    ++ (codes "nq answer SCHEMA SQLFILE DIR         writes the rows of the SQL text\n"
+    ++ (codes "nq answer json SCHEMA SQLFILE DIR    writes the rows of the SQL text as JSON\n"
+    ++ (codes "nq stitch SCHEMA QUERY DIR           writes the value of answers made elsewhere\n"
+    ++ (codes "nq stitch json SCHEMA QUERY DIR      writes the value of answers as JSON\n"
+    ++ (codes "nq gen N                             writes a summary over tables of size N\n"
+    ++ (codes "nq check SCHEMA QUERY                writes ok where the query is accepted\n"
+    ++ (codes "nq show types SCHEMA QUERY           writes the type of the query\n"
+    ++ (codes "nq show normal SCHEMA QUERY          writes the normal form of the query\n"
+    ++ (codes "nq show paths SCHEMA QUERY           writes a line for each bag of the type\n"
+    ++ (codes "nq show sql SCHEMA QUERY             writes an SQL text for each bag of the type\n"
+    ++ (codes "nq --help                            writes this text\n"
+    ++ (codes "nq --version                         writes the name and the version of nq\n"
     ++ (codes "\n"
-    ++ (codes "SCHEMA, QUERY and SQLFILE are files, and the table t is the file DIR/t.csv.\n"
-    ++ codes "README.md explains the statuses, under Commands.\n"))))))))))))))
+    ++ (codes "SCHEMA, QUERY and SQLFILE are files. The table t is the file DIR/t.csv, and as a\n"
+    ++ (codes "JSON table DIR/t.json. The answer to the SQL text K is the file DIR/K.csv.\n"
+    ++ codes "README.md explains the statuses, under Commands.\n")))))))))))))))))))
 
 -- the name and the version of the program
 unfoldable pub version_text : List ℕ

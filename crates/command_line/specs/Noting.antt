@@ -10,6 +10,7 @@ pub record PutsNothing (old new : Option (List ℕ)) (before now : ℕ) : Type 0
   pub uncounted : now ≡ before
 
 -- the note line of a refusal, and nothing else
-abbrev pub Notes : {T : Type 0} → Option (List ℕ) → Option (List ℕ) → ℕ → ℕ → Result T Refusal → Type 0
+abbrev pub Notes : {T : Type 0} → Option (List ℕ) → Option (List ℕ) → ℕ → ℕ → Result T Refusal
+    → Type 0
 Notes old new before now (Ok _) = PutsNothing old new before now
 Notes old new before now (Err r) = PutsLine old new before now (note_of r)

@@ -27,7 +27,9 @@ columns_text (type ∷ types) = codes " " ++ (type_word type ++ columns_text typ
 
 -- the path, the two columns of the outer index, and those of the element
 abbrev pub path_line : TypeTree → List Step → List ℕ
-path_line type path = path_text path ++ (codes ": int int |" ++ (columns_text (element_columns (element_at type path)) ++ codes "\n"))
+path_line type path =
+    path_text path ++ (codes ": int int |"
+    ++ (columns_text (element_columns (element_at type path)) ++ codes "\n"))
 
 abbrev pub path_lines : TypeTree → List (List Step) → List ℕ
 path_lines type [] = []

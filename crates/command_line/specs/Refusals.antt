@@ -8,6 +8,12 @@ use Rattle.sql_reader.specs.declared.fault.SqlFault.{SqlFault}
 use Rattle.sql_reader.specs.declared.fault.SqlFault.TheVariants as sql
 use Rattle.table_reader.specs.declared.TableFault.{TableFault}
 use Rattle.table_reader.specs.declared.TableFault.TheVariants as table
+use Rattle.nq_json.specs.declared.tables.JsonTableFault.{JsonTableFault}
+use Rattle.nq_json.specs.declared.tables.JsonTableFault.TheVariants as json
+use Rattle.foreign_answers.specs.declared.faults.AnswerFault.{AnswerFault}
+use Rattle.foreign_answers.specs.declared.faults.AnswerFault.TheVariants as answer
+use Rattle.foreign_answers.specs.declared.faults.LinkFault.{LinkFault}
+use Rattle.foreign_answers.specs.declared.faults.LinkFault.TheVariants as link
 use Rattle.command_line.specs.declared.refusal.Refused.{Refused}
 use Rattle.command_line.specs.declared.refusal.Refused.TheVariants as refused
 use Rattle.command_line.specs.declared.refusal.InputRefusal.{InputRefusal}
@@ -25,6 +31,9 @@ refused_status (refused.IllTyped rule place) = 5
 refused_status (refused.Table name fault) = 6
 refused_status (refused.Sql fault) = 12
 refused_status (refused.IllScoped rule place) = 12
+refused_status (refused.JsonTable name fault) = 16
+refused_status (refused.Answer number fault) = 15
+refused_status (refused.Links fault) = 15
 
 abbrev pub input_status : InputRefusal → ℕ
 input_status input.Memory = 1
@@ -51,92 +60,155 @@ status_of (Err r) = refusal_status r
 abbrev pub memory_note : List ℕ
 memory_note = codes "nq: want of memory\n"
 
--- the line of a fault of a schema text; want of memory is none
-abbrev pub schema_fault_note : List ℕ → ℕ → List ℕ
-schema_fault_note fault place = codes "nq: schema refused: " ++ (fault ++ (codes " at " ++ (decimal place ++ codes "\n")))
+-- 1. texts that spell nothing
+
+-- the line of a fault of a text, at a place; want of memory is none
+abbrev pub fault_note : List ℕ → List ℕ → ℕ → List ℕ
+fault_note what fault place =
+    codes "nq: " ++ (what ++ (codes " refused: " ++ (fault
+    ++ (codes " at " ++ (decimal place ++ codes "\n")))))
 
 abbrev pub schema_note : SchemaFault → List ℕ
 schema_note schema.Memory = memory_note
-schema_note (schema.NotUtf8 place) = schema_fault_note (codes "NotUtf8") place
-schema_note (schema.Syntax place) = schema_fault_note (codes "Syntax") place
-schema_note (schema.TwiceTable place) = schema_fault_note (codes "TwiceTable") place
-schema_note (schema.TwiceColumn place) = schema_fault_note (codes "TwiceColumn") place
-schema_note (schema.NoColumn place) = schema_fault_note (codes "NoColumn") place
-schema_note (schema.KeyColumn place) = schema_fault_note (codes "KeyColumn") place
-schema_note (schema.OverLimit place) = schema_fault_note (codes "OverLimit") place
-
--- the line of a fault of a query text; want of memory is none
-abbrev pub query_fault_note : List ℕ → ℕ → List ℕ
-query_fault_note fault place = codes "nq: query refused: " ++ (fault ++ (codes " at " ++ (decimal place ++ codes "\n")))
+schema_note (schema.NotUtf8 place) = fault_note (codes "schema") (codes "NotUtf8") place
+schema_note (schema.Syntax place) = fault_note (codes "schema") (codes "Syntax") place
+schema_note (schema.TwiceTable place) = fault_note (codes "schema") (codes "TwiceTable") place
+schema_note (schema.TwiceColumn place) = fault_note (codes "schema") (codes "TwiceColumn") place
+schema_note (schema.NoColumn place) = fault_note (codes "schema") (codes "NoColumn") place
+schema_note (schema.KeyColumn place) = fault_note (codes "schema") (codes "KeyColumn") place
+schema_note (schema.OverLimit place) = fault_note (codes "schema") (codes "OverLimit") place
 
 abbrev pub query_note : SyntaxFault → List ℕ
 query_note query.Memory = memory_note
-query_note (query.NotUtf8 place) = query_fault_note (codes "NotUtf8") place
-query_note (query.Token place) = query_fault_note (codes "Token") place
-query_note (query.Unexpected place) = query_fault_note (codes "Unexpected") place
-query_note (query.IntRange place) = query_fault_note (codes "IntRange") place
-query_note (query.Deep place) = query_fault_note (codes "Deep") place
-query_note (query.Unbound place) = query_fault_note (codes "Unbound") place
-query_note (query.TwiceLabel place) = query_fault_note (codes "TwiceLabel") place
-
--- the line of a broken typing rule
-abbrev pub type_note : ℕ → ℕ → List ℕ
-type_note rule place = codes "nq: ill typed: rule " ++ (decimal rule ++ (codes " at " ++ (decimal place ++ codes "\n")))
-
--- the line of a fault of an SQL text; want of memory is none
-abbrev pub sql_fault_note : List ℕ → ℕ → List ℕ
-sql_fault_note fault place = codes "nq: sql refused: " ++ (fault ++ (codes " at " ++ (decimal place ++ codes "\n")))
+query_note (query.NotUtf8 place) = fault_note (codes "query") (codes "NotUtf8") place
+query_note (query.Token place) = fault_note (codes "query") (codes "Token") place
+query_note (query.Unexpected place) = fault_note (codes "query") (codes "Unexpected") place
+query_note (query.IntRange place) = fault_note (codes "query") (codes "IntRange") place
+query_note (query.Deep place) = fault_note (codes "query") (codes "Deep") place
+query_note (query.Unbound place) = fault_note (codes "query") (codes "Unbound") place
+query_note (query.TwiceLabel place) = fault_note (codes "query") (codes "TwiceLabel") place
 
 abbrev pub sql_note : SqlFault → List ℕ
 sql_note sql.Memory = memory_note
-sql_note (sql.NotUtf8 place) = sql_fault_note (codes "NotUtf8") place
-sql_note (sql.Token place) = sql_fault_note (codes "Token") place
-sql_note (sql.Unexpected place) = sql_fault_note (codes "Unexpected") place
-sql_note (sql.IntRange place) = sql_fault_note (codes "IntRange") place
-sql_note (sql.Deep place) = sql_fault_note (codes "Deep") place
+sql_note (sql.NotUtf8 place) = fault_note (codes "sql") (codes "NotUtf8") place
+sql_note (sql.Token place) = fault_note (codes "sql") (codes "Token") place
+sql_note (sql.Unexpected place) = fault_note (codes "sql") (codes "Unexpected") place
+sql_note (sql.IntRange place) = fault_note (codes "sql") (codes "IntRange") place
+sql_note (sql.Deep place) = fault_note (codes "sql") (codes "Deep") place
 
--- the line of a broken rule of scope
+-- 2. broken rules
+
+-- the line of a rule that is broken at a place
+abbrev pub rule_note : List ℕ → ℕ → ℕ → List ℕ
+rule_note words rule place =
+    words ++ (decimal rule ++ (codes " at " ++ (decimal place ++ codes "\n")))
+
+-- of a typing rule
+abbrev pub type_note : ℕ → ℕ → List ℕ
+type_note rule place = rule_note (codes "nq: ill typed: rule ") rule place
+
+-- of a rule of scope
 abbrev pub scope_note : ℕ → ℕ → List ℕ
-scope_note rule place = codes "nq: sql refused: rule " ++ (decimal rule ++ (codes " at " ++ (decimal place ++ codes "\n")))
+scope_note rule place = rule_note (codes "nq: sql refused: rule ") rule place
 
--- the line of a fault of a table text with two numbers, each after its words
-abbrev pub table_fault_note : List ℕ → List ℕ → ℕ → List ℕ → ℕ → List ℕ
-table_fault_note name words first more second =
-    codes "nq: table " ++ (name ++ (words ++ (decimal first ++ (more ++ (decimal second ++ codes "\n")))))
+-- 3. tables and answers
 
--- the line of a fault of a table text; want of memory is none
+-- what a line tells of a fault: words and a row, or words and a row and then a further number
+abbrev pub at_row : List ℕ → ℕ → List ℕ
+at_row words row = words ++ (decimal row ++ codes "\n")
+
+abbrev pub at_both : List ℕ → ℕ → List ℕ → ℕ → List ℕ
+at_both words row more second =
+    words ++ (decimal row ++ (more ++ (decimal second ++ codes "\n")))
+
+abbrev pub at_column : List ℕ → ℕ → ℕ → List ℕ
+at_column words row column = at_both words row (codes " column ") column
+
+abbrev pub at_earlier : List ℕ → ℕ → ℕ → List ℕ
+at_earlier words row earlier = at_both words row (codes " earlier ") earlier
+
+-- the line of a table by its name, and of an answer by the digits of its number
+abbrev pub table_line : List ℕ → List ℕ → List ℕ
+table_line name fault = codes "nq: table " ++ (name ++ fault)
+
+abbrev pub answer_line : List ℕ → List ℕ → List ℕ
+answer_line digits fault = codes "nq: answer " ++ (digits ++ fault)
+
+-- of a fault of a table text; want of memory is none
 abbrev pub table_note : List ℕ → TableFault → List ℕ
 table_note name table.Memory = memory_note
-table_note name table.Header = codes "nq: table " ++ (name ++ codes " refused: Header\n")
-table_note name (table.Width row) = codes "nq: table " ++ (name ++ (codes " refused: Width row " ++ (decimal row ++ codes "\n")))
-table_note name (table.NotUtf8 row column) = table_fault_note name (codes " refused: NotUtf8 row ") row (codes " column ") column
-table_note name (table.BadInt row column) = table_fault_note name (codes " refused: BadInt row ") row (codes " column ") column
-table_note name (table.BadBool row column) = table_fault_note name (codes " refused: BadBool row ") row (codes " column ") column
-table_note name (table.TwiceKey row earlier) = table_fault_note name (codes " refused: TwiceKey row ") row (codes " earlier ") earlier
+table_note name table.Header = table_line name (codes " refused: Header\n")
+table_note name (table.Width row) = table_line name (at_row (codes " refused: Width row ") row)
+table_note name (table.NotUtf8 row column) =
+    table_line name (at_column (codes " refused: NotUtf8 row ") row column)
+table_note name (table.BadInt row column) =
+    table_line name (at_column (codes " refused: BadInt row ") row column)
+table_note name (table.BadBool row column) =
+    table_line name (at_column (codes " refused: BadBool row ") row column)
+table_note name (table.TwiceKey row earlier) =
+    table_line name (at_earlier (codes " refused: TwiceKey row ") row earlier)
+
+-- of a fault of a JSON table; want of memory is none
+abbrev pub json_table_note : List ℕ → JsonTableFault → List ℕ
+json_table_note name json.Memory = memory_note
+json_table_note name json.NotJson = table_line name (codes " refused: NotJson\n")
+json_table_note name json.NotArray = table_line name (codes " refused: NotArray\n")
+json_table_note name (json.BadRow row) =
+    table_line name (at_row (codes " refused: BadRow row ") row)
+json_table_note name (json.BadCell row column) =
+    table_line name (at_column (codes " refused: BadCell row ") row column)
+json_table_note name (json.TwiceKey row earlier) =
+    table_line name (at_earlier (codes " refused: TwiceKey row ") row earlier)
+
+-- of a fault of the text of an answer; want of memory is none
+abbrev pub answer_note : List ℕ → AnswerFault → List ℕ
+answer_note digits answer.Memory = memory_note
+answer_note digits answer.Header = answer_line digits (codes " refused: Header\n")
+answer_note digits (answer.Width row) =
+    answer_line digits (at_row (codes " refused: Width row ") row)
+answer_note digits (answer.NotUtf8 row column) =
+    answer_line digits (at_column (codes " refused: NotUtf8 row ") row column)
+answer_note digits (answer.BadInt row column) =
+    answer_line digits (at_column (codes " refused: BadInt row ") row column)
+answer_note digits (answer.BadBool row column) =
+    answer_line digits (at_column (codes " refused: BadBool row ") row column)
+
+-- of answers that are not linked; want of memory is none
+abbrev pub link_note : LinkFault → List ℕ
+link_note link.Memory = memory_note
+link_note (link.Dangling text row) =
+    answer_line (decimal text) (at_row (codes " refused: Dangling row ") row)
+link_note (link.Twice text row column earlier) =
+    answer_line (decimal text)
+    (codes " refused: Twice row " ++ (decimal row ++ at_earlier (codes " column ") column earlier))
+
+-- 4. refusals
 
 abbrev pub refused_note : Refused → List ℕ
-refused_note (refused.TooLong name limit) = codes "nq: input too long: " ++ (name ++ (codes " over " ++ (decimal limit ++ codes "\n")))
+refused_note (refused.TooLong name limit) =
+    codes "nq: input too long: " ++ (name ++ (codes " over " ++ (decimal limit ++ codes "\n")))
 refused_note (refused.Schema fault) = schema_note fault
 refused_note (refused.Query fault) = query_note fault
 refused_note (refused.IllTyped rule place) = type_note rule place
 refused_note (refused.Table name fault) = table_note name fault
 refused_note (refused.Sql fault) = sql_note fault
 refused_note (refused.IllScoped rule place) = scope_note rule place
+refused_note (refused.JsonTable name fault) = json_table_note name fault
+refused_note (refused.Answer number fault) = answer_note (decimal number) fault
+refused_note (refused.Links fault) = link_note fault
 
 abbrev pub input_note : InputRefusal → List ℕ
 input_note input.Memory = memory_note
 input_note (input.Refused r) = refused_note r
 input_note (input.Failed name) = codes "nq: input failed: " ++ (name ++ codes "\n")
 
--- the places of a bad answer
-abbrev pub misfit_note : ℕ → ℕ → List ℕ
-misfit_note row column = codes " row " ++ (decimal row ++ (codes " column " ++ (decimal column ++ codes "\n")))
-
 abbrev pub server_note : ServerRefusal → List ℕ
 server_note server.Memory = memory_note
 server_note (server.TableFailed name) = codes "nq: server failed: table " ++ (name ++ codes "\n")
-server_note (server.TextFailed text) = codes "nq: server failed: text " ++ (decimal text ++ codes "\n")
-server_note (server.BadAnswer text row column) = codes "nq: bad answer: text " ++ (decimal text ++ misfit_note row column)
+server_note (server.TextFailed text) =
+    codes "nq: server failed: text " ++ (decimal text ++ codes "\n")
+server_note (server.BadAnswer text row column) =
+    codes "nq: bad answer: text " ++ (decimal text ++ at_column (codes " row ") row column)
 
 -- the note line of a refusal
 abbrev pub note_of : Refusal → List ℕ

@@ -1,15 +1,19 @@
 -- The words of a command as the program has them.
 use Rattle.std.specs.Prelude.{⊤}
-use Rattle.command_line.specs.Commands.{Aim, run, run_json, check, show_types, show_normal, show_paths, show_sql, Command, help, version, of_query, answer, generated}
+use Rattle.command_line.specs.Commands.{Aim, run, run_json, run_json_tables, stitch, stitch_json, check, show_types, show_normal, show_paths, show_sql, Command, help, version, of_query, answer, generated}
 use Rattle.generated_inputs.specs.Sizes.{IsSize}
 use Rattle.command_line.specs.declared.words.Aim.{Aim as Aims}
 use Rattle.command_line.specs.declared.words.Aim.TheVariants as aim
 use Rattle.command_line.specs.declared.words.Command.{Command as Words}
 use Rattle.command_line.specs.declared.words.Command.TheVariants as words
+use Rattle.nq_execute.specs.Plans.{row_writing_view}
 
 abbrev pub aim_view : Aims → Aim
 aim_view (aim.Run folder) = run folder.now
 aim_view (aim.RunJson folder) = run_json folder.now
+aim_view (aim.RunJsonTables folder) = run_json_tables folder.now
+aim_view (aim.Stitch folder) = stitch folder.now
+aim_view (aim.StitchJson folder) = stitch_json folder.now
 aim_view aim.Check = check
 aim_view aim.ShowTypes = show_types
 aim_view aim.ShowNormal = show_normal
@@ -20,7 +24,8 @@ abbrev pub command_view : Words → Command
 command_view words.Help = help
 command_view words.Version = version
 command_view (words.OfQuery aim schema query) = of_query (aim_view aim) schema.now query.now
-command_view (words.Answer schema text folder) = answer schema.now text.now folder.now
+command_view (words.Answer writing schema text folder) =
+    answer (row_writing_view writing) schema.now text.now folder.now
 command_view (words.Generated size) = generated size
 
 -- a size is one for which tables are generated
@@ -28,5 +33,5 @@ abbrev pub HasSize : Words → Type 0
 HasSize words.Help = ⊤
 HasSize words.Version = ⊤
 HasSize (words.OfQuery aim schema query) = ⊤
-HasSize (words.Answer schema text folder) = ⊤
+HasSize (words.Answer writing schema text folder) = ⊤
 HasSize (words.Generated size) = IsSize size

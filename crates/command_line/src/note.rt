@@ -1,12 +1,15 @@
 // The note line of an answer, put in pieces, which takes no memory.
+ghost use Rattle.std.specs.Prelude.{◌++◌, decimal};
 ghost use Rattle.nq_edge.specs.Lines.{PutsLine};
-ghost use Rattle.command_line.specs.Refusals.{schema_fault_note, schema_note, query_fault_note, query_note, type_note, sql_fault_note, sql_note, scope_note, table_fault_note, table_note, refused_note, input_note, server_note, note_of};
+ghost use Rattle.command_line.specs.Refusals.{fault_note, schema_note, query_note, sql_note, rule_note, at_row, at_both, table_note, json_table_note, answer_note, link_note, refused_note, input_note, server_note, note_of};
 ghost use Rattle.command_line.specs.Noting.{Notes};
 
 use crate::refusal::{InputRefusal, Refusal, Refused};
+use foreign_answers::{AnswerFault, LinkFault};
 use itoa::Buffer;
-use nq_edge::{Sink, put_five, put_one, put_seven, put_three};
+use nq_edge::{Sink, put_five, put_nine, put_one, put_seven, put_three};
 use nq_execute::ServerRefusal;
+use nq_json::JsonTableFault;
 use query_syntax::SyntaxFault;
 use schema_reader::SchemaFault;
 use sql_reader::SqlFault;
@@ -30,15 +33,24 @@ fn put_too_long<N: Sink>(notes: &mut N, name: &[u8], limit: u64)
     );
 }
 
-// Puts that a schema text has a fault at a place.
-fn put_schema_fault<N: Sink>(notes: &mut N, fault: &[u8], place: u64)
+// Puts that a text has a fault at a place.
+fn put_fault<N: Sink>(notes: &mut N, what: &[u8], fault: &[u8], place: u64)
     ensures { PutsLine (N.written notes.old) (N.written notes.new) (N.faults notes.old)
         (N.faults notes.new)
-        (schema_fault_note fault.now place) }
+        (fault_note what.now fault.now place) }
 {
     let mut digits = Buffer::new();
     let place = digits.format(place).as_bytes();
-    put_five(notes, b"nq: schema refused: ", fault, b" at ", place, b"\n");
+    put_seven(
+        notes,
+        b"nq: ",
+        what,
+        b" refused: ",
+        fault,
+        b" at ",
+        place,
+        b"\n",
+    );
 }
 
 // Puts the fault of a schema text.
@@ -49,25 +61,14 @@ fn put_schema<N: Sink>(notes: &mut N, fault: &SchemaFault)
 {
     match *fault {
         SchemaFault::Memory => put_one(notes, b"nq: want of memory\n"),
-        SchemaFault::NotUtf8 { place } => put_schema_fault(notes, b"NotUtf8", place),
-        SchemaFault::Syntax { place } => put_schema_fault(notes, b"Syntax", place),
-        SchemaFault::TwiceTable { place } => put_schema_fault(notes, b"TwiceTable", place),
-        SchemaFault::TwiceColumn { place } => put_schema_fault(notes, b"TwiceColumn", place),
-        SchemaFault::NoColumn { place } => put_schema_fault(notes, b"NoColumn", place),
-        SchemaFault::KeyColumn { place } => put_schema_fault(notes, b"KeyColumn", place),
-        SchemaFault::OverLimit { place } => put_schema_fault(notes, b"OverLimit", place),
+        SchemaFault::NotUtf8 { place } => put_fault(notes, b"schema", b"NotUtf8", place),
+        SchemaFault::Syntax { place } => put_fault(notes, b"schema", b"Syntax", place),
+        SchemaFault::TwiceTable { place } => put_fault(notes, b"schema", b"TwiceTable", place),
+        SchemaFault::TwiceColumn { place } => put_fault(notes, b"schema", b"TwiceColumn", place),
+        SchemaFault::NoColumn { place } => put_fault(notes, b"schema", b"NoColumn", place),
+        SchemaFault::KeyColumn { place } => put_fault(notes, b"schema", b"KeyColumn", place),
+        SchemaFault::OverLimit { place } => put_fault(notes, b"schema", b"OverLimit", place),
     }
-}
-
-// Puts that a query text has a fault at a place.
-fn put_query_fault<N: Sink>(notes: &mut N, fault: &[u8], place: u64)
-    ensures { PutsLine (N.written notes.old) (N.written notes.new) (N.faults notes.old)
-        (N.faults notes.new)
-        (query_fault_note fault.now place) }
-{
-    let mut digits = Buffer::new();
-    let place = digits.format(place).as_bytes();
-    put_five(notes, b"nq: query refused: ", fault, b" at ", place, b"\n");
 }
 
 // Puts the fault of a query text.
@@ -78,38 +79,14 @@ fn put_query<N: Sink>(notes: &mut N, fault: &SyntaxFault)
 {
     match *fault {
         SyntaxFault::Memory => put_one(notes, b"nq: want of memory\n"),
-        SyntaxFault::NotUtf8 { place } => put_query_fault(notes, b"NotUtf8", place),
-        SyntaxFault::Token { place } => put_query_fault(notes, b"Token", place),
-        SyntaxFault::Unexpected { place } => put_query_fault(notes, b"Unexpected", place),
-        SyntaxFault::IntRange { place } => put_query_fault(notes, b"IntRange", place),
-        SyntaxFault::Deep { place } => put_query_fault(notes, b"Deep", place),
-        SyntaxFault::Unbound { place } => put_query_fault(notes, b"Unbound", place),
-        SyntaxFault::TwiceLabel { place } => put_query_fault(notes, b"TwiceLabel", place),
+        SyntaxFault::NotUtf8 { place } => put_fault(notes, b"query", b"NotUtf8", place),
+        SyntaxFault::Token { place } => put_fault(notes, b"query", b"Token", place),
+        SyntaxFault::Unexpected { place } => put_fault(notes, b"query", b"Unexpected", place),
+        SyntaxFault::IntRange { place } => put_fault(notes, b"query", b"IntRange", place),
+        SyntaxFault::Deep { place } => put_fault(notes, b"query", b"Deep", place),
+        SyntaxFault::Unbound { place } => put_fault(notes, b"query", b"Unbound", place),
+        SyntaxFault::TwiceLabel { place } => put_fault(notes, b"query", b"TwiceLabel", place),
     }
-}
-
-// Puts that a query breaks a typing rule at a place.
-fn put_ill_typed<N: Sink>(notes: &mut N, rule: u8, place: u64)
-    ensures { PutsLine (N.written notes.old) (N.written notes.new) (N.faults notes.old)
-        (N.faults notes.new)
-        (type_note rule place) }
-{
-    let mut rule_digits = Buffer::new();
-    let mut place_digits = Buffer::new();
-    let rule = rule_digits.format(rule).as_bytes();
-    let place = place_digits.format(place).as_bytes();
-    put_five(notes, b"nq: ill typed: rule ", rule, b" at ", place, b"\n");
-}
-
-// Puts that an SQL text has a fault at a place.
-fn put_sql_fault<N: Sink>(notes: &mut N, fault: &[u8], place: u64)
-    ensures { PutsLine (N.written notes.old) (N.written notes.new) (N.faults notes.old)
-        (N.faults notes.new)
-        (sql_fault_note fault.now place) }
-{
-    let mut digits = Buffer::new();
-    let place = digits.format(place).as_bytes();
-    put_five(notes, b"nq: sql refused: ", fault, b" at ", place, b"\n");
 }
 
 // Puts the fault of an SQL text.
@@ -120,79 +97,57 @@ fn put_sql<N: Sink>(notes: &mut N, fault: &SqlFault)
 {
     match *fault {
         SqlFault::Memory => put_one(notes, b"nq: want of memory\n"),
-        SqlFault::NotUtf8 { place } => put_sql_fault(notes, b"NotUtf8", place),
-        SqlFault::Token { place } => put_sql_fault(notes, b"Token", place),
-        SqlFault::Unexpected { place } => put_sql_fault(notes, b"Unexpected", place),
-        SqlFault::IntRange { place } => put_sql_fault(notes, b"IntRange", place),
-        SqlFault::Deep { place } => put_sql_fault(notes, b"Deep", place),
+        SqlFault::NotUtf8 { place } => put_fault(notes, b"sql", b"NotUtf8", place),
+        SqlFault::Token { place } => put_fault(notes, b"sql", b"Token", place),
+        SqlFault::Unexpected { place } => put_fault(notes, b"sql", b"Unexpected", place),
+        SqlFault::IntRange { place } => put_fault(notes, b"sql", b"IntRange", place),
+        SqlFault::Deep { place } => put_fault(notes, b"sql", b"Deep", place),
     }
 }
 
-// Puts that an SQL text breaks a rule of scope at a place.
-fn put_ill_scoped<N: Sink>(notes: &mut N, rule: u8, place: u64)
+// Puts, after its words, a rule that is broken at a place.
+fn put_rule<N: Sink>(notes: &mut N, words: &[u8], rule: u8, place: u64)
     ensures { PutsLine (N.written notes.old) (N.written notes.new) (N.faults notes.old)
         (N.faults notes.new)
-        (scope_note rule place) }
+        (rule_note words.now rule place) }
 {
     let mut rule_digits = Buffer::new();
     let mut place_digits = Buffer::new();
     let rule = rule_digits.format(rule).as_bytes();
     let place = place_digits.format(place).as_bytes();
-    put_five(
-        notes,
-        b"nq: sql refused: rule ",
-        rule,
-        b" at ",
-        place,
-        b"\n",
-    );
+    put_five(notes, words, rule, b" at ", place, b"\n");
 }
 
-// Puts that a row of a table text has another number of cells.
-fn put_width<N: Sink>(notes: &mut N, name: &[u8], row: u64)
+// Puts of a table or of an answer that it is refused at a row.
+fn put_at_row<N: Sink>(notes: &mut N, what: &[u8], which: &[u8], words: &[u8], row: u64)
     ensures { PutsLine (N.written notes.old) (N.written notes.new) (N.faults notes.old)
         (N.faults notes.new)
-        (table_note name.now (TableFault.Width row)) }
+        (what.now ++ (which.now ++ at_row words.now row)) }
 {
     let mut digits = Buffer::new();
     let row = digits.format(row).as_bytes();
-    put_five(
-        notes,
-        b"nq: table ",
-        name,
-        b" refused: Width row ",
-        row,
-        b"\n",
-    );
+    put_five(notes, what, which, words, row, b"\n");
 }
 
-// Puts that a table text has a fault with two numbers, each after its words.
-fn put_table_fault<N: Sink>(
+// Puts of a table or of an answer that it is refused at a row, with a further number.
+fn put_at_both<N: Sink>(
     notes: &mut N,
-    name: &[u8],
+    what: &[u8],
+    which: &[u8],
     words: &[u8],
-    first: u64,
+    row: u64,
     more: &[u8],
     second: u64,
 )
     ensures { PutsLine (N.written notes.old) (N.written notes.new) (N.faults notes.old)
         (N.faults notes.new)
-        (table_fault_note name.now words.now first more.now second) }
+        (what.now ++ (which.now ++ at_both words.now row more.now second)) }
 {
-    let mut first_digits = Buffer::new();
+    let mut row_digits = Buffer::new();
     let mut second_digits = Buffer::new();
-    let first = first_digits.format(first).as_bytes();
+    let row = row_digits.format(row).as_bytes();
     let second = second_digits.format(second).as_bytes();
-    put_seven(
-        notes,
-        b"nq: table ",
-        name,
-        words,
-        first,
-        more,
-        second,
-        b"\n",
-    );
+    put_seven(notes, what, which, words, row, more, second, b"\n");
 }
 
 // Puts the fault of a table text.
@@ -204,10 +159,13 @@ fn put_table<N: Sink>(notes: &mut N, name: &[u8], fault: &TableFault)
     match *fault {
         TableFault::Memory => put_one(notes, b"nq: want of memory\n"),
         TableFault::Header => put_three(notes, b"nq: table ", name, b" refused: Header\n"),
-        TableFault::Width { row } => put_width(notes, name, row),
+        TableFault::Width { row } => {
+            put_at_row(notes, b"nq: table ", name, b" refused: Width row ", row);
+        }
         TableFault::NotUtf8 { row, column } => {
-            put_table_fault(
+            put_at_both(
                 notes,
+                b"nq: table ",
                 name,
                 b" refused: NotUtf8 row ",
                 row,
@@ -216,8 +174,9 @@ fn put_table<N: Sink>(notes: &mut N, name: &[u8], fault: &TableFault)
             );
         }
         TableFault::BadInt { row, column } => {
-            put_table_fault(
+            put_at_both(
                 notes,
+                b"nq: table ",
                 name,
                 b" refused: BadInt row ",
                 row,
@@ -226,8 +185,9 @@ fn put_table<N: Sink>(notes: &mut N, name: &[u8], fault: &TableFault)
             );
         }
         TableFault::BadBool { row, column } => {
-            put_table_fault(
+            put_at_both(
                 notes,
+                b"nq: table ",
                 name,
                 b" refused: BadBool row ",
                 row,
@@ -236,8 +196,9 @@ fn put_table<N: Sink>(notes: &mut N, name: &[u8], fault: &TableFault)
             );
         }
         TableFault::TwiceKey { row, earlier } => {
-            put_table_fault(
+            put_at_both(
                 notes,
+                b"nq: table ",
                 name,
                 b" refused: TwiceKey row ",
                 row,
@@ -245,6 +206,166 @@ fn put_table<N: Sink>(notes: &mut N, name: &[u8], fault: &TableFault)
                 earlier,
             );
         }
+    }
+}
+
+// Puts the fault of a JSON table.
+fn put_json_table<N: Sink>(notes: &mut N, name: &[u8], fault: &JsonTableFault)
+    ensures { PutsLine (N.written notes.old) (N.written notes.new) (N.faults notes.old)
+        (N.faults notes.new)
+        (json_table_note name.now fault.now) }
+{
+    match *fault {
+        JsonTableFault::Memory => put_one(notes, b"nq: want of memory\n"),
+        JsonTableFault::NotJson => put_three(notes, b"nq: table ", name, b" refused: NotJson\n"),
+        JsonTableFault::NotArray => put_three(notes, b"nq: table ", name, b" refused: NotArray\n"),
+        JsonTableFault::BadRow { row } => {
+            put_at_row(notes, b"nq: table ", name, b" refused: BadRow row ", row);
+        }
+        JsonTableFault::BadCell { row, column } => {
+            put_at_both(
+                notes,
+                b"nq: table ",
+                name,
+                b" refused: BadCell row ",
+                row,
+                b" column ",
+                column,
+            );
+        }
+        JsonTableFault::TwiceKey { row, earlier } => {
+            put_at_both(
+                notes,
+                b"nq: table ",
+                name,
+                b" refused: TwiceKey row ",
+                row,
+                b" earlier ",
+                earlier,
+            );
+        }
+    }
+}
+
+// Puts the fault of the text of an answer, whose number has these digits.
+fn put_answer_fault<N: Sink>(notes: &mut N, digits: &[u8], fault: &AnswerFault)
+    ensures { PutsLine (N.written notes.old) (N.written notes.new) (N.faults notes.old)
+        (N.faults notes.new)
+        (answer_note digits.now fault.now) }
+{
+    match *fault {
+        AnswerFault::Memory => put_one(notes, b"nq: want of memory\n"),
+        AnswerFault::Header => put_three(notes, b"nq: answer ", digits, b" refused: Header\n"),
+        AnswerFault::Width { row } => {
+            put_at_row(notes, b"nq: answer ", digits, b" refused: Width row ", row);
+        }
+        AnswerFault::NotUtf8 { row, column } => {
+            put_at_both(
+                notes,
+                b"nq: answer ",
+                digits,
+                b" refused: NotUtf8 row ",
+                row,
+                b" column ",
+                column,
+            );
+        }
+        AnswerFault::BadInt { row, column } => {
+            put_at_both(
+                notes,
+                b"nq: answer ",
+                digits,
+                b" refused: BadInt row ",
+                row,
+                b" column ",
+                column,
+            );
+        }
+        AnswerFault::BadBool { row, column } => {
+            put_at_both(
+                notes,
+                b"nq: answer ",
+                digits,
+                b" refused: BadBool row ",
+                row,
+                b" column ",
+                column,
+            );
+        }
+    }
+}
+
+// Puts the fault of the text of the answer of this number.
+fn put_answer<N: Sink>(notes: &mut N, number: u64, fault: &AnswerFault)
+    ensures { PutsLine (N.written notes.old) (N.written notes.new) (N.faults notes.old)
+        (N.faults notes.new)
+        (answer_note (decimal number) fault.now) }
+{
+    let mut digits = Buffer::new();
+    let number = digits.format(number).as_bytes();
+    put_answer_fault(notes, number, fault);
+}
+
+// Puts that a row of an answer stands in no bag that is given.
+fn put_dangling<N: Sink>(notes: &mut N, answer: u64, row: u64)
+    ensures { PutsLine (N.written notes.old) (N.written notes.new) (N.faults notes.old)
+        (N.faults notes.new)
+        (link_note (LinkFault.Dangling answer row)) }
+{
+    let mut digits = Buffer::new();
+    let answer = digits.format(answer).as_bytes();
+    put_at_row(
+        notes,
+        b"nq: answer ",
+        answer,
+        b" refused: Dangling row ",
+        row,
+    );
+}
+
+// Puts that a row of an answer gives a bag by the index of an earlier row.
+fn put_twice<N: Sink>(notes: &mut N, answer: u64, row: u64, column: u64, earlier: u64)
+    ensures { PutsLine (N.written notes.old) (N.written notes.new) (N.faults notes.old)
+        (N.faults notes.new)
+        (link_note (LinkFault.Twice answer row column earlier)) }
+{
+    let mut answer_digits = Buffer::new();
+    let mut row_digits = Buffer::new();
+    let mut column_digits = Buffer::new();
+    let mut earlier_digits = Buffer::new();
+    let answer = answer_digits.format(answer).as_bytes();
+    let row = row_digits.format(row).as_bytes();
+    let column = column_digits.format(column).as_bytes();
+    let earlier = earlier_digits.format(earlier).as_bytes();
+    put_nine(
+        notes,
+        b"nq: answer ",
+        answer,
+        b" refused: Twice row ",
+        row,
+        b" column ",
+        column,
+        b" earlier ",
+        earlier,
+        b"\n",
+    );
+}
+
+// Puts why answers are not linked.
+fn put_links<N: Sink>(notes: &mut N, fault: &LinkFault)
+    ensures { PutsLine (N.written notes.old) (N.written notes.new) (N.faults notes.old)
+        (N.faults notes.new)
+        (link_note fault.now) }
+{
+    match *fault {
+        LinkFault::Memory => put_one(notes, b"nq: want of memory\n"),
+        LinkFault::Dangling { text, row } => put_dangling(notes, text, row),
+        LinkFault::Twice {
+            text,
+            row,
+            column,
+            earlier,
+        } => put_twice(notes, text, row, column, earlier),
     }
 }
 
@@ -260,10 +381,17 @@ fn put_refused<N: Sink>(notes: &mut N, refused: &Refused)
         }
         Refused::Schema(fault) => put_schema(notes, fault),
         Refused::Query(fault) => put_query(notes, fault),
-        Refused::IllTyped { rule, place } => put_ill_typed(notes, *rule, *place),
+        Refused::IllTyped { rule, place } => {
+            put_rule(notes, b"nq: ill typed: rule ", *rule, *place);
+        }
         Refused::Table(name, fault) => put_table(notes, name.as_str().as_bytes(), fault),
         Refused::Sql(fault) => put_sql(notes, fault),
-        Refused::IllScoped { rule, place } => put_ill_scoped(notes, *rule, *place),
+        Refused::IllScoped { rule, place } => {
+            put_rule(notes, b"nq: sql refused: rule ", *rule, *place);
+        }
+        Refused::JsonTable(name, fault) => put_json_table(notes, name.as_str().as_bytes(), fault),
+        Refused::Answer(number, fault) => put_answer(notes, *number, fault),
+        Refused::Links(fault) => put_links(notes, fault),
     }
 }
 

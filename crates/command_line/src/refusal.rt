@@ -1,6 +1,8 @@
 // Why a command gives no text.
+use foreign_answers::{AnswerFault, LinkFault};
 use nq_edge::PutFault;
 use nq_execute::ServerRefusal;
+use nq_json::JsonTableFault;
 use nq_model::{Label, Memory, Text};
 use query_syntax::SyntaxFault;
 use schema_reader::SchemaFault;
@@ -24,6 +26,12 @@ pub enum Refused {
     Sql(SqlFault),
     /// The SQL text breaks this rule of scope at this place, first in the order of judging.
     IllScoped { rule: u8, place: u64 },
+    /// The JSON text of the table of this name is refused.
+    JsonTable(Label, JsonTableFault),
+    /// The text of the answer of this number, counted from 1, is refused.
+    Answer(u64, AnswerFault),
+    /// The answers are not linked.
+    Links(LinkFault),
 }
 
 /// Why no inputs were gathered.

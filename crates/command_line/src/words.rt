@@ -1,9 +1,10 @@
 // The words of the command line.
 ghost use Rattle.std.specs.Prelude.{◌≡◌, IfSome, map, option_map, string_bytes};
-ghost use Rattle.command_line.specs.Commands.{one_word, two_words, three_words, shown, four_words, five_words, command_of};
+ghost use Rattle.command_line.specs.Commands.{one_word, two_words, three_words, shown, four_words, as_json, five_words, over_tables, six_words, command_of};
 ghost use Rattle.command_line.specs.Words.{HasSize, aim_view, command_view};
 
 use generated_inputs::size_of;
+use nq_execute::RowWriting;
 
 /// What is done with a query that is accepted.
 #[derive(Clone, Copy)]
@@ -12,6 +13,12 @@ pub enum Aim<'a> {
     Run(&'a str),
     /// Its value is written as JSON, over the table texts of the folder of this name.
     RunJson(&'a str),
+    /// Its value is written as JSON, over the JSON tables of the folder of this name.
+    RunJsonTables(&'a str),
+    /// The value of the answers of the folder of this name is written.
+    Stitch(&'a str),
+    /// The value of the answers of the folder of this name is written as JSON.
+    StitchJson(&'a str),
     /// That it is accepted is written.
     Check,
     /// Its type is written.
@@ -25,14 +32,15 @@ pub enum Aim<'a> {
 }
 
 /// What the words ask for.
-#[derive(Clone, Copy)]
+#[derive(Drop)]
 pub enum Command<'a> {
     Help,
     Version,
     /// An aim, with the names of the schema and of the query.
     OfQuery(Aim<'a>, &'a str, &'a str),
-    /// The names of the schema, of the SQL text and of the folder of the table texts.
-    Answer(&'a str, &'a str, &'a str),
+    /// How rows are written, with the names of the schema, of the SQL text and of the folder of the
+    /// table texts.
+    Answer(RowWriting, &'a str, &'a str, &'a str),
     /// The size of generated tables.
     Generated(u64),
 }
@@ -108,7 +116,9 @@ fn four_words<'a>(
     if word == "run" {
         Some(Command::OfQuery(Aim::Run(fourth), second, third))
     } else if word == "answer" {
-        Some(Command::Answer(second, third, fourth))
+        Some(Command::Answer(RowWriting::Lines, second, third, fourth))
+    } else if word == "stitch" {
+        Some(Command::OfQuery(Aim::Stitch(fourth), second, third))
     } else if word == "show" {
         match shown(second) {
             Some(aim) => Some(Command::OfQuery(aim, third, fourth)),
@@ -119,8 +129,44 @@ fn four_words<'a>(
     }
 }
 
+// What `json` makes of a word with its three names.
+fn as_json<'a>(word: &str, schema: &'a str, text: &'a str, folder: &'a str) -> Option<Command<'a>>
+    ensures is { option_map command_view result
+        ≡ as_json word.now schema.now text.now folder.now }
+    ensures sized { IfSome result HasSize }
+{
+    if word == "run" {
+        Some(Command::OfQuery(Aim::RunJson(folder), schema, text))
+    } else if word == "answer" {
+        Some(Command::Answer(RowWriting::Arrays, schema, text, folder))
+    } else if word == "stitch" {
+        Some(Command::OfQuery(Aim::StitchJson(folder), schema, text))
+    } else {
+        None
+    }
+}
+
 // The command of five words.
 fn five_words<'a>(
+    word: &str,
+    form: &str,
+    schema: &'a str,
+    text: &'a str,
+    folder: &'a str,
+) -> Option<Command<'a>>
+    ensures is { option_map command_view result
+        ≡ five_words word.now form.now schema.now text.now folder.now }
+    ensures sized { IfSome result HasSize }
+{
+    if form == "json" {
+        as_json(word, schema, text, folder)
+    } else {
+        None
+    }
+}
+
+// What `tables` makes of `run json` with its three names.
+fn over_tables<'a>(
     word: &str,
     form: &str,
     schema: &'a str,
@@ -128,14 +174,34 @@ fn five_words<'a>(
     folder: &'a str,
 ) -> Option<Command<'a>>
     ensures is { option_map command_view result
-        ≡ five_words word.now form.now schema.now query.now folder.now }
+        ≡ over_tables word.now form.now schema.now query.now folder.now }
     ensures sized { IfSome result HasSize }
 {
-    if form != "json" {
+    if word != "run" {
         return None;
     }
-    if word == "run" {
-        Some(Command::OfQuery(Aim::RunJson(folder), schema, query))
+    if form == "json" {
+        Some(Command::OfQuery(Aim::RunJsonTables(folder), schema, query))
+    } else {
+        None
+    }
+}
+
+// The command of six words.
+fn six_words<'a>(
+    word: &str,
+    form: &str,
+    source: &str,
+    schema: &'a str,
+    query: &'a str,
+    folder: &'a str,
+) -> Option<Command<'a>>
+    ensures is { option_map command_view result
+        ≡ six_words word.now form.now source.now schema.now query.now folder.now }
+    ensures sized { IfSome result HasSize }
+{
+    if source == "tables" {
+        over_tables(word, form, schema, query, folder)
     } else {
         None
     }
@@ -158,9 +224,17 @@ pub fn command_of<'a>(words: &'a [String]) -> Option<Command<'a>>
             third.as_str(),
             fourth.as_str(),
         ),
-        [word, form, schema, query, folder] => five_words(
+        [word, form, schema, text, folder] => five_words(
             word.as_str(),
             form.as_str(),
+            schema.as_str(),
+            text.as_str(),
+            folder.as_str(),
+        ),
+        [word, form, source, schema, query, folder] => six_words(
+            word.as_str(),
+            form.as_str(),
+            source.as_str(),
             schema.as_str(),
             query.as_str(),
             folder.as_str(),

@@ -4,7 +4,10 @@ pub returns-in-TooLong : goal.returns-in-TooLong
 returns-in-TooLong g c = rw c.in-TooLong.is (rw c.as_str.ensures.value at (rw c.as_bytes.ensures.value at c.put_too_long.ensures))
 
 pub returns-in-IllTyped : goal.returns-in-IllTyped
-returns-in-IllTyped g c = rw c.in-IllTyped.is c.put_ill_typed.ensures
+returns-in-IllTyped g c = rw c.in-IllTyped.is c.put_rule.ensures
 
 pub returns-in-IllScoped : goal.returns-in-IllScoped
-returns-in-IllScoped g c = rw c.in-IllScoped.is c.put_ill_scoped.ensures
+returns-in-IllScoped g c = rw c.in-IllScoped.is c.put_rule-in-IllScoped.ensures
+
+pub returns-in-Answer : goal.returns-in-Answer
+returns-in-Answer g c = rw c.in-Answer.is c.put_answer.ensures

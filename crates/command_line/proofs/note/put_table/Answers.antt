@@ -1,13 +1,16 @@
 use Rattle.command_line.proofs.note.put_table.Goals as goal
 
+pub returns-in-Width : goal.returns-in-Width
+returns-in-Width g c = rw c.in-Width.is c.put_at_row.ensures
+
 pub returns-in-NotUtf8 : goal.returns-in-NotUtf8
-returns-in-NotUtf8 g c = rw c.in-NotUtf8.is c.put_table_fault.ensures
+returns-in-NotUtf8 g c = rw c.in-NotUtf8.is c.put_at_both.ensures
 
 pub returns-in-BadInt : goal.returns-in-BadInt
-returns-in-BadInt g c = rw c.in-BadInt.is c.put_table_fault-in-BadInt.ensures
+returns-in-BadInt g c = rw c.in-BadInt.is c.put_at_both-in-BadInt.ensures
 
 pub returns-in-BadBool : goal.returns-in-BadBool
-returns-in-BadBool g c = rw c.in-BadBool.is c.put_table_fault-in-BadBool.ensures
+returns-in-BadBool g c = rw c.in-BadBool.is c.put_at_both-in-BadBool.ensures
 
 pub returns-in-TwiceKey : goal.returns-in-TwiceKey
-returns-in-TwiceKey g c = rw c.in-TwiceKey.is c.put_table_fault-in-TwiceKey.ensures
+returns-in-TwiceKey g c = rw c.in-TwiceKey.is c.put_at_both-in-TwiceKey.ensures

@@ -1,4 +1,4 @@
-use Rattle.command_line.proofs.note.put_ill_scoped.Goals as goal
+use Rattle.command_line.proofs.note.put_rule.Goals as goal
 
 pub returns : goal.returns
 returns g c =
