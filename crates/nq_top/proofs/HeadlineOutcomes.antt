@@ -34,26 +34,9 @@ use Rattle.nq_top.specs.Theorem.{Answer, Gives, Writes, Tells, PutsAll, PutsAt, 
 use Rattle.nq_top.specs.World.{SinkState, World, command_in}
 use Rattle.nq_top.proofs.HeadlineQueries.{whole, typed, run_draft, after_type, run_planned, is_missing, is_refused, Cases, are_given, are_refused, are_missing, accepted_cases, run_cases}
 use Rattle.nq_top.proofs.Readings.{one_reading}
+use Rattle.nq_top.proofs.Statuses.{no_fault}
 
 -- 1. what a status says of its answer
-
--- the statuses of inputs that are refused
-abbrev is_fault : ℕ → Bool
-is_fault status = list_any (λ s. s == status) (3 ∷ 4 ∷ 5 ∷ 6 ∷ 10 ∷ 12 ∷ [])
-
-fault_status : (why : Refused) → is_fault (refused_status why) ≡ true
-fault_status (refused_for.TooLong name limit) = refl
-fault_status (refused_for.Schema fault) = refl
-fault_status (refused_for.Query fault) = refl
-fault_status (refused_for.IllTyped rule place) = refl
-fault_status (refused_for.Table name fault) = refl
-fault_status (refused_for.Sql fault) = refl
-fault_status (refused_for.IllScoped rule place) = refl
-
-no_fault : (status : ℕ) (why : Refused) → is_fault status ≡ false → status ≡ refused_status why → ⊥
-no_fault status why clear is =
-    let faulty : is_fault status ≡ true = ap (λ (s : ℕ). is_fault s) is ∙ fault_status why in
-    absurd (let both : true ≡ false = sym faulty ∙ clear in cc)
 
 -- an answer with the status of a refusal of the inputs is one
 refusal_of : (a : Answer) (some : Refused) → status_of a ≡ refused_status some → (why : Refused) × (a ≡ Err (refusal.Input (input.Refused why)))

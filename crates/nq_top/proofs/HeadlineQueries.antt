@@ -25,7 +25,7 @@ use Rattle.table_reader.specs.Faults.{HasFault as HasTableFault}
 use Rattle.table_reader.specs.Records.{records_of}
 use Rattle.table_reader.specs.declared.TableFault.{TableFault}
 use Rattle.command_line.specs.declared.refusal.Refused.{Refused}
-use Rattle.command_line.specs.declared.refusal.Refused.TheVariants.{TooLong, Schema as SchemaRefused, Query as QueryRefused, IllTyped, Table as TableRefused, Sql, IllScoped}
+use Rattle.command_line.specs.declared.refusal.Refused.TheVariants.{TooLong, Schema as SchemaRefused, Query as QueryRefused, IllTyped, Table as TableRefused, Sql, IllScoped, JsonTable, Answer, Links}
 use Rattle.command_line.specs.Commands.{Aim, run, of_query}
 use Rattle.nq_top.specs.Headline.{Names, HeldWithin, GivenSchema, GivenQuery, Accepted, GivenTables, GivenRun, NextTable, LooksFor, AreRefused}
 use Rattle.nq_top.specs.Judging.{Judgement, Verdict, missing, refused, planned, after, fetched_then, read_then, text_then, query_then, aim_judged, tables_judged, command_judged}
@@ -33,6 +33,7 @@ use Rattle.nq_top.specs.Limits.{text_limit, tables_limit, depth_limit}
 use Rattle.nq_top.specs.Lines.{file_of}
 use Rattle.nq_top.specs.Plans.{Draft, drafted, query_draft, query_question}
 use Rattle.nq_top.specs.Reading.{Reading, ReadsQuery, TypedTerm, refused_as, schema_read, term_read, type_read, typed_as, typed_over, query_read, ill_typed, rows_read}
+use Rattle.nq_top.specs.declared.tables.TableTexts.TheVariants.{Csv}
 use Rattle.nq_top.proofs.Steps.{read_next}
 use Rattle.nq_top.proofs.QueryReadings.{fault_of, says_term, says_fault}
 use Rattle.nq_top.proofs.SchemaTexts.{same_fault}
@@ -188,7 +189,7 @@ module _ (reading : Reading) (files : Files) (names : Names) (aim : Aim) where
   run_verdict accepted tables = planned (drafted (run_draft accepted) tables) (query_question (typed accepted))
 
   run_aim : (accepted : Accepted files names) (folder : List ℕ) → aim ≡ run folder
-      → (whole reading files names aim).verdict ≡ (tables_judged files folder accepted.given.over.schema.tables tables_limit [] (run_verdict accepted)).verdict
+      → (whole reading files names aim).verdict ≡ (tables_judged files Csv folder accepted.given.over.schema.tables tables_limit [] (run_verdict accepted)).verdict
   unfolding aim_judged
   run_aim accepted folder is =
       ap (λ (j : Judgement). j.verdict) (after_type accepted)
@@ -221,7 +222,7 @@ module _ (reading : Reading) (files : Files) (names : Names) (aim : Aim) where
         next = next;
         comes =
             run_aim table.accepted table.folder (runs table.folder table.is_run)
-            ∙ ap (λ (shapes : List TableShape). (tables_judged files table.folder shapes tables_limit [] next).verdict) table.tables
+            ∙ ap (λ (shapes : List TableShape). (tables_judged files Csv table.folder shapes tables_limit [] next).verdict) table.tables
             ∙ tables_reach files table.folder next table.before shape table.after tables_limit [] table.given.texts table.given.rows table.given.held table.given.within table.given.given
             ∙ ap₂ (λ (n : List ℕ) l. (fetched_then files n l (table_next files table.folder shape table.after l done next)).verdict) (sym table.named) (sym table.left);
       }
@@ -249,7 +250,7 @@ module _ (reading : Reading) (files : Files) (names : Names) (aim : Aim) where
       let found = table_looked runs shape name limit looks in
       found.comes
       ∙ ap (λ (j : Judgement). j.verdict) (held_next files name limit (table_next files found.folder shape found.behind limit found.done found.next) text held)
-      ∙ read_stops (rows_read shape text) (TableRefused shape.name fault) _ (rows_faulty shape text fault has)
+      ∙ read_stops (rows_read Csv shape text) (TableRefused shape.name fault) _ (rows_faulty shape text fault has)
       ∙ ap (λ (n : List ℕ). refused (TableRefused n fault)) (sym named)
 
   pub is_refused : RunsFolder → (why : Refused) → AreRefused files names why → (whole reading files names aim).verdict ≡ refused why
@@ -270,6 +271,9 @@ module _ (reading : Reading) (files : Files) (names : Names) (aim : Aim) where
   is_refused runs (TableRefused table fault) (shape, named, name, limit, looks, (text, held, has)) = table_faulty runs shape table name limit text fault named looks held has
   is_refused runs (Sql fault) never = absurd never
   is_refused runs (IllScoped rule place) never = absurd never
+  is_refused runs (JsonTable name fault) never = absurd never
+  is_refused runs (Answer number fault) never = absurd never
+  is_refused runs (Links fault) never = absurd never
 
 -- 3. they come to one of three
 

@@ -17,6 +17,7 @@ use Rattle.nq_top.specs.Headline.{HeldWithin, GivenTables}
 use Rattle.nq_top.specs.Judging.{Judgement, Verdict, missing, refused, after, judged, fetched_then, read_then, loaded_as, tables_judged}
 use Rattle.nq_top.specs.Lines.{file_of}
 use Rattle.nq_top.specs.Reading.{refused_as, rows_read}
+use Rattle.nq_top.specs.declared.tables.TableTexts.TheVariants.{Csv}
 use Rattle.nq_top.proofs.Steps.{fetch_next, read_next}
 
 pub sum_more : (n : ℕ) (ns : List ℕ) → sum (n ∷ ns) ≡ n + sum ns
@@ -64,34 +65,34 @@ held_at files name limit = go (bytes_at files name) refl
 
 -- 2. the rows of a text
 
-pub rows_given : (shape : TableShape) (text : List ℕ) (rows : List (List Cell)) → GivesRows shape (records_of text) rows → rows_read shape text ≡ Ok rows
+pub rows_given : (shape : TableShape) (text : List ℕ) (rows : List (List Cell)) → GivesRows shape (records_of text) rows → rows_read Csv shape text ≡ Ok rows
 unfolding rows_read table_of
 rows_given shape text rows gives = ap (refused_as (TableRefused shape.name)) (given_under shape (records_of text) rows gives)
 
-pub rows_faulty : (shape : TableShape) (text : List ℕ) (fault : TableFault) → HasFault shape (records_of text) fault → rows_read shape text ≡ Err (TableRefused shape.name fault)
+pub rows_faulty : (shape : TableShape) (text : List ℕ) (fault : TableFault) → HasFault shape (records_of text) fault → rows_read Csv shape text ≡ Err (TableRefused shape.name fault)
 unfolding rows_read table_of
 rows_faulty shape text fault has = ap (refused_as (TableRefused shape.name)) (wrong_under shape (records_of text) fault has)
 
 -- what is judged after a table's text
 abbrev pub table_next : Files → List ℕ → TableShape → List TableShape → ℕ → List Loaded → (List Loaded → Verdict) → List ℕ → Judgement
 table_next files folder shape shapes left done next text =
-    read_then (rows_read shape text) (λ rows. tables_judged files folder shapes (left - length text) (done ++ loaded_as shape rows ∷ []) next)
+    read_then (rows_read Csv shape text) (λ rows. tables_judged files Csv folder shapes (left - length text) (done ++ loaded_as shape rows ∷ []) next)
 
 module _ (files : Files) (folder : List ℕ) (next : List Loaded → Verdict) where
   -- a table that is given is followed by the others
   table_given : (shape : TableShape) (shapes : List TableShape) (left : ℕ) (done : List Loaded) (text : List ℕ) (rows : List (List Cell))
       → HeldWithin files (file_of folder shape.name) left text → GivesRows shape (records_of text) rows
-      → (tables_judged files folder (shape ∷ shapes) left done next).verdict ≡ (tables_judged files folder shapes (left - length text) (done ++ loaded_as shape rows ∷ []) next).verdict
+      → (tables_judged files Csv folder (shape ∷ shapes) left done next).verdict ≡ (tables_judged files Csv folder shapes (left - length text) (done ++ loaded_as shape rows ∷ []) next).verdict
   table_given shape shapes left done text rows held gives =
       ap (λ (j : Judgement). j.verdict)
       (held_next files (file_of folder shape.name) left (table_next files folder shape shapes left done next) text held
-      ∙ ap (after (file_of folder shape.name)) (read_next (rows_read shape text) rows (λ rows. tables_judged files folder shapes (left - length text) (done ++ loaded_as shape rows ∷ []) next) (rows_given shape text rows gives)))
+      ∙ ap (after (file_of folder shape.name)) (read_next (rows_read Csv shape text) rows (λ rows. tables_judged files Csv folder shapes (left - length text) (done ++ loaded_as shape rows ∷ []) next) (rows_given shape text rows gives)))
 
   -- tables that are given come to what comes of them
   pub tables_given : (shapes : List TableShape) (left : ℕ) (done : List Loaded) (texts : List (List ℕ)) (rows : List (List (List Cell)))
       → AllZip (λ shape text. bytes_at files (file_of folder shape.name) ≡ Some text) shapes texts → sum (map length texts) ≤ left
       → AllZip (λ table rows. GivesRows table.0 (records_of table.1) rows) (zip shapes texts) rows
-      → (tables_judged files folder shapes left done next).verdict ≡ next (done ++ held_of shapes rows)
+      → (tables_judged files Csv folder shapes left done next).verdict ≡ next (done ++ held_of shapes rows)
   tables_given [] left done [] [] held within given = ap next (sym (append-nil done))
   tables_given [] left done [] (r ∷ rows) held within given = absurd given
   tables_given [] left done (t ∷ texts) rows held within given = absurd held
@@ -107,7 +108,7 @@ module _ (files : Files) (folder : List ℕ) (next : List Loaded → Verdict) wh
   pub tables_reach : (before : List TableShape) (shape : TableShape) (shapes : List TableShape) (left : ℕ) (done : List Loaded) (texts : List (List ℕ)) (rows : List (List (List Cell)))
       → AllZip (λ s text. bytes_at files (file_of folder s.name) ≡ Some text) before texts → sum (map length texts) ≤ left
       → AllZip (λ table rows. GivesRows table.0 (records_of table.1) rows) (zip before texts) rows
-      → (tables_judged files folder (before ++ shape ∷ shapes) left done next).verdict
+      → (tables_judged files Csv folder (before ++ shape ∷ shapes) left done next).verdict
       ≡ (fetched_then files (file_of folder shape.name) (left - sum (map length texts)) (table_next files folder shape shapes (left - sum (map length texts)) (done ++ held_of before rows) next)).verdict
   tables_reach [] shape shapes left done [] [] held within given =
       let same : left ≡ left - 0 = omega arith in

@@ -1,12 +1,13 @@
 -- Any two readings come to one judgement.
-use Rattle.std.proofs.Common.{◌≡◌, ◌-◌, ℕ, List, [], ◌∷◌, ◌++◌, length, map, Some, None, Option, Result, Ok, Err, cond, nat_lt, refl, ap, subst, ◌∙◌}
+use Rattle.std.proofs.Common.{◌≡◌, ◌+◌, ◌-◌, ℕ, List, [], ◌∷◌, ◌++◌, length, map, Some, None, Option, Result, Ok, Err, cond, nat_lt, refl, ap, subst, ◌∙◌}
 use Rattle.nq_edge.specs.Edge.{Files, bytes_at}
-use Rattle.command_line.specs.Commands.{Aim, run, run_json, check, show_types, show_normal, show_paths, show_sql, Command, help, version, of_query, answer, generated}
+use Rattle.command_line.specs.Commands.{Aim, run, run_json, run_json_tables, stitch, stitch_json, check, show_types, show_normal, show_paths, show_sql, Command, help, version, of_query, answer, generated}
 use Rattle.command_line.specs.declared.refusal.Refused.{Refused}
 use Rattle.command_line.specs.declared.refusal.Refused.TheVariants.{TooLong, Query as QueryRefused, Schema as SchemaRefused}
 use Rattle.nq_model.specs.Terms.{PlacedTerm, bare}
 use Rattle.nq_model.specs.Types.{TypeTree}
 use Rattle.nq_model.specs.Typing.{IsAccepted}
+use Rattle.nq_model.specs.declared.table.ColumnType.{ColumnType}
 use Rattle.nq_model.specs.declared.table.Schema.{Schema}
 use Rattle.nq_model.specs.declared.table.TableShape.{TableShape}
 use Rattle.nq_model.proofs.Judging.{judged_accepted}
@@ -16,13 +17,16 @@ use Rattle.nq_compile.specs.Texts.{texts_of}
 use Rattle.generated_inputs.specs.Generated.{generated_schema, generated_query, generated_type, generated_tables}
 use Rattle.nq_execute.specs.Plans.{Finish, Indexes, Writing}
 use Rattle.shred_types.specs.Columns.{columns_at}
+use Rattle.sql_profile.specs.declared.answer.Answer.{Answer}
 use Rattle.sql_profile.specs.declared.server.Loaded.{Loaded}
-use Rattle.nq_top.specs.Judging.{Judgement, Verdict, refused, planned, written, shown, at_once, after, judged, fetched_then, read_then, text_then, loaded_as, tables_judged, aim_judged, judgement}
+use Rattle.nq_top.specs.Judging.{Judgement, Verdict, refused, planned, written, shown, linked, at_once, after, judged, fetched_then, read_then, text_then, loaded_as, tables_judged, answers_then, stitch_judged, aim_judged, judgement}
 use Rattle.nq_top.specs.Limits.{text_limit, tables_limit}
-use Rattle.nq_top.specs.Lines.{file_of}
+use Rattle.nq_top.specs.Lines.{file_by, answer_file_of}
 use Rattle.nq_top.specs.Plans.{Draft, drafted, draft_to, question_to, generated_question}
-use Rattle.nq_top.specs.Reading.{Reading, TypedTerm, refused_as, schema_read, term_read, type_read, typed_as, typed_over, query_read, sql_read, tree_read, rows_read}
+use Rattle.nq_top.specs.Reading.{Reading, TypedTerm, refused_as, schema_read, term_read, type_read, typed_as, typed_over, query_read, sql_read, tree_read, rows_read, answer_read, links_read}
 use Rattle.nq_top.specs.Shown.{form_line, shown_texts}
+use Rattle.nq_top.specs.declared.tables.TableTexts.{TableTexts}
+use Rattle.nq_top.specs.declared.tables.TableTexts.TheVariants.{Csv, Json}
 use Rattle.nq_top.proofs.Readings.{one_schema, one_query, one_sql, one_plain}
 use Rattle.nq_top.proofs.Showings.{read_accepted}
 
@@ -50,12 +54,19 @@ text_same files name read other f g same next =
     fetched_same files name text_limit (λ text. read_then (read text) f) (λ text. read_then (other text) g)
     (λ text. both_read (read text) (other text) f g (same text) (next text))
 
-tables_same : (files : Files) (folder : List ℕ) (shapes : List TableShape) (left : ℕ) (done : List Loaded) (f g : List Loaded → Verdict) → ((tables : List Loaded) → f tables ≡ g tables)
-    → tables_judged files folder shapes left done f ≡ tables_judged files folder shapes left done g
-tables_same files folder [] left done f g same = ap at_once (same done)
-tables_same files folder (shape ∷ shapes) left done f g same =
-    fetched_same files (file_of folder shape.name) left _ _
-    (λ text. read_same (rows_read shape text) _ _ (λ rows is. tables_same files folder shapes (left - length text) (done ++ loaded_as shape rows ∷ []) f g same))
+tables_same : (files : Files) (kind : TableTexts) (folder : List ℕ) (shapes : List TableShape) (left : ℕ) (done : List Loaded) (f g : List Loaded → Verdict) → ((tables : List Loaded) → f tables ≡ g tables)
+    → tables_judged files kind folder shapes left done f ≡ tables_judged files kind folder shapes left done g
+tables_same files kind folder [] left done f g same = ap at_once (same done)
+tables_same files kind folder (shape ∷ shapes) left done f g same =
+    fetched_same files (file_by kind folder shape.name) left _ _
+    (λ text. read_same (rows_read kind shape text) _ _ (λ rows is. tables_same files kind folder shapes (left - length text) (done ++ loaded_as shape rows ∷ []) f g same))
+
+answers_same : (files : Files) (folder : List ℕ) (columns : List (List ColumnType)) (left : ℕ) (done : List Answer) (f g : List Answer → Judgement) → ((answers : List Answer) → f answers ≡ g answers)
+    → answers_then files folder columns left done f ≡ answers_then files folder columns left done g
+answers_same files folder [] left done f g same = same done
+answers_same files folder (types ∷ columns) left done f g same =
+    fetched_same files (answer_file_of folder (length done + 1)) left _ _
+    (λ text. read_same (answer_read (length done + 1) types text) _ _ (λ given is. answers_same files folder columns (left - length text) (done ++ given ∷ []) f g same))
 
 -- a query whose type is read is the one that was read, and accepted
 typed_accepted : (schema : Schema) (term : PlacedTerm) (type : Result TypeTree Refused) (query : TypedTerm) → type_read schema term ≡ type → typed_as term type ≡ Ok query
@@ -86,15 +97,34 @@ module _ (reading other : Reading) where
       } in
       ap Of (one_plain reading other schema term type accepted)
 
+  stitch_same : (writing : Writing) (files : Files) (folder : List ℕ) (schema : Schema) (query : TypedTerm) → IsAccepted schema (bare query.term) query.type
+      → stitch_judged writing reading.plain files folder schema query ≡ stitch_judged writing other.plain files folder schema query
+  unfolding shown_texts
+  stitch_same writing files folder schema query accepted =
+      answers_same files folder (map (columns_at query.type) (paths query.type)) tables_limit [] _ _
+      (λ answers. read_same (links_read query.type answers) _ _
+      (λ those is. ap (λ (t : PlacedTerm). at_once (linked (record {
+        schema = schema;
+        query = query;
+        writing = writing;
+        texts = texts_of schema (normal_form schema.tables (element_type query.type) (bare t));
+        answers = those;
+      }))) (one_plain reading other schema query.term query.type accepted)))
+
   aim_same : (files : Files) (aim : Aim) (schema : Schema) (query : TypedTerm) → IsAccepted schema (bare query.term) query.type
       → aim_judged reading.plain files aim schema query ≡ aim_judged other.plain files aim schema query
   unfolding aim_judged shown_texts
   aim_same files (run folder) schema query accepted =
-      tables_same files folder schema.tables tables_limit [] _ _
+      tables_same files Csv folder schema.tables tables_limit [] _ _
       (λ tables. ap (λ (draft : Draft). planned (drafted draft tables) (question_to Writing.text query)) (draft_same Writing.text schema query.term query.type accepted))
   aim_same files (run_json folder) schema query accepted =
-      tables_same files folder schema.tables tables_limit [] _ _
+      tables_same files Csv folder schema.tables tables_limit [] _ _
       (λ tables. ap (λ (draft : Draft). planned (drafted draft tables) (question_to Writing.json query)) (draft_same Writing.json schema query.term query.type accepted))
+  aim_same files (run_json_tables folder) schema query accepted =
+      tables_same files Json folder schema.tables tables_limit [] _ _
+      (λ tables. ap (λ (draft : Draft). planned (drafted draft tables) (question_to Writing.json query)) (draft_same Writing.json schema query.term query.type accepted))
+  aim_same files (stitch folder) schema query accepted = stitch_same Writing.text files folder schema query accepted
+  aim_same files (stitch_json folder) schema query accepted = stitch_same Writing.json files folder schema query accepted
   aim_same files check schema query accepted = refl
   aim_same files show_types schema query accepted = refl
   aim_same files show_normal schema query accepted =
@@ -131,7 +161,7 @@ module _ (reading other : Reading) where
   one_judgement (Some (of_query aim schema name)) files =
       text_same files schema _ _ _ _ schema_same
       (λ text found is. text_same files name _ _ _ _ (query_same found) (λ spelled query typed. aim_same files aim found query (query_accepted found spelled query typed)))
-  one_judgement (Some (answer schema name folder)) files =
+  one_judgement (Some (answer writing schema name folder)) files =
       text_same files schema _ _ _ _ schema_same
       (λ text found is. text_same files name _ _ _ _ (sql_same found) (λ asked columns scoped. refl))
   one_judgement (Some (generated size)) files =

@@ -43,7 +43,7 @@ use Rattle.stitcher.specs.Stitching.{rows_of}
 use Rattle.unfold.specs.Hereditary.{unfolded}
 use Rattle.unfold.proofs.Whole.{is_unfolding}
 use Rattle.nq_execute.specs.Loading.{CanLoad}
-use Rattle.nq_execute.specs.Plans.{Finish, Indexes, Writing, value_by, text_by, value_text, finished, AsksFor, ArePathsOf}
+use Rattle.nq_execute.specs.Plans.{Finish, Indexes, Writing, RowWriting, value_by, text_by, value_text, finished, AsksFor, ArePathsOf}
 use Rattle.nq_execute.specs.Serving.{Allowed}
 use Rattle.nq_execute.proofs.Writings.{text_same}
 use Rattle.nq_top.specs.Plans.{AreReadFor, Draft, draft_to, sql_draft, Question, IsWritten, IsAllowed, CanServeOver, IsSoundOver, ReadBy}
@@ -109,7 +109,7 @@ asks_for schema tables shapes types text scoped = record {
 }
 
 -- the columns at the paths of a type are those of its bags' elements
-columns_are : (element : TypeTree) → IsOrdered element → map (columns_at (bag element)) (paths (bag element)) ≡ map answer_columns (element_types (bag element))
+pub columns_are : (element : TypeTree) → IsOrdered element → map (columns_at (bag element)) (paths (bag element)) ≡ map answer_columns (element_types (bag element))
 columns_are element ordered =
     sym (map-map answer_columns (element_at (bag element)) (paths (bag element)))
     ∙ ap (map answer_columns) (elements_are element (proper element ordered))
@@ -129,18 +129,18 @@ read_loadable schema tables proper_schema read =
     subst (λ (ts : List Loaded). CanLoad [] ts) (sym read.is) (can_load schema proper_schema read.rows read.stored)
 
 -- the draft of an SQL text, over the tables of the schema
-module _ (schema : Schema) (text : List ℕ) (types : List ColumnType) (proper_schema : IsProperSchema schema) where
-  pub sql_servable : IsScopedText schema types text → CanServeOver schema (sql_draft text types)
+module _ (writing : RowWriting) (schema : Schema) (text : List ℕ) (types : List ColumnType) (proper_schema : IsProperSchema schema) where
+  pub sql_servable : IsScopedText schema types text → CanServeOver schema (sql_draft writing text types)
   sql_servable scoped tables read = record {
     loadable = read_loadable schema tables proper_schema read;
     finishable = record { types = types; is = refl };
     askable = (asks_for schema tables (read_shapes schema tables read) types text scoped, refl);
   }
 
-  pub sql_sound : IsSoundOver schema (sql_draft text types) (λ tables. Question.sql text)
+  pub sql_sound : IsSoundOver schema (sql_draft writing text types) (λ tables. Question.sql writing text)
   sql_sound tables read answers allowed = go answers allowed
     where
-      go : (given : List Answer) → Allowed tables (text ∷ []) given → IsAllowed tables text (finished Finish.rows (rows_of given))
+      go : (given : List Answer) → Allowed tables (text ∷ []) given → IsAllowed writing tables text (finished (Finish.rows writing) (rows_of given))
       go [] none = absurd none
       go (a ∷ given) some = record { answer = a.rows; allowed = some.0; is = refl }
 

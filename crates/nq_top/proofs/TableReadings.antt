@@ -9,9 +9,10 @@ use Rattle.command_line.specs.declared.refusal.InputRefusal.{InputRefusal}
 use Rattle.command_line.specs.declared.refusal.InputRefusal.TheVariants as input
 use Rattle.nq_top.specs.Gathering.{Told, RefusalTells}
 use Rattle.nq_top.specs.Judging.{Judgement, Verdict, after, fetched_then, read_then, loaded_as, tables_judged}
-use Rattle.nq_top.specs.Lines.{file_of}
+use Rattle.nq_top.specs.Lines.{file_by}
 use Rattle.nq_top.specs.Plans.{AreReadFor}
 use Rattle.nq_top.specs.Reading.{rows_read}
+use Rattle.nq_top.specs.declared.tables.TableTexts.{TableTexts}
 use Rattle.nq_top.specs.Steps.{TablesTell, ReadsBehind, FetchedWithin, Refuses}
 use Rattle.nq_top.proofs.Steps.{tells_then, tells_nothing, refusal_through, leads_after, fetch_next, fetch_refused, read_next, read_refused}
 
@@ -21,13 +22,13 @@ refusal_after name later old mid new r told tells =
     refusal_through (after name later) later old mid new r (leads_after name later old mid told) tells
 
 -- the rows of a table
-pub rows_next : (shape : TableShape) (text : List ℕ) (rows : List (List Cell)) (next : List (List Cell) → Judgement) → rows_read shape text ≡ Ok rows
-    → read_then (rows_read shape text) next ≡ next rows
-rows_next shape text rows next e = read_next (rows_read shape text) rows next e
+pub rows_next : (kind : TableTexts) (shape : TableShape) (text : List ℕ) (rows : List (List Cell)) (next : List (List Cell) → Judgement) → rows_read kind shape text ≡ Ok rows
+    → read_then (rows_read kind shape text) next ≡ next rows
+rows_next kind shape text rows next e = read_next (rows_read kind shape text) rows next e
 
-pub rows_refused : (shape : TableShape) (text : List ℕ) (next : List (List Cell) → Judgement) (old new : Told) (r : InputRefusal)
-    → Refuses (rows_read shape text) r → new ≡ old → RefusalTells (read_then (rows_read shape text) next) old new r
-rows_refused shape text next old new r refuses same = read_refused (rows_read shape text) next old new r refuses same
+pub rows_refused : (kind : TableTexts) (shape : TableShape) (text : List ℕ) (next : List (List Cell) → Judgement) (old new : Told) (r : InputRefusal)
+    → Refuses (rows_read kind shape text) r → new ≡ old → RefusalTells (read_then (rows_read kind shape text) next) old new r
+rows_refused kind shape text next old new r refuses same = read_refused (rows_read kind shape text) next old new r refuses same
 
 -- what the reading of tables tells of what came after a fetch, it tells of the whole
 pub tables_after : (name : List ℕ) (later : Judgement) (next : List Loaded → Verdict) (old mid new : Told) (result : Result (List Loaded) InputRefusal) → TellsMore old mid (name ∷ [])
@@ -37,24 +38,24 @@ tables_after name later next old mid new (Ok tables) first tells =
 tables_after name later next old mid new (Err r) first tells = refusal_after name later old mid new r first tells
 
 -- One table text is fetched and read.
-module _ (files : Files) (folder name text : List ℕ) (shape : TableShape) (shapes : List TableShape) (left : ℕ) (done : List Loaded) (next : List Loaded → Verdict) (named : name ≡ file_of folder shape.name) (within : FetchedWithin (bytes_at files name) left text) where
+module _ (files : Files) (kind : TableTexts) (folder name text : List ℕ) (shape : TableShape) (shapes : List TableShape) (left : ℕ) (done : List Loaded) (next : List Loaded → Verdict) (named : name ≡ file_by kind folder shape.name) (within : FetchedWithin (bytes_at files name) left text) where
   abbrev later : List ℕ → List (List Cell) → Judgement
-  later given rows = tables_judged files folder shapes (left - length given) (done ++ loaded_as shape rows ∷ []) next
+  later given rows = tables_judged files kind folder shapes (left - length given) (done ++ loaded_as shape rows ∷ []) next
 
   abbrev step : List ℕ → Judgement
-  step given = read_then (rows_read shape given) (later given)
+  step given = read_then (rows_read kind shape given) (later given)
 
   abbrev whole : Judgement
-  whole = tables_judged files folder (shape ∷ shapes) left done next
+  whole = tables_judged files kind folder (shape ∷ shapes) left done next
 
   whole_is : whole ≡ after name (step text)
   whole_is = ap (λ (n : List ℕ). fetched_then files n left step) (sym named) ∙ fetch_next files name left step text within
 
   -- the others are read after it
-  table_told : (rows : List (List Cell)) (old mid new : Told) (result : Result (List Loaded) InputRefusal) → TellsMore old mid (name ∷ []) → rows_read shape text ≡ Ok rows
+  table_told : (rows : List (List Cell)) (old mid new : Told) (result : Result (List Loaded) InputRefusal) → TellsMore old mid (name ∷ []) → rows_read kind shape text ≡ Ok rows
       → TablesTell (later text rows) next mid new result → TablesTell whole next old new result
   table_told rows old mid new result told read tells =
-      let goes : step text ≡ later text rows = read_next (rows_read shape text) rows (later text) read in
+      let goes : step text ≡ later text rows = read_next (rows_read kind shape text) rows (later text) read in
       let P : Judgement → Type 0 = λ j. TablesTell j next old new result in
       let Q : Judgement → Type 0 = λ j. TablesTell j next mid new result in
       subst P (sym whole_is) (tables_after name (step text) next old mid new result told (subst Q (sym goes) tells))
@@ -64,25 +65,25 @@ module _ (files : Files) (folder name text : List ℕ) (shape : TableShape) (sha
   table_ends old mid told =
       record { front = name ∷ []; back = (step text).names; all = ap (λ (j : Judgement). j.names) whole_is; fetched = told }
 
-pub table_goes : (held mid_held : Option Files) (folder name text : List ℕ) (shape : TableShape) (shapes : List TableShape) (left rest : ℕ) (done more : List Loaded) (rows : List (List Cell)) (old mid new : Told) (result : Result (List Loaded) InputRefusal)
-    → name ≡ file_of folder shape.name → mid_held ≡ held → IfSome held (λ files. FetchedWithin (bytes_at files name) left text) → TellsMore old mid (name ∷ [])
-    → rows_read shape text ≡ Ok rows → rest ≡ left - length text → more ≡ done ++ loaded_as shape rows ∷ []
-    → IfSome mid_held (λ files. (next : List Loaded → Verdict) → TablesTell (tables_judged files folder shapes rest more next) next mid new result)
-    → IfSome held (λ files. (next : List Loaded → Verdict) → TablesTell (tables_judged files folder (shape ∷ shapes) left done next) next old new result)
-table_goes None mid_held folder name text shape shapes left rest done more rows old mid new result named same within told read fewer longer tells = tt
-table_goes (Some files) mid_held folder name text shape shapes left rest done more rows old mid new result named same within told read fewer longer tells = λ next.
-    let H : Option Files → Type 0 = λ h. IfSome h (λ fs. (next : List Loaded → Verdict) → TablesTell (tables_judged fs folder shapes rest more next) next mid new result) in
+pub table_goes : (held mid_held : Option Files) (kind : TableTexts) (folder name text : List ℕ) (shape : TableShape) (shapes : List TableShape) (left rest : ℕ) (done more : List Loaded) (rows : List (List Cell)) (old mid new : Told) (result : Result (List Loaded) InputRefusal)
+    → name ≡ file_by kind folder shape.name → mid_held ≡ held → IfSome held (λ files. FetchedWithin (bytes_at files name) left text) → TellsMore old mid (name ∷ [])
+    → rows_read kind shape text ≡ Ok rows → rest ≡ left - length text → more ≡ done ++ loaded_as shape rows ∷ []
+    → IfSome mid_held (λ files. (next : List Loaded → Verdict) → TablesTell (tables_judged files kind folder shapes rest more next) next mid new result)
+    → IfSome held (λ files. (next : List Loaded → Verdict) → TablesTell (tables_judged files kind folder (shape ∷ shapes) left done next) next old new result)
+table_goes None mid_held kind folder name text shape shapes left rest done more rows old mid new result named same within told read fewer longer tells = tt
+table_goes (Some files) mid_held kind folder name text shape shapes left rest done more rows old mid new result named same within told read fewer longer tells = λ next.
+    let H : Option Files → Type 0 = λ h. IfSome h (λ fs. (next : List Loaded → Verdict) → TablesTell (tables_judged fs kind folder shapes rest more next) next mid new result) in
     let here = subst H same tells next in
-    let P : ℕ → Type 0 = λ n. TablesTell (tables_judged files folder shapes n more next) next mid new result in
-    let Q : List Loaded → Type 0 = λ d. TablesTell (tables_judged files folder shapes (left - length text) d next) next mid new result in
-    table_told files folder name text shape shapes left done next named within rows old mid new result told read (subst Q longer (subst P fewer here))
+    let P : ℕ → Type 0 = λ n. TablesTell (tables_judged files kind folder shapes n more next) next mid new result in
+    let Q : List Loaded → Type 0 = λ d. TablesTell (tables_judged files kind folder shapes (left - length text) d next) next mid new result in
+    table_told files kind folder name text shape shapes left done next named within rows old mid new result told read (subst Q longer (subst P fewer here))
 
-pub table_wants : (held : Option Files) (folder name text : List ℕ) (shape : TableShape) (shapes : List TableShape) (left : ℕ) (done : List Loaded) (old mid : Told)
-    → name ≡ file_of folder shape.name → IfSome held (λ files. FetchedWithin (bytes_at files name) left text) → TellsMore old mid (name ∷ [])
-    → IfSome held (λ files. (next : List Loaded → Verdict) → TablesTell (tables_judged files folder (shape ∷ shapes) left done next) next old mid (Err input.Memory))
-table_wants None folder name text shape shapes left done old mid named within told = tt
-table_wants (Some files) folder name text shape shapes left done old mid named within told = λ next.
-    table_ends files folder name text shape shapes left done next named within old mid told
+pub table_wants : (held : Option Files) (kind : TableTexts) (folder name text : List ℕ) (shape : TableShape) (shapes : List TableShape) (left : ℕ) (done : List Loaded) (old mid : Told)
+    → name ≡ file_by kind folder shape.name → IfSome held (λ files. FetchedWithin (bytes_at files name) left text) → TellsMore old mid (name ∷ [])
+    → IfSome held (λ files. (next : List Loaded → Verdict) → TablesTell (tables_judged files kind folder (shape ∷ shapes) left done next) next old mid (Err input.Memory))
+table_wants None kind folder name text shape shapes left done old mid named within told = tt
+table_wants (Some files) kind folder name text shape shapes left done old mid named within told = λ next.
+    table_ends files kind folder name text shape shapes left done next named within old mid told
 
 -- no table is left to be read
 pub reads_none : (done : List Loaded) → ReadsBehind done [] done

@@ -1,32 +1,40 @@
 -- What the inputs of a command come to where no call fails: each is fetched and judged before the
 -- next.
-use Rattle.std.specs.Prelude.{ℕ, ◌-◌, nat_lt, List, [], ◌∷◌, ◌++◌, length, Option, Some, None, Result, Ok, Err, cond}
+use Rattle.std.specs.Prelude.{ℕ, ◌+◌, ◌-◌, nat_lt, List, [], ◌∷◌, ◌++◌, length, map, Option, Some, None, Result, Ok, Err, cond}
 use Rattle.nq_model.specs.declared.table.Cell.{Cell}
+use Rattle.nq_model.specs.declared.table.ColumnType.{ColumnType}
 use Rattle.nq_model.specs.declared.table.Schema.{Schema}
 use Rattle.nq_model.specs.declared.table.TableShape.{TableShape}
 use Rattle.nq_edge.specs.Edge.{Files, bytes_at}
+use Rattle.nq_ir.specs.Paths.{paths}
+use Rattle.shred_types.specs.Columns.{columns_at}
+use Rattle.sql_profile.specs.declared.answer.Answer.{Answer}
 use Rattle.sql_profile.specs.declared.server.Loaded.{Loaded}
-use Rattle.command_line.specs.Commands.{Aim, run, run_json, check, show_types, show_normal, show_paths, show_sql, Command, help, version, of_query, answer, generated}
+use Rattle.command_line.specs.Commands.{Aim, run, run_json, run_json_tables, stitch, stitch_json, check, show_types, show_normal, show_paths, show_sql, Command, help, version, of_query, answer, generated}
 use Rattle.command_line.specs.Help.{help_text, version_text}
 use Rattle.command_line.specs.Paths.{paths_text}
 use Rattle.command_line.specs.declared.refusal.Refused.{Refused}
 use Rattle.command_line.specs.declared.refusal.Refused.TheVariants.{TooLong}
-use Rattle.nq_execute.specs.Plans.{Writing, Plan}
+use Rattle.nq_execute.specs.Plans.{Writing, RowWriting, Plan}
+use Rattle.nq_top.specs.Foreign.{Foreign, foreign_to}
 use Rattle.nq_top.specs.Limits.{text_limit, tables_limit}
-use Rattle.nq_top.specs.Lines.{file_of, accepted_line, type_line}
+use Rattle.nq_top.specs.Lines.{file_by, answer_file_of, accepted_line, type_line}
 use Rattle.nq_top.specs.Plans.{Draft, drafted, Question, draft_to, question_to, sql_draft, generated_plan, generated_question}
-use Rattle.nq_top.specs.Reading.{PlainReading, Reading, TypedTerm, SqlColumns, schema_read, query_read, rows_read, sql_read}
+use Rattle.nq_top.specs.Reading.{PlainReading, Reading, TypedTerm, SqlColumns, schema_read, query_read, rows_read, sql_read, answer_read, links_read}
 use Rattle.nq_top.specs.Shown.{Shown, shown_form, form_line, shown_texts}
+use Rattle.nq_top.specs.declared.tables.TableTexts.{TableTexts}
+use Rattle.nq_top.specs.declared.tables.TableTexts.TheVariants.{Csv, Json}
 
 -- The words are no command; or a name is not held, whose fetch fails; or the first refusal; or the
--- text that is written; or the SQL texts that are shown; or the plan of a question, over the tables
--- of the schema in its order.
+-- text that is written; or the SQL texts that are shown; or linked answers from elsewhere; or the
+-- plan of a question, over the tables of the schema in its order.
 pub data Verdict : Type 0 where
   usage : Verdict
   missing : List ℕ → Verdict
   refused : Refused → Verdict
   written : List ℕ → Verdict
   shown : Shown → Verdict
+  linked : Foreign → Verdict
   planned : Plan → Question → Verdict
 
 -- the names that are fetched, in order, and what comes of them
@@ -87,35 +95,60 @@ loaded_as shape rows = record { name = shape.name; columns = shape.columns; rows
 
 -- the table texts, each with what the ones before it left of the limit, and what comes of the
 -- tables
-abbrev pub tables_judged : Files → List ℕ → List TableShape → ℕ → List Loaded
+abbrev pub tables_judged : Files → TableTexts → List ℕ → List TableShape → ℕ → List Loaded
     → (List Loaded → Verdict) → Judgement
-tables_judged files folder [] left done next = at_once (next done)
-tables_judged files folder (shape ∷ shapes) left done next =
-    fetched_then files (file_of folder shape.name) left
-    (λ text. read_then (rows_read shape text)
-    (λ rows. tables_judged files folder shapes (left - length text)
+tables_judged files kind folder [] left done next = at_once (next done)
+tables_judged files kind folder (shape ∷ shapes) left done next =
+    fetched_then files (file_by kind folder shape.name) left
+    (λ text. read_then (rows_read kind shape text)
+    (λ rows. tables_judged files kind folder shapes (left - length text)
     (done ++ loaded_as shape rows ∷ []) next))
+
+-- the answer texts of a folder, one to each of these lists of column types, each with what the ones
+-- before it left of the limit
+abbrev pub answers_then : Files → List ℕ → List (List ColumnType) → ℕ → List Answer
+    → (List Answer → Judgement) → Judgement
+answers_then files folder [] left done next = next done
+answers_then files folder (types ∷ columns) left done next =
+    fetched_then files (answer_file_of folder (length done + 1)) left
+    (λ text. read_then (answer_read (length done + 1) types text)
+    (λ answer. answers_then files folder columns (left - length text) (done ++ answer ∷ []) next))
 
 -- 3. commands
 
 -- the plan of a draft over the tables of a folder
-abbrev pub draft_judged : Files → List ℕ → Schema → Draft → (List Loaded → Question) → Judgement
-draft_judged files folder schema draft question =
-    tables_judged files folder schema.tables tables_limit []
+abbrev pub draft_judged : Files → TableTexts → List ℕ → Schema → Draft
+    → (List Loaded → Question) → Judgement
+draft_judged files kind folder schema draft question =
+    tables_judged files kind folder schema.tables tables_limit []
     (λ tables. planned (drafted draft tables) (question tables))
 
 -- the value of a query over the tables of a folder, written in a way
-abbrev pub run_judged : Writing → PlainReading → Files → List ℕ → Schema → TypedTerm → Judgement
-run_judged writing plain files folder schema query =
-    draft_judged files folder schema (draft_to writing plain schema query.term query.type)
+abbrev pub run_judged : Writing → TableTexts → PlainReading → Files → List ℕ → Schema → TypedTerm
+    → Judgement
+run_judged writing kind plain files folder schema query =
+    draft_judged files kind folder schema (draft_to writing plain schema query.term query.type)
     (λ tables. question_to writing query)
+
+-- the value of the answers of a folder to the texts that are shown for a query, written in a way
+abbrev pub stitch_judged : Writing → PlainReading → Files → List ℕ → Schema → TypedTerm → Judgement
+stitch_judged writing plain files folder schema query =
+    answers_then files folder (map (columns_at query.type) (paths query.type)) tables_limit []
+    (λ answers. read_then (links_read query.type answers)
+    (λ linked_ones. at_once (linked (foreign_to writing plain schema query linked_ones))))
 
 -- a query that is accepted, with its type
 unfoldable pub aim_judged : PlainReading → Files → Aim → Schema → TypedTerm → Judgement
 aim_judged plain files (run folder) schema query =
-    run_judged Writing.text plain files folder schema query
+    run_judged Writing.text Csv plain files folder schema query
 aim_judged plain files (run_json folder) schema query =
-    run_judged Writing.json plain files folder schema query
+    run_judged Writing.json Csv plain files folder schema query
+aim_judged plain files (run_json_tables folder) schema query =
+    run_judged Writing.json Json plain files folder schema query
+aim_judged plain files (stitch folder) schema query =
+    stitch_judged Writing.text plain files folder schema query
+aim_judged plain files (stitch_json folder) schema query =
+    stitch_judged Writing.json plain files folder schema query
 aim_judged plain files check schema query = at_once (written accepted_line)
 aim_judged plain files show_types schema query = at_once (written (type_line query.type))
 aim_judged plain files show_normal schema query =
@@ -124,10 +157,11 @@ aim_judged plain files show_paths schema query = at_once (written (paths_text qu
 aim_judged plain files show_sql schema query =
     at_once (shown (shown_texts plain schema query.term query.type))
 
--- the rows of an SQL text
-abbrev pub rows_judged : Files → List ℕ → Schema → SqlColumns → Judgement
-rows_judged files folder schema asked =
-    draft_judged files folder schema (sql_draft asked.0 asked.1) (λ tables. Question.sql asked.0)
+-- the rows of an SQL text, written in a way
+abbrev pub rows_judged : RowWriting → Files → List ℕ → Schema → SqlColumns → Judgement
+rows_judged writing files folder schema asked =
+    draft_judged files Csv folder schema (sql_draft writing asked.0 asked.1)
+    (λ tables. Question.sql writing asked.0)
 
 -- the schema, then the query or the SQL text, then each table text in the order of the schema
 abbrev pub command_judged : Reading → Files → Command → Judgement
@@ -137,9 +171,10 @@ command_judged reading files (of_query aim schema name) =
     schema_then reading files schema
     (λ found. query_then reading files found name
     (λ query. aim_judged reading.plain files aim found query))
-command_judged reading files (answer schema name folder) =
+command_judged reading files (answer writing schema name folder) =
     schema_then reading files schema
-    (λ found. sql_then reading files found name (λ asked. rows_judged files folder found asked))
+    (λ found. sql_then reading files found name
+    (λ asked. rows_judged writing files folder found asked))
 command_judged reading files (generated size) =
     at_once (planned (generated_plan reading.plain size) generated_question)
 
@@ -158,5 +193,5 @@ held_for None held = Some (files_of held)
 held_for (Some help) held = Some (files_of held)
 held_for (Some version) held = Some (files_of held)
 held_for (Some (of_query aim schema name)) held = held
-held_for (Some (answer schema name folder)) held = held
+held_for (Some (answer writing schema name folder)) held = held
 held_for (Some (generated size)) held = Some (files_of held)

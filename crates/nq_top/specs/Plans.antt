@@ -20,10 +20,9 @@ use Rattle.sql_profile.specs.declared.answer.Answer.{Answer}
 use Rattle.sql_profile.specs.declared.server.Loaded.{Loaded}
 use Rattle.stitcher.specs.Stitching.{rows_of}
 use Rattle.generated_inputs.specs.Generated.{generated_schema, generated_query, generated_type, generated_tables}
-use Rattle.nq_execute.specs.Plans.{Finish, Indexes, Writing, Plan, finished, finish_view, value_by, text_by, IsServable}
+use Rattle.nq_execute.specs.Plans.{Finish, Indexes, Writing, RowWriting, Plan, finished, finish_view, value_by, text_by, row_text_by, IsServable}
 use Rattle.nq_top.specs.declared.plans.Draft.{Draft as Drafts}
 use Rattle.nq_execute.specs.Serving.{Allowed}
-use Rattle.canon.specs.RowTexts.{rows_text}
 use Rattle.nq_top.specs.Reading.{PlainReading, TypedTerm}
 use Rattle.nq_top.specs.Shown.{shown_texts}
 
@@ -72,15 +71,16 @@ generated_plan plain size =
     drafted (draft_to Writing.summary plain generated_schema generated_query generated_type)
     (generated_tables size)
 
--- the draft of an SQL text with columns of these types
-abbrev pub sql_draft : List ℕ → List ColumnType → Draft
-sql_draft text types = record { texts = text ∷ []; columns = types ∷ []; finish = Finish.rows }
+-- the draft of an SQL text with columns of these types, whose rows are written in a way
+abbrev pub sql_draft : RowWriting → List ℕ → List ColumnType → Draft
+sql_draft writing text types =
+    record { texts = text ∷ []; columns = types ∷ []; finish = Finish.rows writing }
 
--- what a server is asked for: the value of a query of this type, written in a way; or the rows of
--- an SQL text
+-- what a server is asked for: the value of a query of this type, or the rows of an SQL text, each
+-- written in a way
 pub data Question : Type 0 where
   value : Writing → TypeTree → PlacedTerm → Question
-  sql : List ℕ → Question
+  sql : RowWriting → List ℕ → Question
 
 abbrev pub question_to : Writing → TypedTerm → Question
 question_to writing query = Question.value writing query.type query.term
@@ -107,16 +107,17 @@ IsMeant type tables query text = IsWritten Writing.text type tables query text
 abbrev pub IsSummed : TypeTree → List Loaded → PlacedTerm → List ℕ → Type 0
 IsSummed type tables query text = IsWritten Writing.summary type tables query text
 
--- the text is that of rows that SQL allows to the SQL text over the tables
-pub record IsAllowed (tables : List Loaded) (asked : List ℕ) (text : List ℕ) : Type 0 where
+-- the text is what is written of rows that SQL allows to the SQL text over the tables
+pub record IsAllowed (writing : RowWriting) (tables : List Loaded) (asked : List ℕ)
+    (text : List ℕ) : Type 0 where
   pub answer : List (List Cell)
   pub allowed : TextAllows First tables asked answer
-  pub is : text ≡ rows_text answer
+  pub is : text ≡ row_text_by writing answer
 
 -- the text is an answer to the question over the tables
 abbrev pub Settles : List Loaded → Question → List ℕ → Type 0
 Settles tables (Question.value writing type term) text = IsWritten writing type tables term text
-Settles tables (Question.sql asked) text = IsAllowed tables asked text
+Settles tables (Question.sql writing asked) text = IsAllowed writing tables asked text
 
 -- whatever answers SQL allows to the texts of a plan, each by itself, what is written of them is an
 -- answer to the question

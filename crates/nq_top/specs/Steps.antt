@@ -16,8 +16,9 @@ use Rattle.sql_reader.specs.declared.fault.SqlFault.{SqlFault}
 use Rattle.sql_reader.specs.declared.fault.SqlFault.TheVariants as sql
 use Rattle.nq_execute.specs.Plans.{Plan, plan_view, IsServable}
 use Rattle.nq_execute.specs.declared.plan.Plan.{Plan as Asked}
+use Rattle.nq_top.specs.Foreign.{Stitches}
 use Rattle.nq_top.specs.Gathering.{Told, Judges, RefusalTells}
-use Rattle.nq_top.specs.Judging.{Judgement, Verdict, usage, missing, refused, written, shown, planned}
+use Rattle.nq_top.specs.Judging.{Judgement, Verdict, usage, missing, refused, written, shown, linked, planned}
 use Rattle.nq_top.specs.Plans.{AreReadFor, Question, IsSound}
 use Rattle.nq_top.specs.Reading.{TypedTerm, SqlColumns, type_read}
 use Rattle.nq_top.specs.Shown.{Shows}
@@ -172,6 +173,8 @@ ComesTo (written said) (gathered.Text text) = text ≡ said
 ComesTo (written said) (gathered.Plan asked) = ⊥
 ComesTo (shown texts) (gathered.Text text) = Shows text texts
 ComesTo (shown texts) (gathered.Plan asked) = ⊥
+ComesTo (linked foreign) (gathered.Text text) = Stitches foreign text
+ComesTo (linked foreign) (gathered.Plan asked) = ⊥
 ComesTo (planned plan question) (gathered.Text text) = ⊥
 ComesTo (planned plan question) (gathered.Plan asked) = HoldsPlan plan question asked
 

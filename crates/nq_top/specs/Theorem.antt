@@ -12,8 +12,9 @@ use Rattle.command_line.specs.declared.refusal.Refusal.TheVariants as refusal
 use Rattle.nq_execute.specs.Plans.{Plan}
 use Rattle.nq_execute.specs.Serving.{ServerState, RefusalServes}
 use Rattle.nq_execute.specs.declared.refusal.ServerRefusal.{ServerRefusal}
+use Rattle.nq_top.specs.Foreign.{Stitches}
 use Rattle.nq_top.specs.Gathering.{Judges, RefusalTells}
-use Rattle.nq_top.specs.Judging.{Judgement, Verdict, usage, missing, refused, written, shown, planned, judgement, held_for}
+use Rattle.nq_top.specs.Judging.{Judgement, Verdict, usage, missing, refused, written, shown, linked, planned, judgement, held_for}
 use Rattle.nq_top.specs.Plans.{Question}
 use Rattle.nq_top.specs.Reading.{Reading}
 use Rattle.nq_top.specs.Serving.{StaysHonest, LeavesServer, ServesQuestion, ServesSome}
@@ -61,13 +62,14 @@ AskedAt asks status = MatchBool ((status == 9) || (status == 11)) (asks ≡ true
 -- 3. what an answer says of the inputs, of the server and of the output
 
 -- the text that is written for a verdict: the inputs say it, or the server serves it for their
--- plan; SQL texts that are shown shred their query
+-- plan; SQL texts that are shown shred their query, and linked answers stitch to what is written
 abbrev pub Gives : ServerSide → ServerSide → Verdict → List ℕ → Type 0
 Gives old new usage text = ⊥
 Gives old new (missing name) text = ⊥
 Gives old new (refused r) text = ⊥
 Gives old new (written said) text = text ≡ said
 Gives old new (shown texts) text = Shows text texts
+Gives old new (linked foreign) text = Stitches foreign text
 Gives old new (planned plan question) text = ServesQuestion plan question old new text
 
 -- the inputs are accepted, all their names were fetched, and the text that they give was put
@@ -130,6 +132,7 @@ IsDue fair (missing name) = ⊥
 IsDue fair (refused r) = ⊥
 IsDue fair (written text) = ⊤
 IsDue fair (shown texts) = ⊤
+IsDue fair (linked foreign) = ⊤
 IsDue fair (planned plan question) = fair plan
 
 -- each answer that was told in a call fits the columns of its text

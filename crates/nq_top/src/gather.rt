@@ -11,7 +11,8 @@ ghost use Rattle.nq_top.specs.Steps.{InputCounts, GatherTells, CanServe, gathere
 use crate::inputs::{read_query, read_schema, read_sql};
 use crate::plans::{Draft, generated_plan, plan_of, query_draft, sql_draft};
 use crate::show::{normal_text, shown_text, type_line};
-use crate::tables::{TABLES_LIMIT, gather_tables};
+use crate::stitch::gather_stitched;
+use crate::tables::{TABLES_LIMIT, TableTexts, gather_tables};
 use crate::texts::TypedQuery;
 use command_line::{Aim, Command, InputRefusal, help_text, paths_text, version_text};
 use nq_edge::Inputs;
@@ -32,6 +33,7 @@ pub enum Gathered {
 fn gather_draft<I: Inputs>(
     alloc: Global,
     inputs: &mut I,
+    kind: TableTexts,
     folder: &str,
     schema: &Schema,
     draft: Draft,
@@ -42,13 +44,14 @@ fn gather_draft<I: Inputs>(
     ensures asks { IfOk result (λ gathered. gathered_asks gathered ≡ true) }
     ensures tells { IfSome (I.held inputs.old) (λ files. (question : List Held → Question)
         → IsSoundOver schema.now (draft_view draft) question
-        → GatherTells (draft_judged files folder.now schema.now (draft_view draft) question)
+        → GatherTells (draft_judged files kind folder.now schema.now (draft_view draft) question)
         (I.fetched inputs.old) (I.fetched inputs.new) result) }
 {
     let shapes = schema.tables.as_slice();
     let tables = gather_tables(
         alloc,
         inputs,
+        kind,
         folder,
         shapes,
         TABLES_LIMIT,
@@ -79,11 +82,21 @@ fn gather_aim<I: Inputs>(
     match aim {
         Aim::Run(folder) => {
             let draft = query_draft(alloc, schema, query, Writing::Text)?;
-            gather_draft(alloc, inputs, folder, schema, draft)
+            gather_draft(alloc, inputs, TableTexts::Csv, folder, schema, draft)
         }
         Aim::RunJson(folder) => {
             let draft = query_draft(alloc, schema, query, Writing::Json)?;
-            gather_draft(alloc, inputs, folder, schema, draft)
+            gather_draft(alloc, inputs, TableTexts::Csv, folder, schema, draft)
+        }
+        Aim::RunJsonTables(folder) => {
+            let draft = query_draft(alloc, schema, query, Writing::Json)?;
+            gather_draft(alloc, inputs, TableTexts::Json, folder, schema, draft)
+        }
+        Aim::Stitch(folder) => {
+            gather_stitched(alloc, inputs, folder, schema, query, Writing::Text)
+        }
+        Aim::StitchJson(folder) => {
+            gather_stitched(alloc, inputs, folder, schema, query, Writing::Json)
         }
         Aim::Check => Ok(Gathered::Text(List::from_slice(alloc, b"ok\n")?)),
         Aim::ShowTypes => Ok(Gathered::Text(type_line(alloc, &query.ty)?)),
@@ -118,11 +131,11 @@ pub fn gather<I: Inputs>(
             let query = read_query(alloc, inputs, &schema, query)?;
             gather_aim(alloc, inputs, aim, &schema, query)
         }
-        Command::Answer(schema, file, folder) => {
+        Command::Answer(writing, schema, file, folder) => {
             let schema = read_schema(alloc, inputs, schema)?;
             let asked = read_sql(alloc, inputs, &schema, file)?;
-            let draft = sql_draft(alloc, asked)?;
-            gather_draft(alloc, inputs, folder, &schema, draft)
+            let draft = sql_draft(alloc, asked, writing)?;
+            gather_draft(alloc, inputs, TableTexts::Csv, folder, &schema, draft)
         }
         Command::Generated(size) => Ok(Gathered::Plan(generated_plan(alloc, size)?)),
     }

@@ -2,7 +2,8 @@
 // the rows of an SQL text.
 ghost use Rattle.std.specs.Prelude.{◌≡◌, ◌∷◌, [], IfOk};
 ghost use Rattle.generated_inputs.specs.Sizes.{IsSize};
-ghost use Rattle.nq_execute.specs.Plans.{IsServable, plan_view, writing_view};
+ghost use Rattle.nq_compile.specs.Links.{AnswersLink};
+ghost use Rattle.nq_execute.specs.Plans.{IsServable, plan_view, row_writing_view, writing_view};
 ghost use Rattle.nq_model.specs.Terms.{placed};
 ghost use Rattle.nq_model.specs.Types.{type_tree};
 ghost use Rattle.nq_top.specs.Plans.{drafted, draft_view, draft_to, question_to, sql_draft, CanServeOver, IsSoundOver, generated_plan, generated_question};
@@ -12,7 +13,7 @@ ghost use Rattle.nq_top.specs.Steps.{HoldsPlan, IsQuery, typed_view};
 use crate::texts::{SqlQuery, TypedQuery};
 use generated_inputs::{generated_query, generated_schema, generated_tables};
 use nq_compile::compile;
-use nq_execute::{Finish, Indexes, Plan, Writing};
+use nq_execute::{Finish, Indexes, Plan, RowWriting, Writing};
 use nq_model::{ColumnType, List, Memory, Schema};
 use sql_profile::Loaded;
 use std::alloc::Global;
@@ -50,6 +51,8 @@ pub fn query_draft(
     ensures sound { IfOk result (λ draft.
         IsSoundOver schema.now (draft_view draft)
         (λ tables. question_to (writing_view writing) (typed_view query))) }
+    ensures linked { IfOk result (λ draft.
+        AnswersLink schema.now (type_tree query.ty) draft.texts) }
     ensures is { IfOk result (λ draft. (plain : PlainReading) →
         draft_view draft ≡ draft_to (writing_view writing) plain schema.now
         (placed query.term) (type_tree query.ty)) }
@@ -75,16 +78,17 @@ fn only<T: Drop>(alloc: Global, item: T) -> Result<List<T>, Memory>
     Ok(list)
 }
 
-/// The draft of an SQL text, whose rows are written.
-pub fn sql_draft(alloc: Global, asked: SqlQuery) -> Result<Draft, Memory>
-    ensures { IfOk result (λ draft. draft_view draft ≡ sql_draft asked.text asked.types) }
+/// The draft of an SQL text whose rows are written in a way.
+pub fn sql_draft(alloc: Global, asked: SqlQuery, writing: RowWriting) -> Result<Draft, Memory>
+    ensures { IfOk result (λ draft.
+        draft_view draft ≡ sql_draft (row_writing_view writing) asked.text asked.types) }
 {
     let texts = only(alloc, asked.text)?;
     let columns = only(alloc, asked.types)?;
     Ok(Draft {
         texts,
         columns,
-        finish: Finish::Rows,
+        finish: Finish::Rows(writing),
     })
 }
 

@@ -7,16 +7,16 @@ use Rattle.nq_top.proofs.gather.gather_draft.Goals as goal
 
 pub returns-clause-servable : goal.returns-clause-servable
 returns-clause-servable g c =
-    draft_servable (g.I.Inputs.held c.args.inputs.now) c.args.folder.now c.args.schema.now (draft_view c.args.draft) c.as_slice-shapes.result.now c.new.result c.as_slice-shapes.ensures c.new.ensures
+    draft_servable (g.I.Inputs.held c.args.inputs.now) c.args.kind c.args.folder.now c.args.schema.now (draft_view c.args.draft) c.as_slice-shapes.result.now c.new.result c.as_slice-shapes.ensures c.new.ensures
     c.in_ok-tables.tables c.plan_of.result c.in_ok-tables.ensures.reads c.plan_of.ensures c.requires
 
 pub returns-clause-tells : goal.returns-clause-tells
 returns-clause-tells g c =
-    draft_goes (g.I.Inputs.held c.args.inputs.now) c.args.folder.now c.args.schema.now (draft_view c.args.draft) c.as_slice-shapes.result.now c.new.result c.as_slice-shapes.ensures c.new.ensures
+    draft_goes (g.I.Inputs.held c.args.inputs.now) c.args.kind c.args.folder.now c.args.schema.now (draft_view c.args.draft) c.as_slice-shapes.result.now c.new.result c.as_slice-shapes.ensures c.new.ensures
     c.in_ok-tables.tables c.plan_of.result c.in_ok-tables.ensures.reads c.plan_of.ensures _ _ c.in_ok-tables.ensures.tells
 
 pub returns-in_err-tables-clause-tells : goal.returns-in_err-tables-clause-tells
 returns-in_err-tables-clause-tells g c =
     let is : c.from_residual.result ≡ Err c.in_err-tables.field-0.0 = search rules in
-    let stops = draft_stops (g.I.Inputs.held c.args.inputs.now) c.args.folder.now c.args.schema.now (draft_view c.args.draft) c.as_slice-shapes.result.now c.new.result c.as_slice-shapes.ensures c.new.ensures _ _ c.in_err-tables.field-0.0 c.in_err-tables.ensures.tells in
-    subst (λ (r : Result Gathered InputRefusal). DraftTold (g.I.Inputs.held c.args.inputs.now) c.args.folder.now c.args.schema.now (draft_view c.args.draft) (g.I.Inputs.fetched c.args.inputs.now) (g.I.Inputs.fetched c.gather_tables.new.inputs) r) (sym is) stops
+    let stops = draft_stops (g.I.Inputs.held c.args.inputs.now) c.args.kind c.args.folder.now c.args.schema.now (draft_view c.args.draft) c.as_slice-shapes.result.now c.new.result c.as_slice-shapes.ensures c.new.ensures _ _ c.in_err-tables.field-0.0 c.in_err-tables.ensures.tells in
+    subst (λ (r : Result Gathered InputRefusal). DraftTold (g.I.Inputs.held c.args.inputs.now) c.args.kind c.args.folder.now c.args.schema.now (draft_view c.args.draft) (g.I.Inputs.fetched c.args.inputs.now) (g.I.Inputs.fetched c.gather_tables.new.inputs) r) (sym is) stops

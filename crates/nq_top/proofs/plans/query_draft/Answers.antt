@@ -1,8 +1,9 @@
+use Rattle.std.proofs.Common.{[]}
 use Rattle.nq_model.specs.Terms.{placed}
 use Rattle.nq_model.specs.Types.{type_tree}
 use Rattle.nq_execute.specs.Plans.{writing_view}
 use Rattle.nq_top.proofs.Soundness.{servable, sound, draft_is}
-use Rattle.nq_top.proofs.Showings.{typed_accepted}
+use Rattle.nq_top.proofs.Showings.{typed_accepted, links_at}
 use Rattle.nq_top.proofs.plans.query_draft.Goals as goal
 
 pub compile-requires-clause-schema : goal.compile-requires-clause-schema
@@ -24,6 +25,11 @@ pub returns-clause-sound : goal.returns-clause-sound
 returns-clause-sound c =
     sound c.args.schema.now (placed c.args.query.term) (type_tree c.in_ok-compiled.compiled.result) c.in_ok-compiled.compiled.texts c.in_ok-compiled.compiled.columns
     c.requires.proper_schema c.requires.proper c.in_ok-compiled.ensures.shreds c.in_ok-compiled.ensures.result c.in_ok-compiled.ensures.columns (type_tree c.args.query.ty) c.requires.typed (writing_view c.args.writing)
+
+pub returns-clause-linked : goal.returns-clause-linked
+returns-clause-linked c =
+    links_at c.args.schema.now (placed c.args.query.term) (type_tree c.in_ok-compiled.compiled.result) [] c.in_ok-compiled.compiled.texts
+    (type_tree c.args.query.ty) c.requires.typed c.in_ok-compiled.ensures.result c.in_ok-compiled.ensures.linked
 
 pub returns-clause-is : goal.returns-clause-is
 returns-clause-is c = λ plain.

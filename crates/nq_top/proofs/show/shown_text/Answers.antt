@@ -26,4 +26,4 @@ frames-requires c =
 pub returns : goal.returns
 returns c =
     shows_if_ok c.args.schema.now (placed c.args.query.term) (type_tree c.in_ok-compiled.compiled.result) (map (λ (p : Path). p.steps) c.in_ok-compiled.compiled.paths) c.in_ok-compiled.compiled.texts
-    (type_tree c.args.query.ty) c.requires.typed c.in_ok-compiled.ensures.result c.in_ok-compiled.ensures.paths c.in_ok-compiled.ensures.texts c.in_ok-compiled.ensures.shreds c.frames.result c.frames.ensures
+    (type_tree c.args.query.ty) c.requires.typed c.in_ok-compiled.ensures.result c.in_ok-compiled.ensures.paths c.in_ok-compiled.ensures.texts c.in_ok-compiled.ensures.shreds c.in_ok-compiled.ensures.linked c.frames.result c.frames.ensures
