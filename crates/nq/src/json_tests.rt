@@ -1,4 +1,4 @@
-// Whole runs that write JSON.
+// Whole runs that write JSON, and those that read it.
 use crate::runs::{Engine, Wanted, check_run, held, put};
 use nq_edge::HeldInputs;
 use nq_model::List;
@@ -35,7 +35,17 @@ const RUN: Row = Row {
     note: "",
 };
 
-const RUNS: [Row; 8] = [
+/// An SQL text whose rows are written as JSON, of which two are equal.
+const ANSWER: Row = Row {
+    words: &["answer", "json", "schema", "q", "data"],
+    query: "SELECT \"e\".\"salary\" AS \"s\", \"e\".\"name\" AS \"n\", (\"e\".\"salary\" < 2) AS \"b\" FROM \"employees\" AS \"e\"",
+    departments: "name\n",
+    employees: "dept,name,salary\n,it's,2\n,\"a\"\"b\\\",1\n,\"tab\tnl\nx\",-10\n,it's,2\n",
+    out: "[[-10,\"tab\\tnl\\nx\",true],[1,\"a\\\"b\\\\\",true],[2,\"it's\",false],[2,\"it's\",false]]\n",
+    ..RUN
+};
+
+const RUNS: [Row; 13] = [
     RUN,
     Row {
         query: "for (x <- table employees) [()]",
@@ -76,12 +86,132 @@ const RUNS: [Row; 8] = [
         note: "nq: input failed: json\n",
         ..RUN
     },
+    // Of five words the third is one.
+    Row {
+        words: &["run", "json", "tables", "q", "data"],
+        status: 7,
+        out: "",
+        note: "nq: input failed: tables\n",
+        ..RUN
+    },
     Row {
         words: &["run", "jso", "schema", "q", "data"],
         status: 2,
         out: "",
         note: "nq: usage\n",
         ..RUN
+    },
+    ANSWER,
+    Row {
+        query: "SELECT 1 AS \"n\" WHERE FALSE",
+        out: "[]\n",
+        ..ANSWER
+    },
+    // A text is refused as `answer` refuses it.
+    Row {
+        query: "SELECT",
+        status: 12,
+        out: "",
+        note: "nq: sql refused: Unexpected at 6\n",
+        ..ANSWER
+    },
+    Row {
+        employees: "dept,name,salary\n,x,y\n",
+        status: 6,
+        out: "",
+        note: "nq: table employees refused: BadInt row 1 column 3\n",
+        ..ANSWER
+    },
+];
+
+/// The text of a schema with the table departments, a query, and the JSON text of that table; and
+/// the status, the output and the note that are wanted.
+#[derive(Clone, Copy)]
+struct TableRow {
+    schema: &'static str,
+    query: &'static str,
+    departments: &'static str,
+    status: u8,
+    out: &'static str,
+    note: &'static str,
+}
+
+const NAMED: TableRow = TableRow {
+    schema: "table departments (name: text);",
+    query: "table departments",
+    departments: "[{\"name\":\"Sales\"},{\"name\":\"Product\"}]",
+    status: 0,
+    out: "[{\"name\":\"Product\"},{\"name\":\"Sales\"}]\n",
+    note: "",
+};
+
+const REFUSED: TableRow = TableRow {
+    status: 16,
+    out: "",
+    ..NAMED
+};
+
+const KEYED: TableRow = TableRow {
+    schema: "table departments (a: int, b: text, c: bool, key (a));",
+    ..REFUSED
+};
+
+const TABLES: [TableRow; 11] = [
+    NAMED,
+    TableRow {
+        departments: "[{\"name\":5}]",
+        note: "nq: table departments refused: BadCell row 1 column 1\n",
+        ..REFUSED
+    },
+    TableRow {
+        departments: "{}",
+        note: "nq: table departments refused: NotArray\n",
+        ..REFUSED
+    },
+    TableRow {
+        departments: "",
+        note: "nq: table departments refused: NotJson\n",
+        ..REFUSED
+    },
+    TableRow {
+        schema: "table departments (a: int, b: text, c: bool, key (a));",
+        departments: "[{\"c\":true,\"a\":-1,\"b\":\"x\"},{\"a\":-2,\"b\":\"\\u0079\",\"c\":false}]",
+        out: "[{\"a\":-2,\"b\":\"y\",\"c\":false},{\"a\":-1,\"b\":\"x\",\"c\":true}]\n",
+        ..NAMED
+    },
+    TableRow {
+        departments: "[{\"a\":1,\"b\":\"x\",\"c\":true},{\"a\":2,\"b\":\"x\"}]",
+        note: "nq: table departments refused: BadRow row 2\n",
+        ..KEYED
+    },
+    TableRow {
+        departments: "[{\"a\":1,\"b\":\"x\",\"c\":true},{\"a\":2,\"b\":\"x\",\"c\":true},{\"a\":1,\"b\":\"y\",\"c\":true}]",
+        note: "nq: table departments refused: TwiceKey row 3 earlier 1\n",
+        ..KEYED
+    },
+    // A cell that is wrong comes before a row that is, further down.
+    TableRow {
+        departments: "[{\"a\":1,\"b\":2,\"c\":true},3]",
+        note: "nq: table departments refused: BadCell row 1 column 2\n",
+        ..KEYED
+    },
+    // The table before is refused before the next is fetched.
+    TableRow {
+        schema: SCHEMA,
+        departments: "[0]",
+        note: "nq: table departments refused: BadRow row 1\n",
+        ..REFUSED
+    },
+    TableRow {
+        schema: SCHEMA,
+        status: 7,
+        note: "nq: input failed: data/employees.json\n",
+        ..REFUSED
+    },
+    TableRow {
+        query: "[(n = 1, b = table departments)]",
+        out: "[{\"b\":[{\"name\":\"Product\"},{\"name\":\"Sales\"}],\"n\":1}]\n",
+        ..NAMED
     },
 ];
 
@@ -123,4 +253,33 @@ fn writes_values_as_json(rt: HostRuntime) -> Result<(), Fail> {
         check(&rt, alloc, Engine::Fast, row)?;
     }
     check(&rt, alloc, Engine::Crooked, &RUN)
+}
+
+fn check_table(rt: &impl Abort, alloc: Global, row: &TableRow) -> Result<(), Fail> {
+    let mut files = List::new(alloc);
+    put(alloc, &mut files, "schema", row.schema.as_bytes())?;
+    put(alloc, &mut files, "q", row.query.as_bytes())?;
+    put(
+        alloc,
+        &mut files,
+        "data/departments.json",
+        row.departments.as_bytes(),
+    )?;
+    let wanted = Wanted {
+        words: &["run", "json", "tables", "schema", "q", "data"],
+        room: 2000,
+        status: row.status,
+        out: row.out,
+        note: row.note,
+    };
+    check_run(rt, alloc, Engine::Fast, held(alloc, files, &[])?, &wanted)
+}
+
+#[test]
+fn reads_json_tables(rt: HostRuntime) -> Result<(), Fail> {
+    let alloc = rt.alloc();
+    for row in &TABLES {
+        check_table(&rt, alloc, row)?;
+    }
+    Ok(())
 }

@@ -72,6 +72,8 @@ mod server_tests;
 #[cfg(test)]
 mod sql_tests;
 #[cfg(test)]
+mod stitch_tests;
+#[cfg(test)]
 mod tests;
 #[cfg(test)]
 mod total_tests;

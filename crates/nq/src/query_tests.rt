@@ -35,19 +35,24 @@ for (d <- table departments)
 
 const HELP: &str = "nq answers typed queries over flat tables.
 
-nq run SCHEMA QUERY DIR       writes the value of the query over the tables of DIR
-nq run json SCHEMA QUERY DIR  writes the value of the query as JSON
-nq answer SCHEMA SQLFILE DIR  writes the rows of the SQL text over the tables of DIR
-nq gen N                      writes a summary of nested data over generated tables of size N
-nq check SCHEMA QUERY         writes ok where the query is accepted
-nq show types SCHEMA QUERY    writes the type of the query
-nq show normal SCHEMA QUERY   writes the normal form of the query, which is a query itself
-nq show paths SCHEMA QUERY    writes a line for each bag constructor of the type
-nq show sql SCHEMA QUERY      writes an SQL text for each bag constructor of the type
-nq --help                     writes this text
-nq --version                  writes the name and the version of the program
+nq run SCHEMA QUERY DIR              writes the value of the query
+nq run json SCHEMA QUERY DIR         writes the value of the query as JSON
+nq run json tables SCHEMA QUERY DIR  writes it as JSON over JSON tables
+nq answer SCHEMA SQLFILE DIR         writes the rows of the SQL text
+nq answer json SCHEMA SQLFILE DIR    writes the rows of the SQL text as JSON
+nq stitch SCHEMA QUERY DIR           writes the value of answers made elsewhere
+nq stitch json SCHEMA QUERY DIR      writes the value of answers as JSON
+nq gen N                             writes a summary over tables of size N
+nq check SCHEMA QUERY                writes ok where the query is accepted
+nq show types SCHEMA QUERY           writes the type of the query
+nq show normal SCHEMA QUERY          writes the normal form of the query
+nq show paths SCHEMA QUERY           writes a line for each bag of the type
+nq show sql SCHEMA QUERY             writes an SQL text for each bag of the type
+nq --help                            writes this text
+nq --version                         writes the name and the version of nq
 
-SCHEMA, QUERY and SQLFILE are files, and the table t is the file DIR/t.csv.
+SCHEMA, QUERY and SQLFILE are files. The table t is the file DIR/t.csv, and as a
+JSON table DIR/t.json. The answer to the SQL text K is the file DIR/K.csv.
 README.md explains the statuses, under Commands.
 ";
 
