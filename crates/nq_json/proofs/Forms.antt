@@ -1,18 +1,14 @@
 -- Values as JSON: items, and members put in from the last field on.
-use Rattle.std.proofs.Common.{◌≡◌, ◌≤◌, ℕ, suc, Bool, false, true, ◌||◌, ◌+◌, ◌-◌, ◌<◌, List, [], ◌∷◌, ◌++◌, length, map, drop, take, get_or, refl, sym, ap, ap₂, ◌∙◌, String, Global, drop-cons, arith, string_bytes, string_cmp}
+use Rattle.std.proofs.Common.{◌≡◌, ◌≤◌, ℕ, suc, Bool, false, ◌+◌, ◌-◌, ◌<◌, List, [], ◌∷◌, length, map, drop, take, get_or, refl, sym, ap, ap₂, ◌∙◌, String, Global, drop-cons, arith, string_bytes, string_cmp}
 use Rattle.std.specs.BTreeMap.{insert_entry}
 use Rattle.nq_model.specs.Values.{Nested, nested, fields_of, fields_view, elements_of}
 use Rattle.nq_model.specs.declared.value.Value.{Value}
-use Rattle.serde_json.specs.Data.{item, put, Data, Members, no_members, member}
+use Rattle.serde_json.specs.Data.{item, put}
 use Rattle.std.proofs.lemmas.List.{take_all}
-use Rattle.std.specs.declared.cmp.Ordering.{Ordering}
-use Rattle.std.specs.declared.cmp.Ordering.TheVariants.{Less, Equal, Greater}
-use Rattle.std.specs.Ordering.{match_ordering, nat_cmp}
-use Rattle.std.specs.Cmp.Lexicographic.{slice_cmp}
 use Rattle.nq_model.specs.Values.{base, rec, bag, Fields, none, field, Elements, end, more}
 use Rattle.nq_model.specs.declared.table.Cell.TheVariants as cell
 use Rattle.std.proofs.Common.{pos, negsuc}
-use Rattle.serde_json.specs.Written.{has_float, items_have_float, members_have_float, compact_text}
+use Rattle.serde_json.specs.Written.{has_float, items_have_float, members_have_float}
 use Rattle.serde_json.specs.View.{view, items_view, items_of, members_view}
 use Rattle.serde_json.specs.declared.value.Value.{Value as Json}
 use Rattle.serde_json.proofs.Views.{members_view-insert_entry}

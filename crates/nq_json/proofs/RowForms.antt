@@ -1,11 +1,11 @@
 -- The JSON form of rows has no float, and nests two deep.
-use Rattle.std.proofs.Common.{◌≡◌, ◌≤◌, ℕ, suc, max, pos, negsuc, false, List, [], ◌∷◌, map, refl, ap₂, arith}
+use Rattle.std.proofs.Common.{◌≡◌, ◌≤◌, max, pos, negsuc, false, List, [], ◌∷◌, map, refl, ap₂, arith}
 use Rattle.nq_model.specs.declared.table.Cell.{Cell}
 use Rattle.nq_model.specs.declared.table.Cell.TheVariants as cell
 use Rattle.serde_json.specs.Data.{depth, items_depth}
 use Rattle.serde_json.specs.Read.{max_depth}
 use Rattle.serde_json.specs.View.{items_of}
-use Rattle.serde_json.specs.Written.{has_float, items_have_float}
+use Rattle.serde_json.specs.Written.{has_float}
 use Rattle.nq_json.specs.Json.{cell_json}
 use Rattle.nq_json.specs.Rows.{row_json, rows_json}
 use Rattle.nq_json.proofs.Floats.{either}

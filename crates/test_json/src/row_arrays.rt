@@ -13,8 +13,7 @@ fn rows_are_written_as_one_line(rt: HostRuntime) -> Result<(), Fail> {
     rows.push_lent(&[CellRef::Int(7), CellRef::Bool(false), CellRef::Text("")])?;
     rows.push_lent(&[])?;
     let line = write_json_rows(alloc, &rows, &[1, 2, 0, 1])?;
-    let expected =
-        "[[7,false,\"\"],[],[-1,true,\"a\\\"b\\\\/\\u0001ü\"],[7,false,\"\"]]\n";
+    let expected = "[[7,false,\"\"],[],[-1,true,\"a\\\"b\\\\/\\u0001ü\"],[7,false,\"\"]]\n";
     assert!(rt; line.as_slice() == expected.as_bytes());
     let none = write_json_rows(alloc, &rows, &[])?;
     assert!(rt; none.as_slice() == "[]\n".as_bytes());

@@ -170,7 +170,13 @@ fn long_operations_are_flattened(rt: HostRuntime) -> Result<(), Memory> {
     let text = flatten(alloc, &schema, &summed(alloc, 3000)?, &[INT, INT, INT])?;
     let rows = evaluate_text(alloc, &[], &text, Ties::AsTheyArise)?;
     assert_eq!(&rt; in_order(alloc, rows.as_slice())?.as_str(), "0 1 3000 ;");
-    let rows = evaluate(alloc, &[], &text, Joining::HashTables, Arrangement::AsTheyArise)?;
+    let rows = evaluate(
+        alloc,
+        &[],
+        &text,
+        Joining::HashTables,
+        Arrangement::AsTheyArise,
+    )?;
     let rows = listed(alloc, &rows)?;
     assert_eq!(&rt; in_order(alloc, rows.as_slice())?.as_str(), "0 1 3000 ;");
     Ok(())

@@ -1,4 +1,4 @@
-use Rattle.std.proofs.Common.{◌≤◌, ap, sym, ◌∙◌, subst, Some, ℕ}
+use Rattle.std.proofs.Common.{◌≤◌, ap, sym, ◌∙◌, subst, Some}
 use Rattle.rows.specs.Places.{rows_at}
 use Rattle.serde_json.specs.Data.{Data, depth}
 use Rattle.serde_json.specs.Read.{max_depth}
