@@ -1,0 +1,87 @@
+"""Runs the program nq, and turns its refusals into exceptions."""
+import os
+import re
+import shutil
+import subprocess
+from pathlib import Path
+
+from .errors import AnswerError, ProgramError, Refused
+
+# The script nq of a clone in which this package lies.
+_CLONE = Path(__file__).resolve().parents[3] / "nq"
+
+_FAULT = re.compile(r"nq: (?P<file>schema|query) refused: (?P<fault>\w+) at (?P<place>\d+)")
+_RULE = re.compile(r"nq: ill typed: rule (?P<rule>\d+) at (?P<place>\d+)")
+_LONG = re.compile(r"nq: input too long: (?P<name>.*) over (?P<limit>\d+)")
+_ANSWER = re.compile(
+    r"nq: answer (?P<text>\d+) refused: (?P<fault>\w+)"
+    r"(?: row (?P<row>\d+))?(?: column (?P<column>\d+))?(?: earlier (?P<earlier>\d+))?"
+)
+
+
+def program():
+    """The program to run: that of the variable NQ, the clone's, or the one on the path."""
+    named = os.environ.get("NQ")
+    if named:
+        return named
+    if os.access(_CLONE, os.X_OK):
+        return str(_CLONE)
+    found = shutil.which("nq")
+    if found:
+        return found
+    raise ProgramError(
+        "the program nq was not found: name it in the environment variable NQ, or put it on the path"
+    )
+
+
+def call(words, sources):
+    """What nq writes to standard output for these words.
+
+    `sources` has for `schema` and `query` the name that messages use and the bytes.
+    """
+    environment = dict(os.environ, NQ_UNPROVED="no")
+    try:
+        done = subprocess.run([program(), *words], capture_output=True, env=environment,
+                              stdin=subprocess.DEVNULL, check=False)
+    except OSError as error:
+        raise ProgramError(f"the program nq cannot be run: {error}") from error
+    if done.returncode == 0:
+        return done.stdout
+    notes = done.stderr.decode("utf-8", "replace").strip()
+    raise refusal(done.returncode, notes.splitlines()[-1] if notes else "", sources)
+
+
+def refusal(status, note, sources):
+    """The exception for a status of nq and its line."""
+    found = _ANSWER.fullmatch(note)
+    if status == 15 and found:
+        numbers = {name: int(found[name]) if found[name] else None
+                   for name in ("row", "column", "earlier")}
+        return AnswerError(note, text=int(found["text"]), fault=found["fault"], **numbers)
+    found = _FAULT.fullmatch(note)
+    if status in (3, 4) and found:
+        return _at(status, note, sources[found["file"]], int(found["place"]), fault=found["fault"])
+    found = _RULE.fullmatch(note)
+    if status == 5 and found:
+        return _at(status, note, sources["query"], int(found["place"]), rule=int(found["rule"]))
+    if status == 10 and _LONG.fullmatch(note):
+        return Refused(note, status, note, fault="TooLong")
+    return ProgramError(f"nq ended with status {status}: {note or 'it said nothing'}")
+
+
+def _at(status, note, source, place, **what):
+    """A refusal at a place of a source, with its line and a caret under the place."""
+    name, text = source
+    before, after = text[:place], text[place:]
+    begin = before.rfind(b"\n") + 1
+    end = len(before) + (after + b"\n").find(b"\n")
+    lead = before[begin:].decode("utf-8", "replace")
+    shown = text[begin:end].decode("utf-8", "replace").replace("\t", " ").rstrip("\r")
+    line, column = before.count(b"\n") + 1, len(lead) + 1
+    cut = max(0, column - 60)
+    message = "\n".join([
+        f"{name}:{line}:{column}: {note[4:]}",
+        "  " + shown[cut:cut + 100],
+        "  " + " " * (len(lead) - cut) + "^",
+    ])
+    return Refused(message, status, note, file=name, place=place, line=line, column=column, **what)

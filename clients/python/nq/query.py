@@ -1,0 +1,130 @@
+"""Queries that are compiled once and asked of a connection."""
+import json
+import os
+import re
+import tempfile
+from contextlib import closing, contextmanager
+from pathlib import Path
+from threading import Lock
+
+from .answers import write_answers
+from .errors import ProgramError
+from .program import call
+from .snapshot import snapshot
+
+# What was compiled, by the bytes of the schema and of the query.
+_compiled = {}
+_lock = Lock()
+
+# No name of a file that is meant as one has these; each schema and each query has one of them.
+_OF_TEXTS = re.compile(r"[\s;()\[\]{}']")
+
+
+class Query:
+    """A nested query over a schema, compiled to SQL texts.
+
+    `schema` and `query` are each the name of a file or a text itself. A `str` that names no file
+    and has a space, a bracket or a `;` is a text. Both are read once.
+
+    `type` is the type of the value as nq writes it, `texts` the SQL texts in path order, and
+    `columns` the types of the columns of each, as lists of "int", "bool" and "text".
+
+    Raises `Refused` where nq refuses the schema or the query.
+    """
+
+    def __init__(self, schema, query):
+        self._sources = {"schema": _source("schema", schema), "query": _source("query", query)}
+        key = tuple(text for _, text in self._sources.values())
+        with _lock:
+            found = _compiled.get(key)
+        if found is None:
+            found = _compile(self._sources)
+            with _lock:
+                _compiled[key] = found
+        self.type, self._texts, self._columns = found
+
+    @property
+    def texts(self):
+        """The SQL texts, one for each bag of the type."""
+        return list(self._texts)
+
+    @property
+    def columns(self):
+        """The types of the columns of each answer, those of the outer index first."""
+        return [list(kinds) for kinds in self._columns]
+
+    def run(self, connection):
+        """The value over the tables of a DB-API 2.0 connection, or of a cursor's connection.
+
+        A bag is a list, a record a dict, and each call makes fresh ones. All texts are asked in one
+        snapshot; see `nq.snapshot`. Raises `AnswerError` for an answer that cannot be stitched, and
+        what the driver raises where it fails.
+        """
+        return json.loads(self.to_json(connection))
+
+    def to_json(self, connection):
+        """The same value as one line of JSON, without the newline."""
+        answers = self._ask(connection)
+        with _workplace(self._sources) as folder:
+            write_answers(folder, answers, self._columns)
+            words = ["stitch", "json", str(folder / "schema"), str(folder / "query"), str(folder)]
+            return call(words, self._sources).decode("utf-8").rstrip("\n")
+
+    def _ask(self, connection):
+        """The rows of each text, all in one snapshot."""
+        if not hasattr(connection, "cursor"):
+            return _rows(connection.connection, connection, self._texts)
+        with closing(connection.cursor()) as cursor:
+            return _rows(connection, cursor, self._texts)
+
+
+def _rows(connection, cursor, texts):
+    answers = []
+    with snapshot(connection, cursor):
+        for text in texts:
+            cursor.execute(text)
+            answers.append(cursor.fetchall())
+    return answers
+
+
+def _source(kind, given):
+    """The name that messages use for a schema or a query, and its bytes."""
+    if isinstance(given, bytes):
+        return kind, given
+    if isinstance(given, str) and _OF_TEXTS.search(given) and not os.path.isfile(given):
+        return kind, given.encode("utf-8")
+    return str(given), Path(given).read_bytes()
+
+
+@contextmanager
+def _workplace(sources):
+    """A new folder that holds the schema and the query, and is removed on every way out."""
+    with tempfile.TemporaryDirectory(prefix="nq-") as name:
+        folder = Path(name)
+        for kind, (_, text) in sources.items():
+            (folder / kind).write_bytes(text)
+        yield folder
+
+
+def _compile(sources):
+    """The type of a query, its texts, and the types of the columns of each answer."""
+    with _workplace(sources) as folder:
+        files = [str(folder / "schema"), str(folder / "query")]
+        kind = call(["show", "types", *files], sources).decode("utf-8").rstrip("\n")
+        paths = call(["show", "paths", *files], sources).decode("utf-8")
+        frames = call(["show", "sql", *files], sources)
+    columns = [tuple(line.rpartition(": ")[2].replace("|", " ").split())
+               for line in paths.splitlines()]
+    texts = tuple(_texts(frames))
+    if len(texts) != len(columns):
+        raise ProgramError(f"nq wrote {len(texts)} texts for {len(columns)} paths")
+    return kind, texts, tuple(columns)
+
+
+def _texts(frames):
+    """The texts of frames: a head `-- PATH BYTES`, that many bytes, and a line `;`."""
+    while frames:
+        head, _, rest = frames.partition(b"\n")
+        length = int(head.rpartition(b" ")[2])
+        yield rest[:length].decode("utf-8")
+        frames = rest[length + len(b"\n;\n"):]
