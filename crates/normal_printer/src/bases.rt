@@ -153,7 +153,8 @@ fn put_count(text: &mut String, test: &Test) -> Result<(), Memory>
 #[cycle(put_base)]
 fn put_over(text: &mut String, over: &Test) -> Result<(), Memory>
     ensures { OnOk result (string_bytes text.new
-        ≡ string_bytes text.old ++ (codes "sum(" ++ (gens_text (test_part over.now).gens ++ where_text (test_part over.now).conds))) }
+        ≡ string_bytes text.old ++ (codes "sum(" ++ (gens_text (test_part over.now).gens
+        ++ where_text (test_part over.now).conds))) }
 {
     text.push_str("sum(")?;
     put_gens(text, over.gens.as_slice())?;
@@ -165,7 +166,8 @@ fn put_over(text: &mut String, over: &Test) -> Result<(), Memory>
 #[cycle(put_base)]
 fn put_summed(text: &mut String, value: &Base) -> Result<(), Memory>
     ensures { OnOk result (string_bytes text.new
-        ≡ string_bytes text.old ++ (codes "[" ++ (text_of (named_base (base_tree value.now)) ++ codes "])"))) }
+        ≡ string_bytes text.old
+        ++ (codes "[" ++ (text_of (named_base (base_tree value.now)) ++ codes "])"))) }
 {
     text.push_str("[")?;
     put_base(text, value)?;

@@ -12,7 +12,8 @@ use std::alloc::Global;
 use std::process::Abort;
 use std::test::Fail;
 
-/// The words of a run and the room of its output; and the status, the output and the note that are wanted.
+/// The words of a run and the room of its output; and the status, the output and the note that are
+/// wanted.
 #[derive(Clone, Copy)]
 pub struct Wanted {
     pub words: &'static [&'static str],
@@ -41,7 +42,8 @@ pub fn put(
     name: &str,
     text: &[u8],
 ) -> Result<(), Fail>
-    ensures { OnOk result (map (λ file. file.0) files.new ≡ map (λ file. file.0) files.old ++ name.now ∷ []) }
+    ensures { OnOk result (map (λ file. file.0) files.new
+        ≡ map (λ file. file.0) files.old ++ name.now ∷ []) }
 {
     let name = Text::from_str(alloc, name)?;
     let text = List::from_slice(alloc, text)?;
@@ -163,7 +165,8 @@ pub fn check_run_over(
     Ok(())
 }
 
-/// What the program writes over these inputs and the plain server. It ends with status 0 and writes no note.
+/// What the program writes over these inputs and the plain server. It ends with status 0 and writes
+/// no note.
 pub fn written(
     rt: &impl Abort,
     alloc: Global,

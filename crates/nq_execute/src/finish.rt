@@ -117,8 +117,8 @@ fn row_text_by(
     }
 }
 
-/// What is written of answers, wherever they come from: those to the texts of a plan, in order, each
-/// of which fits the types of its columns. Fails only if memory runs out.
+/// What is written of answers, wherever they come from: those to the texts of a plan, in order,
+/// each of which fits the types of its columns. Fails only if memory runs out.
 #[tactic(auto, using(crate::proofs::Finishes::finish_rules))]
 pub fn write_answers(
     alloc: Global,

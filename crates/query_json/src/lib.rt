@@ -1,5 +1,5 @@
-//! A query as JSON, for programs that run its texts elsewhere: its type, and for each path the text,
-//! the columns of its answer, and where its bags stand in the answer around.
+//! A query as JSON, for programs that run its texts elsewhere: its type, and for each path the
+//! text, the columns of its answer, and where its bags stand in the answer around.
 #![tactic(auto)]
 
 mod columns;

@@ -119,7 +119,9 @@ fn put_not_exists(text: &mut String, query: &Query) -> Result<(), Memory>
 // The sources and the condition of a scalar query, and its end.
 #[cycle(put)]
 fn put_picked(text: &mut String, over: &Picked) -> Result<(), Memory>
-    ensures { OnOk result (string_bytes text.new ≡ string_bytes text.old ++ (printed_from (picked_from over.now) ++ (printed_keep (picked_keep over.now) ++ codes ")"))) }
+    ensures { OnOk result (string_bytes text.new
+        ≡ string_bytes text.old ++ (printed_from (picked_from over.now)
+        ++ (printed_keep (picked_keep over.now) ++ codes ")"))) }
 {
     put_from(text, over.from.as_slice())?;
     put_keep(text, &over.keep)?;

@@ -63,7 +63,8 @@ fn put_items(text: &mut String, items: &[Item]) -> Result<(), Memory>
 #[cycle(put)]
 fn put_item(text: &mut String, item: &Item) -> Result<(), Memory>
     ensures { OnOk result (string_bytes text.new
-        ≡ string_bytes text.old ++ (printed_value (bare_value (placed_value item.now.value)) ++ (codes " AS " ++ quoted item.now.name))) }
+        ≡ string_bytes text.old ++ (printed_value (bare_value (placed_value item.now.value))
+        ++ (codes " AS " ++ quoted item.now.name))) }
 {
     put_value(text, &item.value)?;
     text.push_str(" AS ")?;

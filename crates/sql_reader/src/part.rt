@@ -29,7 +29,8 @@ fn made(
     extent: Extent,
 ) -> Result<Part, Memory>
     ensures { IfOk result (λ made.
-        part_view made ≡ record { tree = placed_node node place; level = level; depth = extent.depth }) }
+        part_view made
+        ≡ record { tree = placed_node node place; level = level; depth = extent.depth }) }
 {
     let expr = boxed(alloc, Expr { place, node })?;
     Ok(Part {

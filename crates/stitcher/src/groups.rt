@@ -36,7 +36,8 @@ impl<I: Eq + Hash + Drop> Groups<I> {
 
     // Puts one more row in front, under an index.
     fn push_front(&mut self, index: I) -> Result<(), Memory>
-        ensures { OnOk result (IsPutInFront I.eq self.old.firsts self.old.nexts self.new.firsts self.new.nexts index) }
+        ensures { OnOk result (IsPutInFront I.eq self.old.firsts self.old.nexts
+            self.new.firsts self.new.nexts index) }
     {
         let Ok(behind) = u32::try_from(self.nexts.len()) else {
             return Err(Memory);
