@@ -1,5 +1,5 @@
 -- The trees of base terms, bodies and forms, form by form.
-use Rattle.std.proofs.Common.{◌≡◌, ℕ, ℤ, pos, Bool, List, map, sym, ap, ◌∙◌, Box, Global}
+use Rattle.std.proofs.Common.{◌≡◌, ℕ, ℤ, pos, Bool, List, [], ◌∷◌, ◌++◌, map, refl, sym, ap, ◌∙◌, Box, Global}
 use Rattle.nq_model.specs.Totals.{HowMany, SumOf}
 use Rattle.nq_model.specs.Types.{type_tree}
 use Rattle.nq_model.specs.declared.table.Cell.TheVariants as cell
@@ -14,7 +14,7 @@ use Rattle.nq_ir.specs.declared.normal.Comp.{Comp, fold-roll-Comp}
 use Rattle.nq_ir.specs.declared.normal.Normal.{Normal, out-Normal, fold_out-Normal}
 use Rattle.nq_ir.specs.declared.shredded.Shape.{Shape, Shape-F, fold-roll-Shape}
 use Rattle.nq_ir.specs.declared.shredded.Shape.TheVariants as shape
-use Rattle.nq_ir.specs.Trees.{BaseTree, TestPart, tests_of, base_layer, test_layer, base_tree, test_part, conds_tree, BodyTree, CompPart, FormTree, bodies_of, comps_of, body_layer, comp_layer, normal_layer, body_tree, comp_part, form_tree, ShapeTree, shapes_of, shape_layer, shape_tree}
+use Rattle.nq_ir.specs.Trees.{BaseTree, TestPart, chain, tests_of, base_layer, test_layer, base_tree, test_part, conds_tree, BodyTree, CompPart, FormTree, bodies_of, comps_of, body_layer, comp_layer, normal_layer, body_tree, comp_part, form_tree, ShapeTree, shapes_of, shape_layer, shape_tree}
 
 pub base_int : (n : ℤ) → base_tree (base.Int n) ≡ BaseTree.literal (cell.Int n)
 base_int n = ap base_tree (sym (base.rolls-Int n)) ∙ fold-roll-Base BaseTree TestPart base_layer test_layer (Base-F.Int n)
@@ -33,6 +33,14 @@ base_unary op b = ap base_tree (sym (base.rolls-Unary op b)) ∙ fold-roll-Base 
 
 pub base_binary : (op : Binary) (a b : Box Base Global) → base_tree (base.Binary op a b) ≡ BaseTree.binary op (base_tree a.value) (base_tree b.value)
 base_binary op a b = ap base_tree (sym (base.rolls-Binary op a b)) ∙ fold-roll-Base BaseTree TestPart base_layer test_layer (Base-F.Binary op a b)
+
+pub base_chain : (op : Binary) (a : Box Base Global) (bs : List Base) → base_tree (base.Chain op a bs) ≡ chain op (base_tree a.value) (map base_tree bs)
+base_chain op a bs = ap base_tree (sym (base.rolls-Chain op a bs)) ∙ fold-roll-Base BaseTree TestPart base_layer test_layer (Base-F.Chain op a bs)
+
+-- the last part of a chain stands on the right of the outermost operation
+pub chain_last : (op : Binary) (a : BaseTree) (bs : List BaseTree) (b : BaseTree) → chain op a (bs ++ b ∷ []) ≡ BaseTree.binary op (chain op a bs) b
+chain_last op a [] b = refl
+chain_last op a (c ∷ bs) b = chain_last op (BaseTree.binary op a c) bs b
 
 pub base_choose : (x a b : Box Base Global) → base_tree (base.Choose x a b) ≡ BaseTree.choose (base_tree x.value) (base_tree a.value) (base_tree b.value)
 base_choose x a b = ap base_tree (sym (base.rolls-Choose x a b)) ∙ fold-roll-Base BaseTree TestPart base_layer test_layer (Base-F.Choose x a b)

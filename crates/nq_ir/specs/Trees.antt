@@ -106,6 +106,11 @@ pub record FormTree : Type 0 where
   pub element : TypeTree
   pub comps : Comps
 
+-- a term and further ones behind it, each joined to those before it by the same operation
+abbrev pub chain : Binary → BaseTree → List BaseTree → BaseTree
+chain op first [] = first
+chain op first (b ∷ more) = chain op (binary op first b) more
+
 abbrev pub base_layer : Base-F BaseTree TestPart → BaseTree
 base_layer (Base-F.Int n) = literal (cell.Int n)
 base_layer (Base-F.Bool b) = literal (cell.Bool b)
@@ -113,6 +118,7 @@ base_layer (Base-F.Text t) = literal (cell.Text t)
 base_layer (Base-F.Column g l) = column g l
 base_layer (Base-F.Unary op b) = unary op b.value
 base_layer (Base-F.Binary op a b) = binary op a.value b.value
+base_layer (Base-F.Chain op first more) = chain op first.value more
 base_layer (Base-F.Choose x a b) = choose x.value a.value b.value
 base_layer (Base-F.Empty ts) = empty (tests_of ts)
 base_layer (Base-F.Count t) = total HowMany t.gens t.conds (literal (cell.Int (pos 1)))

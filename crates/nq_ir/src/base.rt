@@ -26,9 +26,10 @@ impl Gen {
 }
 
 /// A term of a base type. `Column` names a generator in scope by its number, and a column of its
-/// table. An `Int` is from 0 to 2^63 - 1. `Empty` tests whether none of its comprehensions gives an
-/// element. `Count` is how many elements one comprehension gives, and `Sum` the sum of a value over
-/// them, at 64 bits.
+/// table. An `Int` is from 0 to 2^63 - 1. A `Chain` is an operation on many terms, grouped to the
+/// left, in a flat list, so that a sum of thousands of parts is no deeper than its parts. `Empty`
+/// tests whether none of its comprehensions gives an element. `Count` is how many elements one
+/// comprehension gives, and `Sum` the sum of a value over them, at 64 bits.
 ///
 /// After Cheney, Lindley and Wadler, "Query Shredding", SIGMOD 2014.
 #[cycle(base)]
@@ -49,6 +50,11 @@ pub enum Base {
         op: Binary,
         left: Box<Base>,
         right: Box<Base>,
+    },
+    Chain {
+        op: Binary,
+        first: Box<Base>,
+        more: List<Base>,
     },
     Choose {
         test: Box<Base>,
@@ -76,7 +82,7 @@ pub struct Test {
 impl Base {
     /// A copy of the term.
     #[cycle(copy)]
-    #[tactic(auto, using(crate::proofs::Forms::base_empty, crate::proofs::Forms::base_count, crate::proofs::Forms::base_sum))]
+    #[tactic(auto, using(crate::proofs::Forms::base_chain, crate::proofs::Forms::base_empty, crate::proofs::Forms::base_count, crate::proofs::Forms::base_sum))]
     pub fn copy(&self, alloc: Global) -> Result<Base, Memory>
         ensures { IfOk result (λ copy. base_tree copy ≡ base_tree self.now) }
     {
@@ -97,6 +103,11 @@ impl Base {
                 left: boxed(alloc, left.copy(alloc)?)?,
                 right: boxed(alloc, right.copy(alloc)?)?,
             }),
+            Base::Chain { op, first, more } => Ok(Base::Chain {
+                op: *op,
+                first: boxed(alloc, first.copy(alloc)?)?,
+                more: copy_conds(alloc, more.as_slice())?,
+            }),
             Base::Choose { test, yes, no } => Ok(Base::Choose {
                 test: boxed(alloc, test.copy(alloc)?)?,
                 yes: boxed(alloc, yes.copy(alloc)?)?,
@@ -112,7 +123,7 @@ impl Base {
     }
 }
 
-/// Copies of conditions.
+/// Copies of base terms: conditions, or the parts of a chain.
 #[cycle(copy)]
 pub fn copy_conds(alloc: Global, conds: &[Base]) -> Result<List<Base>, Memory>
     ensures { IfOk result (λ copies. map base_tree copies ≡ map base_tree conds.now) }
