@@ -21,7 +21,7 @@ use Rattle.sql_profile.specs.Texts.{Spells, TextAllows}
 use Rattle.sql_profile.specs.Tokens.{First}
 use Rattle.sql_profile.specs.Trees.{PlacedSql, bare}
 use Rattle.stitcher.specs.FlatNumbers.{flat_numbers}
-use Rattle.stitcher.specs.Schemes.{stitched}
+use Rattle.stitcher.specs.Schemes.{Scheme, stitched}
 
 -- a text with columns of these types
 pub record IsScopedText (schema : Schema) (types : List ColumnType) (text : List ℕ) : Type 0 where
@@ -34,16 +34,23 @@ pub record IsScopedText (schema : Schema) (types : List ColumnType) (text : List
   -- with columns of these types
   pub typed : types_of columns ≡ types
 
+-- Over all tables of the schema, whatever answers SQL allows, each to its text by itself, stitching
+-- them by the scheme gives the same nested multiset as the meaning over those tables.
+abbrev pub StitchTo : {I : Type 0} → Scheme I → Schema → TypeTree → List (List ℕ)
+    → (List FilledTable → Nested → Type 0) → Type 0
+StitchTo S schema element texts means =
+    (tables : List (List (List Cell))) → AreTablesOf schema.tables tables
+    → (answers : List (List (List Cell)))
+    → EachBoth (TextAllows First (held_of schema.tables tables)) texts answers
+    → (v : Nested) → means (database schema.tables tables) v
+    → Same (stitched S element answers) v
+
 -- These texts shred what has this meaning, a bag with elements of this type.
 pub record Shreds (schema : Schema) (element : TypeTree) (texts : List (List ℕ)) (means : List FilledTable → Nested → Type 0) : Type 0 where
   -- There is one text for each path of the type, in path order, with the columns of its path.
   pub scoped : EachBoth (λ path text. IsScopedText schema (columns_at (bag element) path) text) (paths (bag element)) texts
-  -- Over all tables of the schema, whatever answers SQL allows, each to its text by itself, stitching them by tag and
-  -- number gives the same nested multiset as the meaning over those tables.
-  pub stitched : (tables : List (List (List Cell))) → AreTablesOf schema.tables tables
-      → (answers : List (List (List Cell))) → EachBoth (TextAllows First (held_of schema.tables tables)) texts answers
-      → (v : Nested) → means (database schema.tables tables) v
-      → Same (stitched (flat_numbers (element_types (bag element))) element answers) v
+  -- Stitching their answers by tag and number gives the meaning.
+  pub stitched : StitchTo (flat_numbers (element_types (bag element))) schema element texts means
 
 -- what a normal form means over tables
 abbrev pub form_means : FormTree → List FilledTable → Nested → Type 0
