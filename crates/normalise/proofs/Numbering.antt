@@ -2,14 +2,15 @@
 use Rattle.std.proofs.Common.{◌≡◌, ℕ, zero, suc, ◌+◌, ◌-◌, ◌<◌, ◌≤◌, List, [], ◌∷◌, map, refl, sym, ap, ap₂, ◌∙◌, length, get_or, arith, Bor}
 use Rattle.nq_model.specs.NamedRows.{Label}
 use Rattle.nq_model.specs.Totals.{Total}
+use Rattle.nq_model.specs.declared.term.Binary.{Binary}
 use Rattle.nq_ir.specs.NormalForms.{gens_in_base, gens_in_conds, gens_in_tests, number_gens, deal, number_base, number_conds, number_tests}
-use Rattle.nq_ir.specs.RawForms.{RawBase, raw_total}
-use Rattle.nq_ir.specs.Trees.{BaseTree, TestPart as NumberedPart, and_cond, test, base_tree, test_part as numbered_part, conds_of as numbered_conds, tests_of as numbered_tests}
+use Rattle.nq_ir.specs.RawForms.{RawBase, raw_binary, raw_total}
+use Rattle.nq_ir.specs.Trees.{BaseTree, TestPart as NumberedPart, chain as numbered_chain, and_cond, test, base_tree, test_part as numbered_part, conds_of as numbered_conds, tests_of as numbered_tests}
 use Rattle.nq_ir.specs.declared.base.Base.{Base}
 use Rattle.nq_ir.specs.declared.base.Gen.{Gen}
 use Rattle.nq_ir.specs.declared.base.Test.{roll-Test}
 use Rattle.nq_ir.proofs.Forms.{test_is as numbered_is}
-use Rattle.normalise.specs.Raw.{TestPart, conds_of, tests_of, moved_base, raw_base, raw_conds, test_part}
+use Rattle.normalise.specs.Raw.{TestPart, chain, conds_of, tests_of, moved_base, raw_base, raw_conds, test_part}
 use Rattle.normalise.specs.Numbers.{dealt, without, numbers, numbers_layer, bases_numbered, gens_in_bases, gens_in_test, test_numbered, tests_numbered, gens_in_parts}
 use Rattle.normalise.specs.declared.raw.RawTest.{RawTest as CodeTest, out-RawTest}
 use Rattle.normalise.specs.declared.numbers.Numbers.{Numbers, Numbers-F, fold-roll-Numbers}
@@ -69,6 +70,19 @@ conds_are n sc (b ∷ bs) = ap (and_cond (number_base n sc b)) (conds_are (n + g
 pub conds_have : (bs : List RawBase) → gens_in_conds (conds_of bs) ≡ gens_in_bases bs
 conds_have [] = refl
 conds_have (b ∷ bs) = ap (λ z. gens_in_base b + z) (conds_have bs)
+
+-- a chain, numbered: its parts are numbered one after the other
+pub chain_made : (op : Binary) (a : RawBase) (bs : List RawBase) (n : ℕ) (sc : List ℕ) → numbered_chain op (number_base n sc a) (bases_numbered (n + gens_in_base a) sc bs) ≡ number_base n sc (chain op a bs)
+chain_made op a [] n sc = refl
+chain_made op a (b ∷ bs) n sc =
+    let e : n + gens_in_base a + gens_in_base b ≡ n + (gens_in_base a + gens_in_base b) = omega arith in
+    ap (λ k. numbered_chain op (BaseTree.binary op (number_base n sc a) (number_base (n + gens_in_base a) sc b)) (bases_numbered k sc bs)) e ∙ chain_made op (raw_binary op a b) bs n sc
+
+pub chain_has : (op : Binary) (a : RawBase) (bs : List RawBase) → gens_in_base a + gens_in_bases bs ≡ gens_in_base (chain op a bs)
+chain_has op a [] = omega arith
+chain_has op a (b ∷ bs) =
+    let e : gens_in_base a + (gens_in_base b + gens_in_bases bs) ≡ gens_in_base a + gens_in_base b + gens_in_bases bs = omega arith in
+    e ∙ chain_has op (raw_binary op a b) bs
 
 pub tests_are : (n : ℕ) (sc : List ℕ) (ts : List TestPart) → number_tests n sc (tests_of ts) ≡ numbered_tests (tests_numbered n sc ts)
 tests_are n sc [] = refl

@@ -1,9 +1,12 @@
 -- Counts and sums of comprehensions, joined by `+` from the left.
-use Rattle.std.proofs.Common.{◌≡◌, List, [], ◌∷◌, ◌++◌, map, refl, sym, ap, ◌∙◌, Option, Some, None}
+use Rattle.std.proofs.Common.{◌≡◌, List, [], ◌∷◌, map, refl, ap, ◌∙◌}
 use Rattle.nq_model.specs.declared.term.Binary.TheVariants.{Add}
-use Rattle.nq_ir.specs.RawForms.{RawBase, raw_binary, RawComps, no_raw_comp, raw_comp, raw_tests_of, of_each, raw_count, raw_sum, plus_each, plus_all}
-use Rattle.normalise.specs.Raw.{TestPart, CompPart, comps_of, count_in, sum_in, tests_of}
-use Rattle.normalise.specs.Totals.{counts_of, plus_more, some_plus}
+use Rattle.nq_ir.specs.RawForms.{RawBase, raw_binary, RawComps, no_raw_comp, raw_comp, raw_tests_of, of_each, raw_count, raw_sum, plus_each}
+use Rattle.normalise.specs.Raw.{TestPart, CompPart, chain, comps_of, count_in, sum_in, moved_base, raw_base, tests_of}
+use Rattle.normalise.specs.Totals.{counts_of}
+use Rattle.normalise.specs.declared.raw.MovedBase.{MovedBase}
+use Rattle.normalise.specs.declared.raw.RawBase.TheVariants as base
+use Rattle.normalise.proofs.Views.{base_chain}
 
 pub counts_are : (ts : List TestPart) → map count_in ts ≡ counts_of (tests_of ts)
 counts_are [] = refl
@@ -18,19 +21,10 @@ pub sums_are : (cs : List CompPart) → map sum_in cs ≡ of_each raw_sum (comps
 sums_are [] = refl
 sums_are (c ∷ cs) = ap (λ (z : List RawBase). sum_in c ∷ z) (sums_are cs)
 
-plus_last : (a : RawBase) (bs : List RawBase) (b : RawBase) → plus_each a (bs ++ b ∷ []) ≡ raw_binary Add (plus_each a bs) b
-plus_last a [] b = refl
-plus_last a (c ∷ bs) b = plus_last (raw_binary Add a c) bs b
+-- what is joined by `+` is one chain of it
+pub plus_chain : (a : RawBase) (bs : List RawBase) → chain Add a bs ≡ plus_each a bs
+plus_chain a [] = refl
+plus_chain a (b ∷ bs) = plus_chain (raw_binary Add a b) bs
 
-pub plus_step : (bs : List RawBase) (b : RawBase) → Some (plus_more (some_plus bs) b) ≡ some_plus (bs ++ b ∷ [])
-plus_step [] b = refl
-plus_step (a ∷ bs) b = ap Some (sym (plus_last a bs b))
-
--- what is joined of some, and of none
-pub plus_some : (bs : List RawBase) (a : RawBase) → Some a ≡ some_plus bs → a ≡ plus_all bs
-plus_some [] a e = absurd (cc)
-plus_some (b ∷ bs) a e = cc
-
-pub plus_none : (bs : List RawBase) → None ≡ some_plus bs → plus_all [] ≡ plus_all bs
-plus_none [] e = refl
-plus_none (b ∷ bs) e = absurd (cc)
+pub chain_of_plus : (a : MovedBase) (bs : List MovedBase) → raw_base (base.Chain Add a bs) ≡ plus_each (moved_base a) (map moved_base bs)
+chain_of_plus a bs = base_chain Add a bs ∙ plus_chain (moved_base a) (map moved_base bs)

@@ -14,7 +14,7 @@ use Rattle.normalise.specs.declared.raw.RawBody.{RawBody-F, fold-roll-RawBody}
 use Rattle.normalise.specs.declared.raw.RawBody.TheVariants as body
 use Rattle.normalise.specs.declared.raw.MovedBody.{MovedBody, fold-roll-MovedBody}
 use Rattle.normalise.specs.declared.raw.RawComp.{RawComp as CodeComp, fold-roll-RawComp}
-use Rattle.normalise.specs.Raw.{TestPart, CompPart, count_in, tests_of, fields_of, comps_of, base_layer, moved_layer, test_layer, raw_base, moved_base, test_part, raw_conds, body_layer, moved_body_layer, comp_layer, raw_body, moved_body, comp_part}
+use Rattle.normalise.specs.Raw.{TestPart, CompPart, chain, count_in, tests_of, fields_of, comps_of, base_layer, moved_layer, test_layer, raw_base, moved_base, test_part, raw_conds, body_layer, moved_body_layer, comp_layer, raw_body, moved_body, comp_part}
 
 pub base_bool : (b : Bool) → raw_base (base.Bool b) ≡ raw_literal (cell.Bool b)
 base_bool b = ap raw_base (sym (base.rolls-Bool b)) ∙ fold-roll-RawBase RawBase RawBase TestPart base_layer moved_layer test_layer (RawBase-F.Bool b)
@@ -34,6 +34,9 @@ base_unary op b = ap raw_base (sym (base.rolls-Unary op b)) ∙ fold-roll-RawBas
 
 pub base_binary : (op : Binary) (a b : MovedBase) → raw_base (base.Binary op a b) ≡ raw_binary op (moved_base a) (moved_base b)
 base_binary op a b = ap raw_base (sym (base.rolls-Binary op a b)) ∙ fold-roll-RawBase RawBase RawBase TestPart base_layer moved_layer test_layer (RawBase-F.Binary op a b)
+
+pub base_chain : (op : Binary) (a : MovedBase) (bs : List MovedBase) → raw_base (base.Chain op a bs) ≡ chain op (moved_base a) (map moved_base bs)
+base_chain op a bs = ap raw_base (sym (base.rolls-Chain op a bs)) ∙ fold-roll-RawBase RawBase RawBase TestPart base_layer moved_layer test_layer (RawBase-F.Chain op a bs)
 
 pub base_choose : (x a b : MovedBase) → raw_base (base.Choose x a b) ≡ raw_choose (moved_base x) (moved_base a) (moved_base b)
 base_choose x a b = ap raw_base (sym (base.rolls-Choose x a b)) ∙ fold-roll-RawBase RawBase RawBase TestPart base_layer moved_layer test_layer (RawBase-F.Choose x a b)

@@ -3,6 +3,7 @@ use Rattle.std.specs.Prelude.{ℕ, pos, ◌+◌, ◌++◌, List, [], ◌∷◌, 
 use Rattle.nq_model.specs.NamedRows.{Label}
 use Rattle.nq_model.specs.Totals.{HowMany, SumOf}
 use Rattle.nq_model.specs.declared.table.Cell.TheVariants as cell
+use Rattle.nq_model.specs.declared.term.Binary.{Binary}
 use Rattle.nq_ir.specs.RawForms.{RawBase, raw_literal, raw_column, raw_unary, raw_binary, raw_choose, raw_empty, raw_total, RawConds, no_raw, and_raw, RawTests, no_raw_test, raw_test, RawBody, raw_plain, raw_rec, raw_bag, RawFields, no_raw_field, raw_field, RawComps, no_raw_comp, raw_comp, raw_base_in, up_base, up_bases, up_body, both_raw}
 use Rattle.normalise.specs.declared.raw.RawBase.{RawBase as CodeBase}
 use Rattle.normalise.specs.declared.raw.MovedBase.{MovedBase}
@@ -50,6 +51,11 @@ abbrev pub comps_of : List CompPart → RawComps
 comps_of [] = no_raw_comp
 comps_of (c ∷ cs) = raw_comp c.tables c.conds c.body (comps_of cs)
 
+-- a base term and further ones behind it, each joined to those before it by the same operation
+abbrev pub chain : Binary → RawBase → List RawBase → RawBase
+chain op first [] = first
+chain op first (b ∷ more) = chain op (raw_binary op first b) more
+
 abbrev pub base_layer : RawBase-F RawBase RawBase TestPart → RawBase
 base_layer (RawBase-F.Int n) = raw_literal (cell.Int n)
 base_layer (RawBase-F.Bool b) = raw_literal (cell.Bool b)
@@ -57,6 +63,7 @@ base_layer (RawBase-F.Text t) = raw_literal (cell.Text t)
 base_layer (RawBase-F.Column i l) = raw_column i l
 base_layer (RawBase-F.Unary op b) = raw_unary op b
 base_layer (RawBase-F.Binary op a b) = raw_binary op a b
+base_layer (RawBase-F.Chain op first more) = chain op first more
 base_layer (RawBase-F.Choose x a b) = raw_choose x a b
 base_layer (RawBase-F.Empty ts) = raw_empty (tests_of ts)
 base_layer (RawBase-F.Count t) = count_in t

@@ -30,11 +30,11 @@ pub(crate) fn body_depth(body: &RawBody) -> Result<u64, Memory> {
     }
 }
 
-/// How deep the deepest condition is.
-pub(crate) fn deepest(conds: &[MovedBase]) -> u64 {
+/// How deep the deepest of these is.
+pub(crate) fn deepest(bases: &[MovedBase]) -> u64 {
     let mut deepest: u64 = 0;
-    for cond in conds {
-        deepest = deepest.max(cond.depth);
+    for base in bases {
+        deepest = deepest.max(base.depth);
     }
     deepest
 }

@@ -43,6 +43,12 @@ fn number_base(
             let op = *op;
             Ok((Base::Binary { op, left, right }, next))
         }
+        RawBase::Chain { op, first, more } => {
+            let (first, next) = number_boxed(alloc, first, next, scope)?;
+            let (more, next) = number_conds(alloc, more.as_slice(), next, scope)?;
+            let op = *op;
+            Ok((Base::Chain { op, first, more }, next))
+        }
         RawBase::Choose { test, yes, no } => {
             let (test, next) = number_boxed(alloc, test, next, scope)?;
             let (yes, next) = number_boxed(alloc, yes, next, scope)?;
@@ -104,7 +110,7 @@ fn number_boxed(
     Ok((boxed(alloc, base)?, after))
 }
 
-/// Conditions with numbers from `first` on, and the number after their last.
+/// Conditions, or parts of a chain, with numbers from `first` on, and the number after their last.
 #[cycle(number_base)]
 pub(crate) fn number_conds(
     alloc: Global,

@@ -3,7 +3,8 @@ use nq_model::{Binary, Label, List, Text, Unary};
 use std::rc::Rc;
 
 /// A base term. `Column` names its generator by how many stand between it and its use, so that a
-/// body which is used more than once has generators of its own at each use.
+/// body which is used more than once has generators of its own at each use. A `Chain` is an
+/// operation on many terms, grouped to the left, in a flat list.
 #[cycle(raw)]
 #[derive(Drop)]
 pub(crate) enum RawBase {
@@ -22,6 +23,11 @@ pub(crate) enum RawBase {
         op: Binary,
         left: MovedBase,
         right: MovedBase,
+    },
+    Chain {
+        op: Binary,
+        first: MovedBase,
+        more: List<MovedBase>,
     },
     Choose {
         test: MovedBase,

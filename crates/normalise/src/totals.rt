@@ -1,13 +1,12 @@
-// Counts and sums: one for each comprehension, joined by `+` from the left. Joined, they are as
-// deep as there are comprehensions, since what comes after recurses over them.
-ghost use Rattle.std.specs.Prelude.{◌≡◌, IfOk, map, option_map};
-ghost use Rattle.nq_ir.specs.RawForms.{of_each, plus_all, raw_plain, raw_sum};
+// Counts and sums: one for each comprehension, joined by `+` from the left in one chain, so that
+// however many there are, what is joined is no deeper than they are.
+ghost use Rattle.std.specs.Prelude.{◌≡◌, IfOk, map};
+ghost use Rattle.nq_ir.specs.RawForms.{of_each, plus_all, plus_each, raw_plain, raw_sum};
 ghost use Rattle.normalise.specs.Raw.{comp_part, count_in, moved_base, moved_body, raw_comps, raw_tests, sum_in, test_part};
-ghost use Rattle.normalise.specs.Totals.{counts_of, plus_more};
+ghost use Rattle.normalise.specs.Totals.{counts_of};
 
 use crate::comps::base_in;
-use crate::depth::test_depth;
-use crate::moved::operation;
+use crate::depth::{deepest, test_depth};
 use crate::raw::{MovedBase, MovedBody, RawBase, RawBody, RawComp, RawTest};
 use crate::tests::test_in;
 use nq_model::{Binary, List, Memory};
@@ -69,26 +68,28 @@ fn sum_one(alloc: Global, comp: RawComp) -> Result<MovedBase, Memory>
 }
 
 // These joined by `+` from the left; of none it is the number 0.
-#[tactic(auto, using(crate::proofs::Views::base_int, crate::proofs::Sums::plus_some, crate::proofs::Sums::plus_none))]
+#[tactic(auto, using(crate::proofs::Views::base_int))]
 fn plus_all(alloc: Global, parts: List<MovedBase>) -> Result<MovedBase, Memory>
     ensures { IfOk result (λ b. moved_base b ≡ plus_all (map moved_base parts)) }
 {
-    let mut all: Option<MovedBase> = None;
-    for part in parts.into_vec() {
-        all = Some(plus_one(alloc, all, part)?);
+    if parts.is_empty() {
+        return MovedBase::new(alloc, RawBase::Int(0), 0);
     }
-    match all {
-        Some(all) => Ok(all),
-        None => MovedBase::new(alloc, RawBase::Int(0), 0),
-    }
+    let mut parts = parts.into_vec();
+    let first = parts.remove(0);
+    plus_each(alloc, first, List::from_vec(parts))
 }
 
-fn plus_one(alloc: Global, left: Option<MovedBase>, right: MovedBase) -> Result<MovedBase, Memory>
+// These joined by `+` from the left.
+#[tactic(auto, using(crate::proofs::Sums::chain_of_plus))]
+fn plus_each(alloc: Global, first: MovedBase, more: List<MovedBase>) -> Result<MovedBase, Memory>
     ensures { IfOk result (λ b.
-        moved_base b ≡ plus_more (option_map moved_base left) (moved_base right)) }
+        moved_base b ≡ plus_each (moved_base first) (map moved_base more)) }
 {
-    match left {
-        Some(left) => operation(alloc, Binary::Add, left, right),
-        None => Ok(right),
+    if more.is_empty() {
+        return Ok(first);
     }
+    let op = Binary::Add;
+    let below = first.depth.max(deepest(more.as_slice()));
+    MovedBase::new(alloc, RawBase::Chain { op, first, more }, below)
 }

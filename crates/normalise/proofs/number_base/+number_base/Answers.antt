@@ -4,15 +4,15 @@ use Rattle.nq_model.specs.NamedRows.{Label}
 use Rattle.nq_model.specs.Totals.{HowMany, SumOf}
 use Rattle.nq_model.specs.declared.table.Cell.TheVariants as cell
 use Rattle.nq_ir.specs.NormalForms.{number_base, number_gens, gens_in_base, gens_in_conds}
-use Rattle.nq_ir.specs.Trees.{BaseTree, TestPart as NumberedPart, base_tree, test_part as numbered_part, tests_of as numbered_tests}
-use Rattle.nq_ir.proofs.Forms.{base_binary as numbered_binary, base_bool as numbered_bool, base_choose as numbered_choose, base_column as numbered_column, base_count as numbered_count, base_empty as numbered_empty, base_sum as numbered_sum, base_unary as numbered_unary}
+use Rattle.nq_ir.specs.Trees.{BaseTree, TestPart as NumberedPart, base_tree, chain as numbered_chain, test_part as numbered_part, tests_of as numbered_tests}
+use Rattle.nq_ir.proofs.Forms.{base_binary as numbered_binary, base_bool as numbered_bool, base_chain as numbered_chain_is, base_choose as numbered_choose, base_column as numbered_column, base_count as numbered_count, base_empty as numbered_empty, base_sum as numbered_sum, base_unary as numbered_unary}
 use Rattle.normalise.specs.Raw.{TestPart, moved_base, raw_base, test_part}
 use Rattle.normalise.specs.Numbers.{numbers, without, bases_numbered, gens_in_bases, tests_numbered, gens_in_parts}
 use Rattle.normalise.specs.declared.raw.MovedBase.{MovedBase}
 use Rattle.normalise.specs.declared.raw.RawBase.{RawBase as CodeBase}
 use Rattle.normalise.specs.declared.raw.RawTest.{RawTest as CodeTest, out-RawTest}
-use Rattle.normalise.proofs.Views.{base_binary, base_bool, base_choose, base_column, base_count, base_empty, base_moved, base_sum, base_unary, test_is}
-use Rattle.normalise.proofs.Numbering.{moved_has, moved_made, numbers_dealt, tests_are, tests_have, test_made, test_has, total_made}
+use Rattle.normalise.proofs.Views.{base_binary, base_bool, base_chain, base_choose, base_column, base_count, base_empty, base_moved, base_sum, base_unary, test_is}
+use Rattle.normalise.proofs.Numbering.{chain_has, chain_made, moved_has, moved_made, numbers_dealt, tests_are, tests_have, test_made, test_has, total_made}
 use Rattle.normalise.proofs.number_base.+number_base.Goals as goal
 
 pub number_base-returns-in-Bool : goal.number_base-returns-in-Bool
@@ -68,6 +68,27 @@ number_base-returns-in_ok-right-in-Binary t c =
       after ∙ ap (λ z. n + gens_in_base z) (sym old),
     )
 
+pub number_base-returns-in_ok-more-in-Chain : goal.number_base-returns-in_ok-more-in-Chain
+number_base-returns-in_ok-more-in-Chain t c =
+    let sc = numbers c.args.scope.now in
+    let n = c.args.next in
+    let op = c.in-Chain.op in
+    let a = moved_base c.in-Chain.first in
+    let bs = map moved_base c.in-Chain.more in
+    let h = c.in_ok-first-in-Chain.ensures in
+    let k = c.in_ok-more-in-Chain.ensures in
+    let s = c.as_slice.ensures in
+    let old = ap raw_base c.in-Chain.is ∙ base_chain op c.in-Chain.first c.in-Chain.more in
+    let parts = k.0 ∙ ap₂ (λ m (l : List MovedBase). bases_numbered m sc (map moved_base l)) h.1 s in
+    let past = k.1 ∙ ap₂ (λ m (l : List MovedBase). m + gens_in_bases (map moved_base l)) h.1 s in
+    let after : c.in_ok-more-in-Chain.next ≡ n + (gens_in_base a + gens_in_bases bs) = omega (arith, past) in (
+      numbered_chain_is op c.in_ok-first-in-Chain.first c.in_ok-more-in-Chain.more
+          ∙ ap₂ (numbered_chain op) h.0 parts
+          ∙ chain_made op a bs n sc
+          ∙ ap (number_base n sc) (sym old),
+      after ∙ ap (λ z. n + z) (chain_has op a bs) ∙ ap (λ z. n + gens_in_base z) (sym old),
+    )
+
 pub number_base-returns-in_ok-no-in-Choose : goal.number_base-returns-in_ok-no-in-Choose
 number_base-returns-in_ok-no-in-Choose t c =
     let sc = numbers c.args.scope.now in
@@ -96,7 +117,7 @@ number_base-returns-in_ok-tests-in-Empty t c =
     let n = c.args.next in
     let tests = c.in-Empty.tests in
     let h = c.in_ok-tests-in-Empty.ensures in
-    let s = c.as_slice.ensures in
+    let s = c.as_slice-in-Empty.ensures in
     let old = ap raw_base c.in-Empty.is ∙ base_empty tests in (
       numbered_empty c.in_ok-tests-in-Empty.tests
           ∙ ap (λ l. BaseTree.empty (numbered_tests l)) (h.0 ∙ ap (λ (z : List CodeTest). tests_numbered n sc (map test_part z)) s)
