@@ -13,15 +13,8 @@ use Rattle.nq_ir.specs.Trees.{base_tree, conds_tree, TestPart, test, test_part, 
 use Rattle.nq_ir.specs.Printed.{NamedTerm, binary, union, single, rec, no_field, under_gens, named_base, named_body, named_where, named_tests, named_comps, named_form, and_then, has_total}
 use Rattle.nq_ir.proofs.Forms.{base_empty, base_count, base_sum, test_is, comp_is, form_is}
 use Rattle.normal_printer.specs.Parts.{comp_term, test_term, whole_term}
+use Rattle.normal_printer.proofs.Chains.{or_assoc, or_none}
 use Rattle.normal_printer.proofs.Joined.{chain, comps_chain, cond_term, tests_chain}
-
-or_none : (b : Bool) → b ≡ (b || false)
-or_none true = refl
-or_none false = refl
-
-or_assoc : (a b c : Bool) → ((a || b) || c) ≡ (a || (b || c))
-or_assoc true b c = refl
-or_assoc false b c = refl
 
 -- generators hold no total
 under_total : (gens : List Gen) (s : NamedTerm) → has_total (under_gens gens s) ≡ has_total s

@@ -1,5 +1,6 @@
 pub mod Quotes
 pub mod Joined
+pub mod Chains
 pub mod Headers
 pub mod Laid
 pub mod Legible

@@ -3,9 +3,12 @@ ghost use Rattle.std.specs.Prelude.{◌≡◌, ◌++◌, OnOk, codes, map, strin
 ghost use Rattle.nq_ir.specs.Printed.{aggregate, named_base, named_tests, sign_of, text_of, word_of};
 ghost use Rattle.nq_model.specs.Terms.{Count, Emptiness};
 ghost use Rattle.nq_ir.specs.Trees.{base_tree, conds_tree, test_part, tests_of};
-ghost use Rattle.normal_printer.specs.Parts.{gens_text, test_term, text_at, where_text};
+ghost use Rattle.normal_printer.specs.Chains.{chain_rest, chain_start, closing, is_bare, openings};
+ghost use Rattle.normal_printer.specs.Parts.{gens_text, lead, test_term, text_at, where_text};
 
-use crate::levels::{AND, PREFIX, UNION, base_level, comp_level, left_level, level_in, level_of};
+use crate::levels::{
+    AND, PREFIX, UNION, base_level, comp_level, is_bare, left_level, level_in, level_of,
+};
 use crate::pieces::{put_lead, put_literal, put_name, put_truth};
 use nq_ir::{Base, Gen, Test};
 use nq_model::{Binary, Memory, Unary};
@@ -34,6 +37,10 @@ pub(crate) fn put_base(text: &mut String, base: &Base) -> Result<(), Memory>
             put_base_at(text, left, left_level(*op))?;
             text.push_str(word_of(*op))?;
             put_base_at(text, right, level_of(*op) + 1)
+        }
+        Base::Chain { op, first, more } => {
+            put_first(text, *op, first, more.len())?;
+            put_more(text, *op, more.as_slice())
         }
         Base::Choose { test, yes, no } => {
             text.push_str("if ")?;
@@ -66,6 +73,59 @@ fn put_base_at(text: &mut String, base: &Base, asked: u64) -> Result<(), Memory>
         text.push_str(")")?;
         Ok(())
     }
+}
+
+// The first part of a chain that so many parts follow, behind the parentheses that open before it.
+#[cycle(put_base)]
+fn put_first(text: &mut String, op: Binary, first: &Base, more: usize) -> Result<(), Memory>
+    ensures { OnOk result (string_bytes text.new
+        ≡ string_bytes text.old ++ chain_start op more (named_base (base_tree first.now))) }
+{
+    if more == 0 {
+        return put_base(text, first);
+    }
+    put_openings(text, op, more - 1)?;
+    put_base_at(text, first, left_level(op))
+}
+
+// The parts behind the first.
+#[cycle(put_base)]
+fn put_more(text: &mut String, op: Binary, more: &[Base]) -> Result<(), Memory>
+    ensures { OnOk result (string_bytes text.new
+        ≡ string_bytes text.old ++ chain_rest op 0 more.now) }
+{
+    for (place, part) in more.iter().enumerate() {
+        put_word(text, op, place)?;
+        put_base_at(text, part, level_of(op) + 1)?;
+    }
+    Ok(())
+}
+
+// The parentheses that so many operations open, each on the left of the next.
+#[tactic(auto, using(crate::proofs::Chains::bare_openings))]
+fn put_openings(text: &mut String, op: Binary, inner: usize) -> Result<(), Memory>
+    ensures { OnOk result (string_bytes text.new
+        ≡ string_bytes text.old ++ openings (is_bare op) inner) }
+{
+    if is_bare(op) {
+        return Ok(());
+    }
+    for _ in 0..inner {
+        text.push_str("(")?;
+    }
+    Ok(())
+}
+
+// The operator before the part at a place behind the first, and what it closes.
+fn put_word(text: &mut String, op: Binary, place: usize) -> Result<(), Memory>
+    ensures { OnOk result (string_bytes text.new
+        ≡ string_bytes text.old ++ lead place (word_of op) (closing (is_bare op) ++ word_of op)) }
+{
+    if place > 0 && !is_bare(op) {
+        text.push_str(")")?;
+    }
+    text.push_str(word_of(op))?;
+    Ok(())
 }
 
 fn sign_of(op: Unary) -> &'static str

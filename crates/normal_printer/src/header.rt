@@ -72,7 +72,7 @@ fn fields_have_total(fields: &[(Label, Body)]) -> bool
 }
 
 #[cycle(base_has_total)]
-#[tactic(auto, using(crate::proofs::Headers::empty_total, crate::proofs::Headers::count_total, crate::proofs::Headers::sum_total))]
+#[tactic(auto, using(crate::proofs::Chains::chained_total, crate::proofs::Headers::empty_total, crate::proofs::Headers::count_total, crate::proofs::Headers::sum_total))]
 fn base_has_total(base: &Base) -> bool
     ensures { result ≡ has_total (named_base (base_tree base.now)) }
 {
@@ -80,6 +80,9 @@ fn base_has_total(base: &Base) -> bool
         Base::Int(_) | Base::Bool(_) | Base::Text(_) | Base::Column { .. } => false,
         Base::Unary { of, .. } => base_has_total(of),
         Base::Binary { left, right, .. } => base_has_total(left) || base_has_total(right),
+        Base::Chain { first, more, .. } => {
+            base_has_total(first) || conds_have_total(more.as_slice())
+        }
         Base::Choose { test, yes, no } => {
             base_has_total(test) || base_has_total(yes) || base_has_total(no)
         }

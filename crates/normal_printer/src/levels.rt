@@ -2,6 +2,7 @@
 ghost use Rattle.std.specs.Prelude.{◌≡◌, ◌<◌};
 ghost use Rattle.nq_ir.specs.Printed.{NamedTerm, left_level, level, level_of, named_base};
 ghost use Rattle.nq_ir.specs.Trees.{base_tree, conds_tree};
+ghost use Rattle.normal_printer.specs.Chains.{is_bare};
 ghost use Rattle.normal_printer.specs.Parts.{comp_term, level_in};
 
 use nq_ir::{Base, Gen};
@@ -46,6 +47,14 @@ pub(crate) fn left_level(op: Binary) -> u64
     }
 }
 
+// Whether an operation of this kind stands without parentheses on the left of another.
+pub(crate) fn is_bare(op: Binary) -> bool
+    ensures { result ≡ is_bare op }
+{
+    left_level(op) <= level_of(op)
+}
+
+#[cycle(base_level)]
 #[tactic(auto, using(nq_ir::proofs::Forms::base_count, nq_ir::proofs::Forms::base_sum))]
 pub(crate) fn base_level(base: &Base) -> u64
     ensures { result ≡ level (named_base (base_tree base.now)) }
@@ -60,6 +69,13 @@ pub(crate) fn base_level(base: &Base) -> u64
         Base::Column { .. } => 9,
         Base::Unary { .. } => 8,
         Base::Binary { op, .. } => level_of(*op),
+        Base::Chain { op, first, more } => {
+            if more.is_empty() {
+                base_level(first)
+            } else {
+                level_of(*op)
+            }
+        }
         Base::Choose { .. } => 1,
     }
 }

@@ -3,6 +3,7 @@ use Rattle.std.proofs.lemmas.Result.{on_ok_weaker}
 use Rattle.nq_ir.specs.Trees.{conds_tree}
 use Rattle.nq_ir.specs.Printed.{rec, no_field}
 use Rattle.normal_printer.specs.Parts.{gens_text, test_term, where_text}
+use Rattle.normal_printer.proofs.Chains.{chain_written}
 use Rattle.normal_printer.proofs.Joined.{cond_term, conds_written, head_text, part_at, over_written, parts_end, sum_written, tests_written}
 use Rattle.normal_printer.proofs.bases.+put_base.Goals as goal
 
@@ -35,3 +36,7 @@ put_where-returns t c =
     let conds = c.args.conds.now in
     conds_written conds (string_bytes c.args.text.now) _ _ (sym c.is_empty.ensures ∙ c.if-is_empty.false) c.in_ok-push_str.ensures.bytes
     (parts_end (part_at cond_term 4 (length conds)) (codes "where (") (codes " && ") c.loop-place.place conds (string_bytes c.loop-place.text) _ c.loop-place-test.false c.loop-place.invariant)
+
+pub put_base-returns-in_ok-put_first-in-Chain : goal.put_base-returns-in_ok-put_first-in-Chain
+put_base-returns-in_ok-put_first-in-Chain t c =
+    on_ok_weaker c.put_more.result (λ e. chain_written c.args.base.now c.in-Chain.op c.in-Chain.first c.in-Chain.more _ _ _ _ _ _ c.in-Chain.is c.deref-in-Chain.ensures c.len.ensures c.as_slice.ensures c.in_ok-put_first-in-Chain.ensures e) c.put_more.ensures
