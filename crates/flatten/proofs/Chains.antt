@@ -5,8 +5,8 @@ use Rattle.nq_model.specs.declared.term.Binary.{Binary}
 use Rattle.nq_model.specs.declared.term.Binary.TheVariants.{And}
 use Rattle.nq_ir.specs.declared.base.Base.{Base}
 use Rattle.nq_ir.specs.declared.base.Base.TheVariants as base
-use Rattle.nq_ir.specs.Trees.{BaseTree, base_tree, conds_of}
-use Rattle.nq_ir.proofs.Forms.{base_binary}
+use Rattle.nq_ir.specs.Trees.{BaseTree, base_tree, chain as base_chained, conds_of}
+use Rattle.nq_ir.proofs.Forms.{base_binary, base_chain}
 use Rattle.sql_profile.specs.declared.tree.Expr.{Expr}
 use Rattle.sql_profile.specs.declared.tree.Link.{Link}
 use Rattle.sql_profile.specs.Trees.{ExprTree, chain, expr_tree, link_tree}
@@ -26,15 +26,26 @@ one_joined outer e bs none = ap (λ (l : List Base). joined outer e (conds_of (m
 pub all_joined : (outer : ℕ → Bool) (e f : ExprTree) (bs : List Base) (links : List Link) → e ≡ f → map link_tree links ≡ map (base_expr outer) (map base_tree bs) → chain And e (map link_tree links) ≡ joined outer f (conds_of (map base_tree bs))
 all_joined outer e f bs links first rest = ap₂ (chain And) first rest ∙ sym (joined_is outer f (map base_tree bs))
 
--- one condition more is one link more
-pub conjunct_more : (outer : ℕ → Bool) (links more : List Link) (bs : List Base) (i : ℕ) (b : Base) (e : Expr) (p : ℕ) → i < length bs → b ≡ get_or bs i b → map link_tree links ≡ map (base_expr outer) (map base_tree (take i bs))
+-- one part more is one link more
+pub link_more : (outer : ℕ → Bool) (links more : List Link) (bs : List Base) (i : ℕ) (b : Base) (e : Expr) (p : ℕ) → i < length bs → b ≡ get_or bs i b → map link_tree links ≡ map (base_expr outer) (map base_tree (take i bs))
     → expr_tree e ≡ base_expr outer (base_tree b) → more ≡ links ++ record { place = p; right = e } ∷ [] → map link_tree more ≡ map (base_expr outer) (map base_tree (take (i + 1) bs))
-conjunct_more outer links more bs i b e p h at so_far made put =
+link_more outer links more bs i b e p h at so_far made put =
     let taken : take (i + 1) bs ≡ take i bs ++ b ∷ [] = take_more bs i b h ∙ ap (λ x. take i bs ++ x ∷ []) (sym at) in
     ap (map link_tree) put ∙ map-append link_tree links (record { place = p; right = e } ∷ [])
     ∙ ap₂ (λ (l : List ExprTree) (t : ExprTree). l ++ t ∷ []) so_far (link_built p e ∙ made)
     ∙ sym (ap (λ l. map (base_expr outer) (map base_tree l)) taken ∙ ap (map (base_expr outer)) (map-append base_tree (take i bs) (b ∷ []))
     ∙ map-append (base_expr outer) (map base_tree (take i bs)) (base_tree b ∷ []))
+
+chained_is : (outer : ℕ → Bool) (op : Binary) (b : BaseTree) (bs : List BaseTree) → base_expr outer (base_chained op b bs) ≡ chain op (base_expr outer b) (map (base_expr outer) bs)
+chained_is outer op b [] = refl
+chained_is outer op b (c ∷ bs) = chained_is outer op (BaseTree.binary op b c) bs
+
+-- the parts of a chain behind the first are links
+pub chain_linked : (outer : ℕ → Bool) (op : Binary) (first : Box Base Global) (more : List Base) (whole : Base) (b : Base) (bs : List Base) (e : Expr) (links : List Link) → whole ≡ base.Chain op first more → b ≡ first.value → bs ≡ more
+    → expr_tree e ≡ base_expr outer (base_tree b) → map link_tree links ≡ map (base_expr outer) (map base_tree bs) → chain op (expr_tree e) (map link_tree links) ≡ base_expr outer (base_tree whole)
+chain_linked outer op first more whole b bs e links is at same begun rest =
+    ap₂ (chain op) (begun ∙ ap (λ x. base_expr outer (base_tree x)) at) (rest ∙ ap (λ (l : List Base). map (base_expr outer) (map base_tree l)) same)
+    ∙ sym (ap (λ x. base_expr outer (base_tree x)) is ∙ ap (base_expr outer) (base_chain op first more) ∙ chained_is outer op (base_tree first.value) (map base_tree more))
 
 map_reverse : {A B : Type 0} (f : A → B) (xs : List A) → map f (reverse xs) ≡ reverse (map f xs)
 map_reverse f [] = refl

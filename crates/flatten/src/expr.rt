@@ -105,6 +105,11 @@ pub(crate) fn expr(alloc: Global, outer: &[Gen], base: &Base, levels: u64) -> Re
         }
         Base::Binary { op, .. } if is_chained(*op) => chain(alloc, outer, *op, base, levels),
         Base::Binary { op, left, right } => pair(alloc, outer, *op, left, right, levels),
+        Base::Chain { op, first, more } => {
+            let first = expr(alloc, outer, first, levels)?;
+            let more = links(alloc, outer, more.as_slice(), levels)?;
+            chained(alloc, *op, first, more)
+        }
         Base::Choose { test, yes, no } => {
             let test = boxed(alloc, expr(alloc, outer, test, levels)?)?;
             let yes = boxed(alloc, expr(alloc, outer, yes, levels)?)?;
@@ -319,25 +324,20 @@ fn all_of(
     if rest.is_empty() {
         return Ok(first);
     }
-    let links = conjuncts(alloc, outer, rest, levels)?;
-    chained(alloc, Binary::And, first, links)
+    let more = links(alloc, outer, rest, levels)?;
+    chained(alloc, Binary::And, first, more)
 }
 
-// Each condition as a link of a conjunction.
+// Each term as a link of a chain.
 #[cycle(expr)]
 #[tactic(auto, using(crate::proofs::Built::link_built))]
-fn conjuncts(
-    alloc: Global,
-    outer: &[Gen],
-    conds: &[Base],
-    levels: u64,
-) -> Result<List<Link>, Memory>
+fn links(alloc: Global, outer: &[Gen], parts: &[Base], levels: u64) -> Result<List<Link>, Memory>
     ensures { IfOk result (λ links.
-        map link_tree links ≡ map (base_expr (in_gens outer.now)) (map base_tree conds.now)) }
+        map link_tree links ≡ map (base_expr (in_gens outer.now)) (map base_tree parts.now)) }
 {
-    let mut links = List::with_capacity(alloc, conds.len())?;
-    for cond in conds {
-        let right = expr(alloc, outer, cond, levels)?;
+    let mut links = List::with_capacity(alloc, parts.len())?;
+    for part in parts {
+        let right = expr(alloc, outer, part, levels)?;
         links.push(Link { place: 0, right })?;
     }
     Ok(links)

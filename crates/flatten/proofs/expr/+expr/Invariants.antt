@@ -17,8 +17,8 @@ decreases-pair l = l.levels * 8 + 1
 abbrev pub decreases-chain : goal.decreases-chain
 decreases-chain l = l.levels * 8 + 1
 
-abbrev pub decreases-conjuncts : goal.decreases-conjuncts
-decreases-conjuncts l = l.levels * 8 + 1
+abbrev pub decreases-links : goal.decreases-links
+decreases-links l = l.levels * 8 + 1
 
 abbrev pub decreases-all_of : goal.decreases-all_of
 decreases-all_of l = l.levels * 8 + 1
@@ -44,8 +44,8 @@ decreases-emptiness l = l.levels * 8 + 5
 abbrev pub invariant-chain-loop-left : goal.invariant-chain-loop-left
 invariant-chain-loop-left l = spine (in_gens l.outer) l.op l.left l.links.items ≡ base_expr (in_gens l.outer) (base_tree l.base)
 
-abbrev pub invariant-conjuncts-loop-cond : goal.invariant-conjuncts-loop-cond
-invariant-conjuncts-loop-cond l = map link_tree l.links ≡ map (base_expr (in_gens l.outer)) (map base_tree (take l.cond-index l.conds))
+abbrev pub invariant-links-loop-part : goal.invariant-links-loop-part
+invariant-links-loop-part l = map link_tree l.links ≡ map (base_expr (in_gens l.outer)) (map base_tree (take l.part-index l.parts))
 
 abbrev pub invariant-selects-loop-test : goal.invariant-selects-loop-test
 invariant-selects-loop-test l = map select_tree l.selects ≡ map (test_select (in_gens l.outer)) (map test_part (take l.test-index l.tests))
