@@ -1,3 +1,4 @@
 mod Loops
 mod Fields
 mod Totals
+mod Chains
