@@ -4,6 +4,8 @@
 #[cfg(test)]
 mod alike;
 #[cfg(test)]
+mod chains;
+#[cfg(test)]
 mod deep;
 #[cfg(test)]
 mod forms;

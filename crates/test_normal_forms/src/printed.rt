@@ -12,7 +12,7 @@ use std::process::Abort;
 use test_support::{org, plain};
 
 // A query, and the text of its normal form.
-const PRINTED: [(&str, &str); 39] = [
+const PRINTED: [(&str, &str); 40] = [
     (
         "let tasksOf = fun (e: text) ->
            for (t <- table tasks) where (t.employee == e) [t.task];
@@ -122,6 +122,11 @@ const PRINTED: [(&str, &str); 39] = [
     (
         "nq 2; [count(table departments ++ table departments)]",
         "nq 2; [count(for (x1 <- table departments) [()]) + count(for (x2 <- table departments) [()])]",
+    ),
+    // A sum of three parts under operators that bind more strongly, and on the right of one that binds as strongly.
+    (
+        "nq 2; [count(table tasks ++ table tasks ++ table tasks) * 2 - sum([4] ++ [5] ++ [6])]",
+        "nq 2; [(count(for (x1 <- table tasks) [()]) + count(for (x2 <- table tasks) [()]) + count(for (x3 <- table tasks) [()])) * 2 - (sum([4]) + sum([5]) + sum([6]))]",
     ),
     (
         "nq 2; [count([[1] ++ [2]] ++ [[: int]])]",

@@ -94,6 +94,25 @@ impl FormPage {
         self.page.say(")")
     }
 
+    // The parentheses of so many operations.
+    fn put_openings(&mut self, operations: usize) -> Result<(), Memory> {
+        for _ in 0..operations {
+            self.page.say("(")?;
+        }
+        Ok(())
+    }
+
+    // The parts of a chain behind the first, each with its operator.
+    #[cycle(put_base)]
+    fn put_links(&mut self, op: Binary, parts: &[Base]) -> Result<(), Memory> {
+        for part in parts {
+            self.page.say(sign(op))?;
+            self.put_base(part)?;
+            self.page.say(")")?;
+        }
+        Ok(())
+    }
+
     #[cycle(put_base)]
     fn put_base(&mut self, base: &Base) -> Result<(), Memory> {
         match base {
@@ -121,6 +140,11 @@ impl FormPage {
                 self.page.say(sign(*op))?;
                 self.put_base(right)?;
                 self.page.say(")")
+            }
+            Base::Chain { op, first, more } => {
+                self.put_openings(more.len())?;
+                self.put_base(first)?;
+                self.put_links(*op, more.as_slice())
             }
             Base::Choose { test, yes, no } => {
                 self.page.say("(if ")?;
