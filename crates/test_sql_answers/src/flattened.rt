@@ -1,9 +1,10 @@
 // The rows of flattened let forms, worked out by hand: those of a query of branches with their employees, and of these
 // with their tasks and one task more. A branch that stands twice, and its employees, have ties.
-use crate::forms::{Form, Held, Named, Over, Part, made, summed};
+use crate::forms::{Form, Held, Named, Over, Part, chained_ones, made, nested_ones, one_row};
 use crate::held::{organisation, schema};
 use crate::told::{line, listed};
 use flatten::flatten;
+use nq_ir::Base;
 use nq_model::{Cell, ColumnType, List, Memory};
 use reference_sql::{Ties, evaluate_text};
 use sql_eval::{Arrangement, Joining, evaluate};
@@ -163,21 +164,34 @@ fn flattened_forms_give_what_they_allow(rt: HostRuntime) -> Result<(), Memory> {
     Ok(())
 }
 
-#[test]
-fn long_operations_are_flattened(rt: HostRuntime) -> Result<(), Memory> {
-    let alloc = rt.alloc();
+// The rows of the text of a form that holds one number, by each of the two evaluators.
+fn rows_of_number(alloc: Global, number: Base) -> Result<(String, String), Memory> {
     let schema = schema(alloc)?;
-    let text = flatten(alloc, &schema, &summed(alloc, 3000)?, &[INT, INT, INT])?;
-    let rows = evaluate_text(alloc, &[], &text, Ties::AsTheyArise)?;
-    assert_eq!(&rt; in_order(alloc, rows.as_slice())?.as_str(), "0 1 3000 ;");
-    let rows = evaluate(
+    let form = one_row(alloc, number, 3000)?;
+    let text = flatten(alloc, &schema, &form, &[INT, INT, INT])?;
+    let slow = evaluate_text(alloc, &[], &text, Ties::AsTheyArise)?;
+    let fast = evaluate(
         alloc,
         &[],
         &text,
         Joining::HashTables,
         Arrangement::AsTheyArise,
     )?;
-    let rows = listed(alloc, &rows)?;
-    assert_eq!(&rt; in_order(alloc, rows.as_slice())?.as_str(), "0 1 3000 ;");
+    let fast = listed(alloc, &fast)?;
+    Ok((
+        in_order(alloc, slow.as_slice())?,
+        in_order(alloc, fast.as_slice())?,
+    ))
+}
+
+#[test]
+fn long_operations_are_flattened(rt: HostRuntime) -> Result<(), Memory> {
+    let alloc = rt.alloc();
+    let (slow, fast) = rows_of_number(alloc, nested_ones(alloc, 3000)?)?;
+    assert_eq!(&rt; slow.as_str(), "0 1 3000 ;");
+    assert_eq!(&rt; fast.as_str(), "0 1 3000 ;");
+    let (slow, fast) = rows_of_number(alloc, chained_ones(alloc, 3025)?)?;
+    assert_eq!(&rt; slow.as_str(), "0 1 3025 ;");
+    assert_eq!(&rt; fast.as_str(), "0 1 3025 ;");
     Ok(())
 }

@@ -141,17 +141,37 @@ pub fn made(alloc: Global, form: &Form) -> Result<LetForm, Memory> {
     })
 }
 
-/// The form of one row that holds the sum of so many ones, joined from the left, under as many conditions that hold.
-pub fn summed(alloc: Global, ones: u64) -> Result<LetForm, Memory> {
+/// The sum of so many ones, each `+` within the next.
+pub fn nested_ones(alloc: Global, ones: u64) -> Result<Base, Memory> {
     let mut sum = Base::Int(1);
-    let mut conds = List::new(alloc);
-    conds.push(Base::Bool(true))?;
     for _ in 1..ones {
         sum = Base::Binary {
             op: Binary::Add,
             left: boxed(alloc, sum)?,
             right: boxed(alloc, Base::Int(1))?,
         };
+    }
+    Ok(sum)
+}
+
+/// The sum of so many ones in one chain.
+pub fn chained_ones(alloc: Global, ones: u64) -> Result<Base, Memory> {
+    let mut more = List::new(alloc);
+    for _ in 1..ones {
+        more.push(Base::Int(1))?;
+    }
+    let first = boxed(alloc, Base::Int(1))?;
+    Ok(Base::Chain {
+        op: Binary::Add,
+        first,
+        more,
+    })
+}
+
+/// The form of one row that holds a number, under so many conditions that hold.
+pub fn one_row(alloc: Global, number: Base, times: u64) -> Result<LetForm, Memory> {
+    let mut conds = List::new(alloc);
+    for _ in 0..times {
         conds.push(Base::Bool(true))?;
     }
     let mut parts = List::new(alloc);
@@ -160,7 +180,7 @@ pub fn summed(alloc: Global, ones: u64) -> Result<LetForm, Memory> {
         tag: 1,
         gens: List::new(alloc),
         conds,
-        shape: Shape::Plain(sum),
+        shape: Shape::Plain(number),
     })?;
     Ok(LetForm {
         path: path(alloc, &[])?,
