@@ -4,10 +4,16 @@ use Rattle.std.specs.Str.{bytes_eq}
 use Rattle.generated_inputs.specs.Sizes.{size_of}
 use Rattle.nq_execute.specs.Plans.{RowWriting, lines, arrays}
 
+-- how the SQL texts that shred a query are shown: each in a frame that tells its path and its
+-- length; or all as a line of JSON, with the type of the query and the columns of each answer
+pub data Showing : Type 0 where
+  frames : Showing
+  json : Showing
+
 -- What is done with a query that is accepted. Its value over the table texts of a folder is
 -- written, or written as JSON, or that over the JSON tables of a folder; or the value of answers of
 -- a folder, made elsewhere, is written, or written as JSON; or that it is accepted; or its type; or
--- its normal form; or the paths of its type; or the SQL texts that shred it.
+-- its normal form; or the paths of its type; or the SQL texts that shred it are shown in a way.
 pub data Aim : Type 0 where
   run : List ℕ → Aim
   run_json : List ℕ → Aim
@@ -18,7 +24,7 @@ pub data Aim : Type 0 where
   show_types : Aim
   show_normal : Aim
   show_paths : Aim
-  show_sql : Aim
+  show_texts : Showing → Aim
 
 -- a text on the program is written; or a query is put to an aim: the names of a schema and of the
 -- query; or the rows of an SQL text are written in a way: the names of a schema, of the text and of
@@ -52,10 +58,11 @@ shown what =
     cond (bytes_eq what (codes "types")) (Some show_types)
     (cond (bytes_eq what (codes "normal")) (Some show_normal)
     (cond (bytes_eq what (codes "paths")) (Some show_paths)
-    (cond (bytes_eq what (codes "sql")) (Some show_sql) None)))
+    (cond (bytes_eq what (codes "sql")) (Some (show_texts Showing.frames))
+    (cond (bytes_eq what (codes "json")) (Some (show_texts Showing.json)) None))))
 
 -- `run SCHEMA QUERY DIR`, `answer SCHEMA SQLFILE DIR` or `stitch SCHEMA QUERY DIR`; or `show` with
--- `types`, `normal`, `paths` or `sql` and SCHEMA QUERY
+-- `types`, `normal`, `paths`, `sql` or `json` and SCHEMA QUERY
 abbrev pub four_words : List ℕ → List ℕ → List ℕ → List ℕ → Option Command
 four_words word second third fourth =
     cond (bytes_eq word (codes "run")) (Some (of_query (run fourth) second third))
@@ -110,7 +117,7 @@ aim_asks check = false
 aim_asks show_types = false
 aim_asks show_normal = false
 aim_asks show_paths = false
-aim_asks show_sql = false
+aim_asks (show_texts showing) = false
 
 abbrev pub asks_server : Option Command → Bool
 asks_server None = false

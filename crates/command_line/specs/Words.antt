@@ -1,12 +1,18 @@
 -- The words of a command as the program has them.
 use Rattle.std.specs.Prelude.{⊤}
-use Rattle.command_line.specs.Commands.{Aim, run, run_json, run_json_tables, stitch, stitch_json, check, show_types, show_normal, show_paths, show_sql, Command, help, version, of_query, answer, generated}
+use Rattle.command_line.specs.Commands.{Showing, Aim, run, run_json, run_json_tables, stitch, stitch_json, check, show_types, show_normal, show_paths, show_texts, Command, help, version, of_query, answer, generated}
 use Rattle.generated_inputs.specs.Sizes.{IsSize}
 use Rattle.command_line.specs.declared.words.Aim.{Aim as Aims}
 use Rattle.command_line.specs.declared.words.Aim.TheVariants as aim
 use Rattle.command_line.specs.declared.words.Command.{Command as Words}
 use Rattle.command_line.specs.declared.words.Command.TheVariants as words
+use Rattle.command_line.specs.declared.words.Showing.{Showing as Showings}
+use Rattle.command_line.specs.declared.words.Showing.TheVariants as shown
 use Rattle.nq_execute.specs.Plans.{row_writing_view}
+
+abbrev pub showing_view : Showings → Showing
+showing_view shown.Frames = Showing.frames
+showing_view shown.Json = Showing.json
 
 abbrev pub aim_view : Aims → Aim
 aim_view (aim.Run folder) = run folder.now
@@ -18,7 +24,7 @@ aim_view aim.Check = check
 aim_view aim.ShowTypes = show_types
 aim_view aim.ShowNormal = show_normal
 aim_view aim.ShowPaths = show_paths
-aim_view aim.ShowSql = show_sql
+aim_view (aim.ShowTexts showing) = show_texts (showing_view showing)
 
 abbrev pub command_view : Words → Command
 command_view words.Help = help

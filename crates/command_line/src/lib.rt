@@ -18,4 +18,4 @@ pub use note::put_note;
 pub use paths::paths_text;
 pub use refusal::{InputRefusal, Refusal, Refused};
 pub use status::status_of;
-pub use words::{Aim, Command, command_of};
+pub use words::{Aim, Command, Showing, command_of};

@@ -6,6 +6,15 @@ ghost use Rattle.command_line.specs.Words.{HasSize, aim_view, command_view};
 use generated_inputs::size_of;
 use nq_execute::RowWriting;
 
+/// How the SQL texts that shred a query are shown.
+#[derive(Clone, Copy)]
+pub enum Showing {
+    /// Each in a frame that tells its path and its length.
+    Frames,
+    /// All as one line of JSON, with the type of the query and the columns of each answer.
+    Json,
+}
+
 /// What is done with a query that is accepted.
 #[derive(Clone, Copy)]
 pub enum Aim<'a> {
@@ -27,8 +36,8 @@ pub enum Aim<'a> {
     ShowNormal,
     /// The paths of its type are written.
     ShowPaths,
-    /// The SQL texts that shred it are written.
-    ShowSql,
+    /// The SQL texts that shred it are shown in a way.
+    ShowTexts(Showing),
 }
 
 /// What the words ask for.
@@ -96,7 +105,9 @@ fn shown<'a>(what: &str) -> Option<Aim<'a>>
     } else if what == "paths" {
         Some(Aim::ShowPaths)
     } else if what == "sql" {
-        Some(Aim::ShowSql)
+        Some(Aim::ShowTexts(Showing::Frames))
+    } else if what == "json" {
+        Some(Aim::ShowTexts(Showing::Json))
     } else {
         None
     }

@@ -70,6 +70,8 @@ mod runs;
 #[cfg(test)]
 mod server_tests;
 #[cfg(test)]
+mod show_tests;
+#[cfg(test)]
 mod sql_tests;
 #[cfg(test)]
 mod stitch_tests;

@@ -48,6 +48,7 @@ nq show types SCHEMA QUERY           writes the type of the query
 nq show normal SCHEMA QUERY          writes the normal form of the query
 nq show paths SCHEMA QUERY           writes a line for each bag of the type
 nq show sql SCHEMA QUERY             writes an SQL text for each bag of the type
+nq show json SCHEMA QUERY            writes the SQL texts and the types as JSON
 nq --help                            writes this text
 nq --version                         writes the name and the version of nq
 

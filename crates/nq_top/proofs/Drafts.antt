@@ -6,17 +6,18 @@ use Rattle.nq_model.specs.declared.table.ColumnType.{ColumnType}
 use Rattle.nq_model.specs.declared.table.Schema.{Schema}
 use Rattle.nq_model.specs.declared.table.TableShape.{TableShape}
 use Rattle.sql_profile.specs.declared.server.Loaded.{Loaded}
-use Rattle.command_line.specs.Commands.{Aim, run, run_json, run_json_tables, show_types, show_paths}
+use Rattle.command_line.specs.Commands.{Showing, Aim, run, run_json, run_json_tables, show_types, show_paths, show_texts}
 use Rattle.command_line.specs.Paths.{paths_text}
 use Rattle.command_line.specs.declared.refusal.InputRefusal.{InputRefusal}
 use Rattle.nq_execute.specs.Plans.{Writing, RowWriting, Plan, plan_view, IsServable}
 use Rattle.nq_execute.specs.declared.plan.Plan.{Plan as Asked}
 use Rattle.nq_top.specs.Gathering.{Told, RefusalTells}
-use Rattle.nq_top.specs.Judging.{Judgement, Verdict, written, planned, at_once, tables_judged, draft_judged, run_judged, aim_judged, rows_judged}
+use Rattle.nq_top.specs.Judging.{Judgement, Verdict, written, shown, planned, at_once, tables_judged, draft_judged, run_judged, aim_judged, rows_judged}
 use Rattle.nq_top.specs.Limits.{tables_limit}
 use Rattle.nq_top.specs.Lines.{type_line}
 use Rattle.nq_top.specs.Plans.{AreReadFor, Draft, drafted, Question, draft_to, question_to, sql_draft, CanServeOver, IsSoundOver}
 use Rattle.nq_top.specs.Reading.{PlainReading, Reading, TypedTerm}
+use Rattle.nq_top.specs.Shown.{Shows, shown_texts}
 use Rattle.nq_top.specs.Steps.{Accepts, ComesTo, HoldsPlan, GatherTells, TablesTell, ReadsBehind}
 use Rattle.nq_top.specs.declared.gather.Gathered.{Gathered}
 use Rattle.nq_top.specs.declared.gather.Gathered.TheVariants as gathered
@@ -132,6 +133,21 @@ types_judged plain files schema query = refl
 pub paths_judged : (plain : PlainReading) (files : Files) (schema : Schema) (query : TypedTerm) → aim_judged plain files show_paths schema query ≡ at_once (written (paths_text query.type))
 unfolding aim_judged
 paths_judged plain files schema query = refl
+
+-- the SQL texts that are shown of a query
+texts_judged : (showing : Showing) (plain : PlainReading) (files : Files) (schema : Schema) (query : TypedTerm)
+    → aim_judged plain files (show_texts showing) schema query ≡ at_once (shown showing (shown_texts plain schema query.term query.type))
+unfolding aim_judged
+texts_judged showing plain files schema query = refl
+
+pub aim_shows : (held : Option Files) (aim : Aim) (showing : Showing) (schema : Schema) (query : TypedTerm) (text : List ℕ) (old : Told) → aim ≡ show_texts showing
+    → ((plain : PlainReading) → Shows showing text (shown_texts plain schema query.term query.type))
+    → IfSome held (λ files. (reading : Reading) → GatherTells (aim_judged reading.plain files aim schema query) old old (Ok (gathered.Text text)))
+aim_shows None aim showing schema query text old is shows = tt
+aim_shows (Some files) aim showing schema query text old is shows = λ reading.
+    let here = ap (λ (a : Aim). aim_judged reading.plain files a schema query) is ∙ texts_judged showing reading.plain files schema query in
+    let P : Judgement → Type 0 = λ j. Accepts j (gathered.Text text) old old in
+    subst P (sym here) (record { comes_to = shows reading.plain; fetched = tells_nothing old old refl })
 
 -- the draft of an SQL text
 pub rows_told : (writing : RowWriting) (held : Option Files) (folder : List ℕ) (schema : Schema) (text : List ℕ) (types : List ColumnType) (draft : Draft) (old new : Told) (result : Result Gathered InputRefusal)

@@ -34,7 +34,7 @@ module _ (schema : Schema) (term : PlacedTerm) (type : TypeTree) (texts : List (
     (schema_is : schema ≡ generated_schema) (term_is : term ≡ generated_query) (tables_are : tables ≡ generated_tables size)
     (proper_schema : IsProperSchema schema) (proper_term : IsProperTerm (bare term)) (typed : program_judged generated_schema generated_query ≡ Ok generated_type)
     (stored : AreTablesOf generated_schema.tables (generated_rows size))
-    (shred : TextsShred schema term type [] texts) (result_is : ResultIs schema term type [] texts) (columns_of : columns ≡ map (columns_at type) (paths type)) where
+    (shred : TextsShred schema term type texts) (result_is : ResultIs schema term type texts) (columns_of : columns ≡ map (columns_at type) (paths type)) where
   read : type_read schema term ≡ Ok generated_type
   read = read_as schema term schema_is term_is typed
 
@@ -49,7 +49,7 @@ module _ (schema : Schema) (term : PlacedTerm) (type : TypeTree) (texts : List (
       subst (λ (p : Plan). IsServable p) (sym is)
       (servable schema term type texts columns proper_schema proper_term shred result_is columns_of generated_type read Writing.summary tables held)
 
-  pub plan_holds : TextsAre schema term type [] texts → (asked : Asked) → plan_view asked ≡ record { tables = tables; texts = texts; columns = columns; finish = Finish.value type Indexes.numbers Writing.summary }
+  pub plan_holds : TextsAre schema term type texts → (asked : Asked) → plan_view asked ≡ record { tables = tables; texts = texts; columns = columns; finish = Finish.value type Indexes.numbers Writing.summary }
       → (plain : PlainReading) → HoldsPlan (generated_plan plain size) generated_question asked
   plan_holds texts_are asked is plain =
       let Over : Schema → PlacedTerm → List Loaded → Type 0 = λ s t ts.

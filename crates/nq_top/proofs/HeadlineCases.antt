@@ -1,6 +1,6 @@
 -- The inputs of a command are given, refused for one reason, or one of them is missing.
 use Rattle.std.proofs.Common.{◌≡◌, ◌⊎◌, ℕ, List, Some, None, Option, sym, ap, ◌∙◌, inl, inr}
-use Rattle.command_line.specs.Commands.{Aim, run, show_sql}
+use Rattle.command_line.specs.Commands.{Showing, Aim, run, show_texts}
 use Rattle.nq_edge.specs.Edge.{Files}
 use Rattle.nq_execute.specs.Plans.{Plan}
 use Rattle.nq_top.specs.Headline.{Names, Accepted, GivenRun, IsMissing, AreRefused}
@@ -25,7 +25,7 @@ pub given_or_not : (files : Files) (names : Names) (folder : List ℕ) → names
 given_or_not files names folder is_run = either files names (GivenRun files names folder) (run_cases one_reading files names folder is_run)
 
 aim_of : Option (List ℕ) → Aim
-aim_of None = show_sql
+aim_of None = show_texts Showing.frames
 aim_of (Some folder) = run folder
 
 runs_of : (names : Names) (folder : List ℕ) → names.folder ≡ Some folder → aim_of names.folder ≡ run folder

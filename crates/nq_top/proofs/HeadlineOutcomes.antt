@@ -12,11 +12,9 @@ use Rattle.nq_edge.specs.Edge.{Files, TellsMore, bytes_at}
 use Rattle.nq_edge.specs.Lines.{PutsLine}
 use Rattle.nq_execute.specs.Plans.{Plan}
 use Rattle.nq_execute.specs.declared.refusal.ServerRefusal.TheVariants as server
-use Rattle.nq_ir.specs.Paths.{paths}
 use Rattle.sql_profile.specs.Servers.{held_of}
 use Rattle.sql_profile.proofs.HeldTables.{held_filled}
-use Rattle.command_line.specs.Commands.{Aim, Command, of_query, run, show_sql, command_of}
-use Rattle.command_line.specs.Frames.{frames}
+use Rattle.command_line.specs.Commands.{Showing, Aim, Command, of_query, run, show_texts, command_of}
 use Rattle.command_line.specs.Noting.{Notes}
 use Rattle.command_line.specs.Refusals.{refused_status, refused_note, status_of}
 use Rattle.command_line.specs.declared.refusal.Refused.{Refused}
@@ -24,12 +22,12 @@ use Rattle.command_line.specs.declared.refusal.Refused.TheVariants as refused_fo
 use Rattle.command_line.specs.declared.refusal.InputRefusal.TheVariants as input
 use Rattle.command_line.specs.declared.refusal.Refusal.TheVariants as refusal
 use Rattle.nq_top.specs.Calls.{Comes}
-use Rattle.nq_top.specs.Headline.{Names, Accepted, GivenTables, GivenRun, LooksFor, AreRefused, Outcome, IsServed, RunComes, ShowComes, OfRun, OfShow}
+use Rattle.nq_top.specs.Headline.{Names, Accepted, GivenTables, GivenRun, LooksFor, AreRefused, Outcome, IsServed, RunComes, ShowComes, show_words, OfRun, OfShow}
 use Rattle.nq_top.specs.Judging.{Judgement, Verdict, usage, missing, refused, shown, planned, aim_judged, judgement}
 use Rattle.nq_top.specs.Limits.{tables_limit}
 use Rattle.nq_top.specs.Plans.{Question, Settles, drafted, query_question}
 use Rattle.nq_top.specs.Reading.{Reading}
-use Rattle.nq_top.specs.Shown.{Shown, Shows, shown_texts, shown_frames, ShredsQuery}
+use Rattle.nq_top.specs.Shown.{Shown, Shows, shown_texts, texts_by, shown_by, ShredsQuery}
 use Rattle.nq_top.specs.Theorem.{Answer, Gives, Writes, Tells, PutsAll, PutsAt, IsDone, IsDue, HasFailed, Completes, Serves, Runs, Ends}
 use Rattle.nq_top.specs.World.{SinkState, World, command_in}
 use Rattle.nq_top.proofs.HeadlineQueries.{whole, typed, run_draft, after_type, run_planned, is_missing, is_refused, Cases, are_given, are_refused, are_missing, accepted_cases, run_cases}
@@ -183,9 +181,10 @@ command_run : (words : List (List ℕ)) (s q d : List ℕ) → words ≡ codes "
 unfolding command_of
 command_run words s q d is = ap command_of is
 
-command_show : (words : List (List ℕ)) (s q : List ℕ) → words ≡ codes "show" ∷ codes "sql" ∷ s ∷ q ∷ [] → command_of words ≡ Some (of_query show_sql s q)
+command_show : (showing : Showing) (words : List (List ℕ)) (s q : List ℕ) → words ≡ show_words showing s q → command_of words ≡ Some (of_query (show_texts showing) s q)
 unfolding command_of
-command_show words s q is = ap command_of is
+command_show Showing.frames words s q is = ap command_of is
+command_show Showing.json words s q is = ap command_of is
 
 -- what the promise of a run says of a query that is put to an aim, over files that are held
 record Promised (names : Names) (aim : Aim) (files : Files) (before after : World) (old new : SinkState) (status : ℕ) : Type 0 where
@@ -220,8 +219,8 @@ promised command names aim files before after old new status spelled held ends =
 not_planned : (v : Verdict) (plan : Plan) (question : Question) (why : Refused) → v ≡ planned plan question → v ≡ refused why → ⊥
 not_planned v plan question why e f = absurd (let g : planned plan question ≡ refused why = sym e ∙ f in cc)
 
-not_shown : (v : Verdict) (texts : Shown) (why : Refused) → v ≡ shown texts → v ≡ refused why → ⊥
-not_shown v texts why e f = absurd (let g : shown texts ≡ refused why = sym e ∙ f in cc)
+not_shown : (v : Verdict) (showing : Showing) (texts : Shown) (why : Refused) → v ≡ shown showing texts → v ≡ refused why → ⊥
+not_shown v showing texts why e f = absurd (let g : shown showing texts ≡ refused why = sym e ∙ f in cc)
 
 -- the value that a text of an honest server is of
 module _ (reading : Reading) (files : Files) (names : Names) (folder : List ℕ) (accepted : Accepted files names) (tables : GivenTables files folder tables_limit accepted.given.over.schema.tables) where
@@ -260,39 +259,40 @@ run_promised files s q d before after old new status promise =
     let gives = subst (G wrote_it.text) (planned_is given) wrote_it.gives in
     meant reading files names d given.0 given.1 wrote_it.text before after (gives.settled is_honest) wrote_it.puts)
 
--- 5. `show sql`
+-- 5. `show` of SQL texts
 
-module _ (reading : Reading) (files : Files) (names : Names) (accepted : Accepted files names) where
+module _ (reading : Reading) (files : Files) (names : Names) (showing : Showing) (accepted : Accepted files names) where
   abbrev shown_of : Shown
   shown_of = shown_texts reading.plain accepted.given.over.schema accepted.given.query (bag accepted.element)
 
-  shows_it : (whole reading files names show_sql).verdict ≡ shown shown_of
+  shows_it : (whole reading files names (show_texts showing)).verdict ≡ shown showing shown_of
   unfolding aim_judged
-  shows_it = ap (λ (j : Judgement). j.verdict) (after_type reading files names show_sql accepted)
+  shows_it = ap (λ (j : Judgement). j.verdict) (after_type reading files names (show_texts showing) accepted)
 
-  frames_put : (text : List ℕ) (before after : World) → Shows text shown_of → PutsAll before after text
+  texts_put : (text : List ℕ) (before after : World) → Shows showing text shown_of → PutsAll before after text
       → (texts : List (List ℕ)) × Shreds accepted.given.over.schema accepted.element texts (λ tables value. Means tables accepted.given.query value)
-      × TellsMore before.out.written after.out.written (frames (paths (bag accepted.element)) texts)
-  unfolding shown_texts shown_frames ShredsQuery
-  frames_put text before after shows puts = (shown_of.texts, shows.shreds, subst (λ (t : List ℕ). TellsMore before.out.written after.out.written t) shows.is puts)
+      × TellsMore before.out.written after.out.written (texts_by showing (bag accepted.element) texts)
+  unfolding shown_texts shown_by ShredsQuery
+  texts_put text before after shows puts = (shown_of.texts, shows.shreds, subst (λ (t : List ℕ). TellsMore before.out.written after.out.written t) shows.is puts)
 
-show_promised : (files : Files) (s q : List ℕ) (before after : World) (old new : SinkState) (status : ℕ)
-    → Promised (record { schema = s; query = q; folder = None }) show_sql files before after old new status → ShowComes before after old new status files s q
-show_promised files s q before after old new status promise =
+show_promised : (showing : Showing) (files : Files) (s q : List ℕ) (before after : World) (old new : SinkState) (status : ℕ)
+    → Promised (record { schema = s; query = q; folder = None }) (show_texts showing) files before after old new status → ShowComes before after old new status showing files s q
+show_promised showing files s q before after old new status promise =
     let names : Names = record { schema = s; query = q; folder = None } in
     let reading = one_reading in
-    let j : Judgement = whole reading files names show_sql in
-    let runs : (folder : List ℕ) → names.folder ≡ Some folder → show_sql ≡ run folder = λ folder e. absurd (cc) in
-    let shown_is = λ (given : Accepted files names). shows_it reading files names given in
+    let aim : Aim = show_texts showing in
+    let j : Judgement = whole reading files names aim in
+    let runs : (folder : List ℕ) → names.folder ≡ Some folder → aim ≡ run folder = λ folder e. absurd (cc) in
+    let shown_is = λ (given : Accepted files names). shows_it reading files names showing given in
     let F : Verdict → Type 0 = λ v. IsDue (Serves before.server after.server) v in
     let G : List ℕ → Verdict → Type 0 = λ text v. Gives before.server after.server v text in
     outcome files names (Accepted files names) j before after old new status promise.answer promise.is (promise.tells reading)
     (accepted_cases reading files names)
-    (is_refused reading files names show_sql runs) (is_missing reading files names show_sql runs)
+    (is_refused reading files names aim runs) (is_missing reading files names aim runs)
     _ (HasFailed before after → ⊥) promise.notes promise.puts (promise.completes reading) (λ still. still)
     (λ still given. subst F (sym (shown_is given)) tt)
-    (λ given why e. not_shown j.verdict (shown_of reading files names given) why (shown_is given) e)
-    (λ given wrote_it. frames_put reading files names given wrote_it.text before after (subst (G wrote_it.text) (shown_is given) wrote_it.gives) wrote_it.puts)
+    (λ given why e. not_shown j.verdict showing (shown_of reading files names showing given) why (shown_is given) e)
+    (λ given wrote_it. texts_put reading files names showing given wrote_it.text before after (subst (G wrote_it.text) (shown_is given) wrote_it.gives) wrote_it.puts)
 
 -- 6. the calls
 
@@ -308,9 +308,9 @@ module _ (words : List (String Global)) (before after : World) (old new : SinkSt
 
   of_show : (held : Option Files) → before.inputs.held ≡ held → OfShow spelled held (ShowComes before after old new status)
   of_show None is = tt
-  of_show (Some files) is = λ s q words_are.
-      show_promised files s q before after old new status
-      (promised (command_in words) (record { schema = s; query = q; folder = None }) show_sql files before after old new status (command_show spelled s q words_are) is ends)
+  of_show (Some files) is = λ showing s q words_are.
+      show_promised showing files s q before after old new status
+      (promised (command_in words) (record { schema = s; query = q; folder = None }) (show_texts showing) files before after old new status (command_show showing spelled s q words_are) is ends)
 
   pub comes : Comes words before after old new status
   comes = record { ends = ends; runs = of_run before.inputs.held refl; shows = of_show before.inputs.held refl }

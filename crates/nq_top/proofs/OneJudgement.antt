@@ -1,7 +1,7 @@
 -- Any two readings come to one judgement.
 use Rattle.std.proofs.Common.{◌≡◌, ◌+◌, ◌-◌, ℕ, List, [], ◌∷◌, ◌++◌, length, map, Some, None, Option, Result, Ok, Err, cond, nat_lt, refl, ap, subst, ◌∙◌}
 use Rattle.nq_edge.specs.Edge.{Files, bytes_at}
-use Rattle.command_line.specs.Commands.{Aim, run, run_json, run_json_tables, stitch, stitch_json, check, show_types, show_normal, show_paths, show_sql, Command, help, version, of_query, answer, generated}
+use Rattle.command_line.specs.Commands.{Aim, run, run_json, run_json_tables, stitch, stitch_json, check, show_types, show_normal, show_paths, show_texts, Command, help, version, of_query, answer, generated}
 use Rattle.command_line.specs.declared.refusal.Refused.{Refused}
 use Rattle.command_line.specs.declared.refusal.Refused.TheVariants.{TooLong, Query as QueryRefused, Schema as SchemaRefused}
 use Rattle.nq_model.specs.Terms.{PlacedTerm, bare}
@@ -130,8 +130,8 @@ module _ (reading other : Reading) where
   aim_same files show_normal schema query accepted =
       ap (λ (t : PlacedTerm). at_once (written (form_line (normal_form schema.tables (element_type query.type) (bare t))))) (one_plain reading other schema query.term query.type accepted)
   aim_same files show_paths schema query accepted = refl
-  aim_same files show_sql schema query accepted =
-      ap (λ (t : PlacedTerm). at_once (shown (record {
+  aim_same files (show_texts showing) schema query accepted =
+      ap (λ (t : PlacedTerm). at_once (shown showing (record {
         schema = schema;
         query = query.term;
         element = element_type query.type;

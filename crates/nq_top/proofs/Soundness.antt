@@ -165,7 +165,7 @@ written_sound schema term type indexes writing texts columns accepted reads tabl
 
 module _ (schema : Schema) (term : PlacedTerm) (type : TypeTree) (texts : List (List ℕ)) (columns : List (List ColumnType))
     (proper_schema : IsProperSchema schema) (proper_term : IsProperTerm (bare term))
-    (shred : TextsShred schema term type [] texts) (result_is : ResultIs schema term type [] texts) (columns_of : columns ≡ map (columns_at type) (paths type))
+    (shred : TextsShred schema term type texts) (result_is : ResultIs schema term type texts) (columns_of : columns ≡ map (columns_at type) (paths type))
     (own : TypeTree) (typed : type_read schema term ≡ Ok own) where
   same_own : type ≡ own
   same_own = result_is own (read_accepted schema term own typed)
@@ -220,7 +220,7 @@ module _ (schema : Schema) (term : PlacedTerm) (type : TypeTree) (texts : List (
       subst P same_own (written_sound schema term type Indexes.numbers writing texts columns accepted reads)
 
   -- the draft is the one that the query comes to
-  pub draft_is : (writing : Writing) → TextsAre schema term type [] texts → (plain : PlainReading) → draft writing ≡ draft_to writing plain schema term own
+  pub draft_is : (writing : Writing) → TextsAre schema term type texts → (plain : PlainReading) → draft writing ≡ draft_to writing plain schema term own
   unfolding draft_to shown_texts
   draft_is writing texts_are plain =
       let here : IsAccepted schema (bare term) (bag element) = subst (λ (a : TypeTree). IsAccepted schema (bare term) a) (sym of_bag) accepted in

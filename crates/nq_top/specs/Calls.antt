@@ -14,6 +14,6 @@ pub record Comes (words : List (String Global)) (before after : World) (old new 
   -- the meaning,
   pub runs : OfRun (map (λ word. string_bytes word) words) before.inputs.held
       (RunComes before after old new status)
-  -- and `show sql`.
+  -- and `show` of SQL texts.
   pub shows : OfShow (map (λ word. string_bytes word) words) before.inputs.held
       (ShowComes before after old new status)

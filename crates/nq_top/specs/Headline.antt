@@ -1,5 +1,5 @@
--- The headline: what `run` and `show sql` come to, in the words of the grammars, the typing rules,
--- the tables and the meaning.
+-- The headline: what `run` and `show` of SQL texts come to, in the words of the grammars, the
+-- typing rules, the tables and the meaning.
 use Rattle.std.specs.Prelude.{◌≡◌, ◌≢◌, ◌≤◌, ◌-◌, ◌⊎◌, ℕ, true, List, [], ◌∷◌, ◌++◌, codes, length, map, sum, zip, Option, Some, None, IfSome, Err}
 use Rattle.std.specs.List.{AllZip}
 use Rattle.nq_model.specs.Canonical.{canonical_text}
@@ -15,7 +15,6 @@ use Rattle.nq_model.specs.Values.{Nested}
 use Rattle.nq_model.specs.declared.table.Cell.{Cell}
 use Rattle.nq_model.specs.declared.table.Schema.{Schema}
 use Rattle.nq_model.specs.declared.table.TableShape.{TableShape}
-use Rattle.nq_ir.specs.Paths.{paths}
 use Rattle.nq_compile.specs.Shreds.{Shreds}
 use Rattle.nq_edge.specs.Edge.{Files, bytes_at, TellsMore, IsLonger}
 use Rattle.nq_edge.specs.Lines.{PutsLine}
@@ -26,12 +25,13 @@ use Rattle.schema_reader.specs.declared.fault.SchemaFault.TheVariants.{Memory as
 use Rattle.sql_profile.specs.Servers.{RoseBelow}
 use Rattle.table_reader.specs.Faults.{GivesRows, HasFault}
 use Rattle.table_reader.specs.Records.{records_of}
-use Rattle.command_line.specs.Frames.{frames}
+use Rattle.command_line.specs.Commands.{Showing}
 use Rattle.command_line.specs.Refusals.{refused_status, refused_note}
 use Rattle.command_line.specs.declared.refusal.Refused.{Refused}
 use Rattle.command_line.specs.declared.refusal.Refused.TheVariants.{TooLong, Schema as SchemaRefused, Query as QueryRefused, IllTyped, Table as TableRefused}
 use Rattle.nq_top.specs.Limits.{text_limit, tables_limit, depth_limit}
 use Rattle.nq_top.specs.Lines.{file_of}
+use Rattle.nq_top.specs.Shown.{texts_by}
 use Rattle.nq_top.specs.Theorem.{HasFailed}
 use Rattle.nq_top.specs.World.{SinkState, World}
 
@@ -171,16 +171,17 @@ RunComes before after old new status files schema query folder =
     × TellsMore before.out.written after.out.written (canonical_text value))
     (IsServed before after) before after old new status
 
--- `show sql` writes the frames of texts that shred the query.
+-- `show` of SQL texts writes in its way what is written of texts that shred the query.
 abbrev pub ShowComes : World → World → SinkState → SinkState → ℕ
-    → Files → List ℕ → List ℕ → Type 0
-ShowComes before after old new status files schema query =
+    → Showing → Files → List ℕ → List ℕ → Type 0
+ShowComes before after old new status showing files schema query =
     let names : Names = record { schema = schema; query = query; folder = None } in
     Outcome files names (Accepted files names)
     (λ accepted. (texts : List (List ℕ))
     × Shreds accepted.given.over.schema accepted.element texts
     (λ tables value. Means tables accepted.given.query value)
-    × TellsMore before.out.written after.out.written (frames (paths (bag accepted.element)) texts))
+    × TellsMore before.out.written after.out.written
+    (texts_by showing (bag accepted.element) texts))
     (HasFailed before after → ⊥) before after old new status
 
 -- the words are `run` and three names, over files that are held
@@ -190,8 +191,14 @@ OfRun words held P =
     IfSome held (λ files. (schema query folder : List ℕ)
     → words ≡ codes "run" ∷ schema ∷ query ∷ folder ∷ [] → P files schema query folder)
 
--- the words are `show sql` and two names, over files that are held
-abbrev pub OfShow : List (List ℕ) → Option Files → (Files → List ℕ → List ℕ → Type 0) → Type 0
+-- the words that show SQL texts in a way, over a schema and a query of these names
+abbrev pub show_words : Showing → List ℕ → List ℕ → List (List ℕ)
+show_words Showing.frames schema query = codes "show" ∷ codes "sql" ∷ schema ∷ query ∷ []
+show_words Showing.json schema query = codes "show" ∷ codes "json" ∷ schema ∷ query ∷ []
+
+-- the words are those, over files that are held
+abbrev pub OfShow : List (List ℕ) → Option Files
+    → (Showing → Files → List ℕ → List ℕ → Type 0) → Type 0
 OfShow words held P =
-    IfSome held (λ files. (schema query : List ℕ)
-    → words ≡ codes "show" ∷ codes "sql" ∷ schema ∷ query ∷ [] → P files schema query)
+    IfSome held (λ files. (showing : Showing) (schema query : List ℕ)
+    → words ≡ show_words showing schema query → P showing files schema query)

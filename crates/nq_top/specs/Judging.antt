@@ -10,7 +10,7 @@ use Rattle.nq_ir.specs.Paths.{paths}
 use Rattle.shred_types.specs.Columns.{columns_at}
 use Rattle.sql_profile.specs.declared.answer.Answer.{Answer}
 use Rattle.sql_profile.specs.declared.server.Loaded.{Loaded}
-use Rattle.command_line.specs.Commands.{Aim, run, run_json, run_json_tables, stitch, stitch_json, check, show_types, show_normal, show_paths, show_sql, Command, help, version, of_query, answer, generated}
+use Rattle.command_line.specs.Commands.{Showing, Aim, run, run_json, run_json_tables, stitch, stitch_json, check, show_types, show_normal, show_paths, show_texts, Command, help, version, of_query, answer, generated}
 use Rattle.command_line.specs.Help.{help_text, version_text}
 use Rattle.command_line.specs.Paths.{paths_text}
 use Rattle.command_line.specs.declared.refusal.Refused.{Refused}
@@ -26,14 +26,14 @@ use Rattle.nq_top.specs.declared.tables.TableTexts.{TableTexts}
 use Rattle.nq_top.specs.declared.tables.TableTexts.TheVariants.{Csv, Json}
 
 -- The words are no command; or a name is not held, whose fetch fails; or the first refusal; or the
--- text that is written; or the SQL texts that are shown; or linked answers from elsewhere; or the
--- plan of a question, over the tables of the schema in its order.
+-- text that is written; or the SQL texts that are shown in a way; or linked answers from elsewhere;
+-- or the plan of a question, over the tables of the schema in its order.
 pub data Verdict : Type 0 where
   usage : Verdict
   missing : List ℕ → Verdict
   refused : Refused → Verdict
   written : List ℕ → Verdict
-  shown : Shown → Verdict
+  shown : Showing → Shown → Verdict
   linked : Foreign → Verdict
   planned : Plan → Question → Verdict
 
@@ -154,8 +154,8 @@ aim_judged plain files show_types schema query = at_once (written (type_line que
 aim_judged plain files show_normal schema query =
     at_once (written (form_line (shown_form plain schema query.term query.type)))
 aim_judged plain files show_paths schema query = at_once (written (paths_text query.type))
-aim_judged plain files show_sql schema query =
-    at_once (shown (shown_texts plain schema query.term query.type))
+aim_judged plain files (show_texts showing) schema query =
+    at_once (shown showing (shown_texts plain schema query.term query.type))
 
 -- the rows of an SQL text, written in a way
 abbrev pub rows_judged : RowWriting → Files → List ℕ → Schema → SqlColumns → Judgement

@@ -68,7 +68,7 @@ Gives old new usage text = ⊥
 Gives old new (missing name) text = ⊥
 Gives old new (refused r) text = ⊥
 Gives old new (written said) text = text ≡ said
-Gives old new (shown texts) text = Shows text texts
+Gives old new (shown showing texts) text = Shows showing text texts
 Gives old new (linked foreign) text = Stitches foreign text
 Gives old new (planned plan question) text = ServesQuestion plan question old new text
 
@@ -131,7 +131,7 @@ IsDue fair usage = ⊥
 IsDue fair (missing name) = ⊥
 IsDue fair (refused r) = ⊥
 IsDue fair (written text) = ⊤
-IsDue fair (shown texts) = ⊤
+IsDue fair (shown showing texts) = ⊤
 IsDue fair (linked foreign) = ⊤
 IsDue fair (planned plan question) = fair plan
 

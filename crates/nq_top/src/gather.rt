@@ -102,7 +102,9 @@ fn gather_aim<I: Inputs>(
         Aim::ShowTypes => Ok(Gathered::Text(type_line(alloc, &query.ty)?)),
         Aim::ShowNormal => Ok(Gathered::Text(normal_text(alloc, schema, query)?)),
         Aim::ShowPaths => Ok(Gathered::Text(paths_text(alloc, &query.ty)?)),
-        Aim::ShowSql => Ok(Gathered::Text(shown_text(alloc, schema, query)?)),
+        Aim::ShowTexts(showing) => {
+            Ok(Gathered::Text(shown_text(alloc, schema, query, showing)?))
+        }
     }
 }
 

@@ -1,24 +1,30 @@
 // What is shown of a query: its type, its normal form and its SQL texts.
-ghost use Rattle.std.specs.Prelude.{◌≡◌, IfOk, Ok};
+ghost use Rattle.std.specs.Prelude.{◌≡◌, All, IfOk, Ok, length};
+ghost use Rattle.std.specs.Str.{IsUtf8};
 ghost use Rattle.nq_model.specs.Proper.{IsProperTerm};
 ghost use Rattle.nq_model.specs.Tables.{IsProperSchema};
 ghost use Rattle.nq_model.specs.Terms.{placed, term_tree};
 ghost use Rattle.nq_model.specs.Types.{TypeTree, type_tree, bag};
 ghost use Rattle.nq_model.specs.Typing.{IsAccepted};
+ghost use Rattle.nq_ir.specs.NormalForms.{element_type};
+ghost use Rattle.nq_ir.specs.Paths.{paths};
 ghost use Rattle.nq_ir.specs.Trees.{form_tree};
+ghost use Rattle.shred_types.specs.Under.{steps_of};
+ghost use Rattle.command_line.specs.Words.{showing_view};
 ghost use Rattle.nq_top.specs.Lines.{type_line};
 ghost use Rattle.nq_top.specs.Reading.{PlainReading, type_read};
-ghost use Rattle.nq_top.specs.Shown.{Shows, shown_form, form_line, shown_texts};
+ghost use Rattle.nq_top.specs.Shown.{Shows, shown_form, form_line, shown_texts, texts_by};
 ghost use Rattle.nq_top.specs.Steps.{IsQuery, typed_view};
 
 use crate::texts::TypedQuery;
-use command_line::frames;
+use command_line::{Showing, frames};
 use normal_printer::print_normal;
 use normalise::normalise;
-use nq_compile::compile;
+use nq_compile::{Compiled, compile};
 use nq_ir::Normal;
 use nq_model::{List, Memory, Schema, Term, Ty};
 use nq_types::write_type;
+use query_json::write_query_json;
 use std::alloc::Global;
 use unfold::unfold;
 
@@ -58,12 +64,34 @@ pub fn normal_text(alloc: Global, schema: &Schema, query: TypedQuery) -> Result<
     Ok(text)
 }
 
-/// The SQL texts that shred a query, in a frame for each path of its type.
-pub fn shown_text(alloc: Global, schema: &Schema, query: TypedQuery) -> Result<List<u8>, Memory>
+// What is written in a way of texts that were compiled.
+fn texts_by(alloc: Global, showing: Showing, compiled: &Compiled) -> Result<List<u8>, Memory>
+    requires bag { type_tree compiled.now.result
+        ≡ bag (element_type (type_tree compiled.now.result)) }
+    requires paths { steps_of compiled.now.paths ≡ paths (type_tree compiled.now.result) }
+    requires counted { length compiled.now.texts
+        ≡ length (paths (type_tree compiled.now.result)) }
+    requires utf8 { All IsUtf8 compiled.now.texts }
+    ensures { IfOk result (λ text. text ≡ texts_by (showing_view showing)
+        (type_tree compiled.now.result) compiled.now.texts) }
+{
+    match showing {
+        Showing::Frames => frames(alloc, &compiled.paths, &compiled.texts),
+        Showing::Json => write_query_json(alloc, &compiled.result, compiled.texts.as_slice()),
+    }
+}
+
+/// What is written in a way of the SQL texts that shred a query.
+pub fn shown_text(
+    alloc: Global,
+    schema: &Schema,
+    query: TypedQuery,
+    showing: Showing,
+) -> Result<List<u8>, Memory>
     requires { IsQuery schema.now (typed_view query) }
-    ensures { IfOk result (λ text. (plain : PlainReading) →
-        Shows text (shown_texts plain schema.now (placed query.term) (type_tree query.ty))) }
+    ensures { IfOk result (λ text. (plain : PlainReading) → Shows (showing_view showing) text
+        (shown_texts plain schema.now (placed query.term) (type_tree query.ty))) }
 {
     let compiled = compile(alloc, schema, query.term)?;
-    frames(alloc, &compiled.paths, &compiled.texts)
+    texts_by(alloc, showing, &compiled)
 }

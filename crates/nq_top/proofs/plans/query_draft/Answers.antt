@@ -28,7 +28,7 @@ returns-clause-sound c =
 
 pub returns-clause-linked : goal.returns-clause-linked
 returns-clause-linked c =
-    links_at c.args.schema.now (placed c.args.query.term) (type_tree c.in_ok-compiled.compiled.result) [] c.in_ok-compiled.compiled.texts
+    links_at c.args.schema.now (placed c.args.query.term) (type_tree c.in_ok-compiled.compiled.result) c.in_ok-compiled.compiled.texts
     (type_tree c.args.query.ty) c.requires.typed c.in_ok-compiled.ensures.result c.in_ok-compiled.ensures.linked
 
 pub returns-clause-is : goal.returns-clause-is
