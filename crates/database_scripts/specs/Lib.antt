@@ -1,0 +1,4 @@
+pub mod Columns
+pub mod Loads
+pub mod Files
+pub mod Asks
