@@ -1,14 +1,18 @@
 -- Commands: which words give them, and which inputs they name.
 use Rattle.std.specs.Prelude.{ℕ, Bool, true, false, List, [], ◌∷◌, codes, Option, Some, None, option_map, cond}
 use Rattle.std.specs.Str.{bytes_eq}
+use Rattle.database_scripts.specs.declared.database.Database.{Database}
+use Rattle.database_scripts.specs.declared.database.Database.TheVariants.{Postgres, Sqlite}
 use Rattle.generated_inputs.specs.Sizes.{size_of}
 use Rattle.nq_execute.specs.Plans.{RowWriting, lines, arrays}
 
 -- how the SQL texts that shred a query are shown: each in a frame that tells its path and its
--- length; or all as a line of JSON, with the type of the query and the columns of each answer
+-- length; or all as a line of JSON, with the type of the query and the columns of each answer; or
+-- as a script that asks a database, and writes the answers below a folder
 pub data Showing : Type 0 where
   frames : Showing
   json : Showing
+  script : Database → List ℕ → Showing
 
 -- What is done with a query that is accepted. Its value over the table texts of a folder is
 -- written, or written as JSON, or that over the JSON tables of a folder; or the value of answers of
@@ -28,13 +32,15 @@ pub data Aim : Type 0 where
 
 -- a text on the program is written; or a query is put to an aim: the names of a schema and of the
 -- query; or the rows of an SQL text are written in a way: the names of a schema, of the text and of
--- a folder; or the summary of a query over generated tables of a size
+-- a folder; or the summary of a query over generated tables of a size; or the script by which a
+-- database loads the tables of a schema
 pub data Command : Type 0 where
   help : Command
   version : Command
   of_query : Aim → List ℕ → List ℕ → Command
   answer : RowWriting → List ℕ → List ℕ → List ℕ → Command
   generated : ℕ → Command
+  show_load : Database → List ℕ → Command
 
 -- `--help` or `--version`
 abbrev pub one_word : List ℕ → Option Command
@@ -52,7 +58,18 @@ abbrev pub three_words : List ℕ → List ℕ → List ℕ → Option Command
 three_words word schema query =
     cond (bytes_eq word (codes "check")) (Some (of_query check schema query)) None
 
--- what is shown
+-- the word of a database
+abbrev pub database_word : Database → List ℕ
+database_word Postgres = codes "postgres"
+database_word Sqlite = codes "sqlite"
+
+-- and the database that it is of
+abbrev pub database_of : List ℕ → Option Database
+database_of word =
+    cond (bytes_eq word (database_word Postgres)) (Some Postgres)
+    (cond (bytes_eq word (database_word Sqlite)) (Some Sqlite) None)
+
+-- what is shown of a query
 abbrev pub shown : List ℕ → Option Aim
 shown what =
     cond (bytes_eq what (codes "types")) (Some show_types)
@@ -61,15 +78,22 @@ shown what =
     (cond (bytes_eq what (codes "sql")) (Some (show_texts Showing.frames))
     (cond (bytes_eq what (codes "json")) (Some (show_texts Showing.json)) None))))
 
--- `run SCHEMA QUERY DIR`, `answer SCHEMA SQLFILE DIR` or `stitch SCHEMA QUERY DIR`; or `show` with
--- `types`, `normal`, `paths`, `sql` or `json` and SCHEMA QUERY
+-- what `show` makes of `load` and DATABASE SCHEMA; or of `types`, `normal`, `paths`, `sql` or
+-- `json` and SCHEMA QUERY
+abbrev pub of_show : List ℕ → List ℕ → List ℕ → Option Command
+of_show what second third =
+    cond (bytes_eq what (codes "load"))
+    (option_map (λ database. show_load database third) (database_of second))
+    (option_map (λ aim. of_query aim second third) (shown what))
+
+-- `run SCHEMA QUERY DIR`, `answer SCHEMA SQLFILE DIR` or `stitch SCHEMA QUERY DIR`; or a form of
+-- `show`
 abbrev pub four_words : List ℕ → List ℕ → List ℕ → List ℕ → Option Command
 four_words word second third fourth =
     cond (bytes_eq word (codes "run")) (Some (of_query (run fourth) second third))
     (cond (bytes_eq word (codes "answer")) (Some (answer lines second third fourth))
     (cond (bytes_eq word (codes "stitch")) (Some (of_query (stitch fourth) second third))
-    (cond (bytes_eq word (codes "show"))
-    (option_map (λ aim. of_query aim third fourth) (shown second)) None)))
+    (cond (bytes_eq word (codes "show")) (of_show second third fourth) None)))
 
 -- what `json` makes of `run`, of `answer` and of `stitch` with their three names
 abbrev pub as_json : List ℕ → List ℕ → List ℕ → List ℕ → Option Command
@@ -90,10 +114,18 @@ over_tables word form schema query folder =
     (cond (bytes_eq form (codes "json"))
     (Some (of_query (run_json_tables folder) schema query)) None) None
 
--- `run json tables SCHEMA QUERY DIR`
+-- what `show` makes of `script` and DATABASE SCHEMA QUERY DIR
+abbrev pub as_script : List ℕ → List ℕ → List ℕ → List ℕ → List ℕ → Option Command
+as_script form database schema query folder =
+    cond (bytes_eq form (codes "script"))
+    (option_map (λ d. of_query (show_texts (Showing.script d folder)) schema query)
+    (database_of database)) None
+
+-- `run json tables SCHEMA QUERY DIR` or `show script DATABASE SCHEMA QUERY DIR`
 abbrev pub six_words : List ℕ → List ℕ → List ℕ → List ℕ → List ℕ → List ℕ → Option Command
 six_words word form source schema query folder =
-    cond (bytes_eq source (codes "tables")) (over_tables word form schema query folder) None
+    cond (bytes_eq word (codes "show")) (as_script form source schema query folder)
+    (cond (bytes_eq source (codes "tables")) (over_tables word form schema query folder) None)
 
 -- the command that words are, if they are a listed form
 unfoldable pub command_of : List (List ℕ) → Option Command
@@ -126,3 +158,4 @@ asks_server (Some version) = false
 asks_server (Some (of_query aim schema query)) = aim_asks aim
 asks_server (Some (answer writing schema text folder)) = true
 asks_server (Some (generated size)) = true
+asks_server (Some (show_load database schema)) = false

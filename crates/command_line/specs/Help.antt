@@ -20,12 +20,16 @@ help_text =
     ++ (codes "nq show paths SCHEMA QUERY           writes a line for each bag of the type\n"
     ++ (codes "nq show sql SCHEMA QUERY             writes an SQL text for each bag of the type\n"
     ++ (codes "nq show json SCHEMA QUERY            writes the SQL texts and the types as JSON\n"
+    ++ (codes "nq show load DATABASE SCHEMA         writes a script that loads the tables\n"
+    ++ (codes "nq show script DATABASE SCHEMA QUERY DIR\n"
+    ++ (codes "                                     writes a script that asks the SQL texts\n"
     ++ (codes "nq --help                            writes this text\n"
     ++ (codes "nq --version                         writes the name and the version of nq\n"
     ++ (codes "\n"
     ++ (codes "SCHEMA, QUERY and SQLFILE are files. The table t is the file DIR/t.csv, and as a\n"
     ++ (codes "JSON table DIR/t.json. The answer to the SQL text K is the file DIR/K.csv.\n"
-    ++ codes "README.md explains the statuses, under Commands.\n"))))))))))))))))))))
+    ++ (codes "DATABASE is postgres or sqlite.\n"
+    ++ codes "README.md explains the statuses, under Commands.\n"))))))))))))))))))))))))
 
 -- the name and the version of the program
 unfoldable pub version_text : List ℕ

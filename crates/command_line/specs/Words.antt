@@ -1,6 +1,6 @@
 -- The words of a command as the program has them.
 use Rattle.std.specs.Prelude.{⊤}
-use Rattle.command_line.specs.Commands.{Showing, Aim, run, run_json, run_json_tables, stitch, stitch_json, check, show_types, show_normal, show_paths, show_texts, Command, help, version, of_query, answer, generated}
+use Rattle.command_line.specs.Commands.{Showing, Aim, run, run_json, run_json_tables, stitch, stitch_json, check, show_types, show_normal, show_paths, show_texts, Command, help, version, of_query, answer, generated, show_load}
 use Rattle.generated_inputs.specs.Sizes.{IsSize}
 use Rattle.command_line.specs.declared.words.Aim.{Aim as Aims}
 use Rattle.command_line.specs.declared.words.Aim.TheVariants as aim
@@ -13,6 +13,7 @@ use Rattle.nq_execute.specs.Plans.{row_writing_view}
 abbrev pub showing_view : Showings → Showing
 showing_view shown.Frames = Showing.frames
 showing_view shown.Json = Showing.json
+showing_view (shown.Script database folder) = Showing.script database folder.now
 
 abbrev pub aim_view : Aims → Aim
 aim_view (aim.Run folder) = run folder.now
@@ -33,6 +34,7 @@ command_view (words.OfQuery aim schema query) = of_query (aim_view aim) schema.n
 command_view (words.Answer writing schema text folder) =
     answer (row_writing_view writing) schema.now text.now folder.now
 command_view (words.Generated size) = generated size
+command_view (words.ShowLoad database schema) = show_load database schema.now
 
 -- a size is one for which tables are generated
 abbrev pub HasSize : Words → Type 0
@@ -41,3 +43,4 @@ HasSize words.Version = ⊤
 HasSize (words.OfQuery aim schema query) = ⊤
 HasSize (words.Answer writing schema text folder) = ⊤
 HasSize (words.Generated size) = IsSize size
+HasSize (words.ShowLoad database schema) = ⊤

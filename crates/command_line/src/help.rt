@@ -28,11 +28,15 @@ nq show normal SCHEMA QUERY          writes the normal form of the query
 nq show paths SCHEMA QUERY           writes a line for each bag of the type
 nq show sql SCHEMA QUERY             writes an SQL text for each bag of the type
 nq show json SCHEMA QUERY            writes the SQL texts and the types as JSON
+nq show load DATABASE SCHEMA         writes a script that loads the tables
+nq show script DATABASE SCHEMA QUERY DIR
+                                     writes a script that asks the SQL texts
 nq --help                            writes this text
 nq --version                         writes the name and the version of nq
 
 SCHEMA, QUERY and SQLFILE are files. The table t is the file DIR/t.csv, and as a
 JSON table DIR/t.json. The answer to the SQL text K is the file DIR/K.csv.
+DATABASE is postgres or sqlite.
 README.md explains the statuses, under Commands.
 ",
     )

@@ -1,18 +1,21 @@
 // The words of the command line.
 ghost use Rattle.std.specs.Prelude.{◌≡◌, IfSome, map, option_map, string_bytes};
-ghost use Rattle.command_line.specs.Commands.{one_word, two_words, three_words, shown, four_words, as_json, five_words, over_tables, six_words, command_of};
+ghost use Rattle.command_line.specs.Commands.{one_word, two_words, three_words, database_of, shown, of_show, four_words, as_json, five_words, over_tables, as_script, six_words, command_of};
 ghost use Rattle.command_line.specs.Words.{HasSize, aim_view, command_view};
 
+use database_scripts::Database;
 use generated_inputs::size_of;
 use nq_execute::RowWriting;
 
 /// How the SQL texts that shred a query are shown.
 #[derive(Clone, Copy)]
-pub enum Showing {
+pub enum Showing<'a> {
     /// Each in a frame that tells its path and its length.
     Frames,
     /// All as one line of JSON, with the type of the query and the columns of each answer.
     Json,
+    /// As a script that asks a database, and writes the answers below the folder of this name.
+    Script(Database, &'a str),
 }
 
 /// What is done with a query that is accepted.
@@ -37,7 +40,7 @@ pub enum Aim<'a> {
     /// The paths of its type are written.
     ShowPaths,
     /// The SQL texts that shred it are shown in a way.
-    ShowTexts(Showing),
+    ShowTexts(Showing<'a>),
 }
 
 /// What the words ask for.
@@ -52,6 +55,8 @@ pub enum Command<'a> {
     Answer(RowWriting, &'a str, &'a str, &'a str),
     /// The size of generated tables.
     Generated(u64),
+    /// A database, and the name of the schema whose tables it is to load.
+    ShowLoad(Database, &'a str),
 }
 
 // The command of one word.
@@ -94,7 +99,20 @@ fn three_words<'a>(word: &str, schema: &'a str, query: &'a str) -> Option<Comman
     }
 }
 
-// What is shown.
+// The database of this name.
+fn database_of(word: &str) -> Option<Database>
+    ensures { result ≡ database_of word.now }
+{
+    if word == "postgres" {
+        Some(Database::Postgres)
+    } else if word == "sqlite" {
+        Some(Database::Sqlite)
+    } else {
+        None
+    }
+}
+
+// What is shown of a query.
 fn shown<'a>(what: &str) -> Option<Aim<'a>>
     ensures { option_map aim_view result ≡ shown what.now }
 {
@@ -110,6 +128,24 @@ fn shown<'a>(what: &str) -> Option<Aim<'a>>
         Some(Aim::ShowTexts(Showing::Json))
     } else {
         None
+    }
+}
+
+// What `show` makes of three words.
+fn of_show<'a>(what: &str, second: &'a str, third: &'a str) -> Option<Command<'a>>
+    ensures is { option_map command_view result ≡ of_show what.now second.now third.now }
+    ensures sized { IfSome result HasSize }
+{
+    if what == "load" {
+        match database_of(second) {
+            Some(database) => Some(Command::ShowLoad(database, third)),
+            None => None,
+        }
+    } else {
+        match shown(what) {
+            Some(aim) => Some(Command::OfQuery(aim, second, third)),
+            None => None,
+        }
     }
 }
 
@@ -131,10 +167,7 @@ fn four_words<'a>(
     } else if word == "stitch" {
         Some(Command::OfQuery(Aim::Stitch(fourth), second, third))
     } else if word == "show" {
-        match shown(second) {
-            Some(aim) => Some(Command::OfQuery(aim, third, fourth)),
-            None => None,
-        }
+        of_show(second, third, fourth)
     } else {
         None
     }
@@ -198,6 +231,30 @@ fn over_tables<'a>(
     }
 }
 
+// What `show` makes of `script` with the name of a database and three names.
+fn as_script<'a>(
+    form: &str,
+    database: &str,
+    schema: &'a str,
+    query: &'a str,
+    folder: &'a str,
+) -> Option<Command<'a>>
+    ensures is { option_map command_view result
+        ≡ as_script form.now database.now schema.now query.now folder.now }
+    ensures sized { IfSome result HasSize }
+{
+    if form != "script" {
+        return None;
+    }
+    match database_of(database) {
+        Some(database) => {
+            let aim = Aim::ShowTexts(Showing::Script(database, folder));
+            Some(Command::OfQuery(aim, schema, query))
+        }
+        None => None,
+    }
+}
+
 // The command of six words.
 fn six_words<'a>(
     word: &str,
@@ -211,7 +268,9 @@ fn six_words<'a>(
         ≡ six_words word.now form.now source.now schema.now query.now folder.now }
     ensures sized { IfSome result HasSize }
 {
-    if source == "tables" {
+    if word == "show" {
+        as_script(form, source, schema, query, folder)
+    } else if source == "tables" {
         over_tables(word, form, schema, query, folder)
     } else {
         None

@@ -1,6 +1,8 @@
-// Whole runs that show SQL texts for other programs, worked out by hand.
-use crate::query_tests::{CHECK, Row, TYPES, run_row};
-use crate::runs::padded;
+// Whole runs that show SQL texts for other programs, and scripts for databases, worked out by hand.
+use crate::query_tests::{CHECK, Row, TYPES, USAGE, run_row};
+use crate::runs::{Engine, Wanted, check_run, held, padded, put};
+use nq_model::List;
+use std::alloc::Global;
 use std::process::Abort;
 use std::test::Fail;
 
@@ -13,7 +15,7 @@ const JSON: Row = Row {
     ..CHECK
 };
 
-const ROWS: [Row; 2] = [
+const ROWS: [Row; 5] = [
     JSON,
     Row {
         words: &["show", "json", "org", "q"],
@@ -21,13 +23,121 @@ const ROWS: [Row; 2] = [
         note: "nq: ill typed: rule 23 at 2\n",
         ..TYPES
     },
+    // The script that asks PostgreSQL, of a folder that is only a word.
+    Row {
+        words: &["show", "script", "postgres", "org", "q", "answers"],
+        query: "table departments",
+        out: r#"\set ON_ERROR_STOP on
+\encoding UTF8
+BEGIN ISOLATION LEVEL REPEATABLE READ READ ONLY;
+COPY (SELECT 0 AS "ot", 1 AS "on", "x1"."name" AS "c1" FROM "departments" AS "x1") TO STDOUT WITH (FORMAT csv, HEADER true) \g './answers/1.csv'
+COMMIT;
+"#,
+        ..CHECK
+    },
+    Row {
+        words: &["show", "script", "mysql", "org", "q", "answers"],
+        ..USAGE
+    },
+    // Of five words the second is `json`.
+    Row {
+        words: &["show", "script", "sqlite", "org", "q"],
+        ..USAGE
+    },
 ];
+
+/// The words and the text of the schema; and the status, the output and the note that are wanted.
+#[derive(Clone, Copy)]
+struct Load {
+    words: &'static [&'static str],
+    schema: &'static str,
+    status: u8,
+    out: &'static str,
+    note: &'static str,
+}
+
+const POSTGRES: Load = Load {
+    words: &["show", "load", "postgres", "org"],
+    schema: "table t (a: int, b: text, c: bool, key (a));",
+    status: 0,
+    out: r#"\set ON_ERROR_STOP on
+\encoding UTF8
+BEGIN;
+CREATE TABLE "t" (
+  "a" bigint NOT NULL,
+  "b" text COLLATE "C" NOT NULL,
+  "c" boolean NOT NULL,
+  PRIMARY KEY ("a")
+);
+\copy "t" ("a", "b", "c") FROM 't.csv' WITH (FORMAT csv, HEADER true, FORCE_NOT_NULL ("b"))
+COMMIT;
+"#,
+    note: "",
+};
+
+const LOADS: [Load; 4] = [
+    POSTGRES,
+    Load {
+        words: &["show", "load", "sqlite", "org"],
+        out: r#".bail on
+BEGIN;
+CREATE TABLE "t" (
+  "a" INT NOT NULL CHECK (typeof("a") = 'integer'),
+  "b" TEXT NOT NULL CHECK (typeof("b") = 'text'),
+  "c" INT NOT NULL CHECK ("c" IN (0, 1)),
+  PRIMARY KEY ("a")
+);
+CREATE TABLE "cells of csv" ("a" TEXT, "b" TEXT, "c" TEXT);
+.import --csv --skip 1 t.csv "cells of csv"
+INSERT INTO "t" ("a", "b", "c") SELECT "a", "b", CASE "c" WHEN 'true' THEN 1 WHEN 't' THEN 1 WHEN 'false' THEN 0 WHEN 'f' THEN 0 END FROM "cells of csv";
+DROP TABLE "cells of csv";
+COMMIT;
+"#,
+        ..POSTGRES
+    },
+    Load {
+        schema: "table t (a: int)",
+        status: 3,
+        out: "",
+        note: "nq: schema refused: Syntax at 16\n",
+        ..POSTGRES
+    },
+    Load {
+        words: &["show", "load", "mysql", "org"],
+        status: 2,
+        out: "",
+        note: "nq: usage\n",
+        ..POSTGRES
+    },
+];
+
+fn check_load(rt: &impl Abort, alloc: Global, load: &Load) -> Result<(), Fail> {
+    let mut files = List::new(alloc);
+    put(alloc, &mut files, "org", load.schema.as_bytes())?;
+    let wanted = Wanted {
+        words: load.words,
+        room: 2000,
+        status: load.status,
+        out: load.out,
+        note: load.note,
+    };
+    check_run(rt, alloc, Engine::Plain, held(alloc, files, &[])?, &wanted)
+}
 
 #[test]
 fn shows_texts_for_other_programs(rt: HostRuntime) -> Result<(), Fail> {
     let alloc = rt.alloc();
     for row in &ROWS {
         run_row(&rt, alloc, row, padded(alloc, 0, row.query)?)?;
+    }
+    Ok(())
+}
+
+#[test]
+fn shows_how_databases_load_tables(rt: HostRuntime) -> Result<(), Fail> {
+    let alloc = rt.alloc();
+    for load in &LOADS {
+        check_load(&rt, alloc, load)?;
     }
     Ok(())
 }

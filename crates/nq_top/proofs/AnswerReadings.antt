@@ -20,7 +20,7 @@ use Rattle.command_line.specs.declared.refusal.InputRefusal.{InputRefusal}
 use Rattle.command_line.specs.declared.refusal.InputRefusal.TheVariants as input
 use Rattle.nq_top.specs.Foreign.{AnswersBehind}
 use Rattle.nq_top.specs.Gathering.{Told, RefusalTells}
-use Rattle.nq_top.specs.Judging.{Judgement, after, fetched_then, read_then, answers_then}
+use Rattle.nq_top.specs.Judging.{Judgement, fetched_then, read_then, answers_then}
 use Rattle.nq_top.specs.Lines.{answer_file_of}
 use Rattle.nq_top.specs.Reading.{answer_fault, answer_as, answer_read, linked_as, links_read}
 use Rattle.nq_top.specs.Steps.{Leads, StepTells, FetchedWithin, FetchNames, FetchSays, Refuses}

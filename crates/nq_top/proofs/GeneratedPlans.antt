@@ -1,5 +1,5 @@
 -- The compiled query over generated tables is the plan of its summary, and may be served.
-use Rattle.std.proofs.Common.{◌≡◌, ℕ, List, [], map, Ok, sym, ap, ◌∙◌, subst}
+use Rattle.std.proofs.Common.{◌≡◌, ℕ, List, map, Ok, sym, ap, ◌∙◌, subst}
 use Rattle.generated_inputs.specs.Generated.{generated_schema, generated_query, generated_type, generated_rows, generated_tables}
 use Rattle.nq_model.specs.Judging.{program_judged}
 use Rattle.nq_model.specs.Proper.{IsProperTerm}

@@ -1,6 +1,5 @@
 -- The headline, from the promise of a run.
-use Rattle.std.proofs.Common.{◌≡◌, ◌⊎◌, ◌==◌, ℕ, Bool, true, false, List, [], ◌∷◌, Some, None, Option, Ok, Err, IfSome, String, map, string_bytes, refl, sym, ap, subst, ◌∙◌, inl, inr, codes}
-use Rattle.std.specs.List.{list_any}
+use Rattle.std.proofs.Common.{◌≡◌, ◌⊎◌, ℕ, List, [], ◌∷◌, Some, None, Option, Ok, Err, IfSome, String, map, string_bytes, refl, sym, ap, subst, ◌∙◌, inl, inr, codes}
 use Rattle.std.specs.declared.alloc.Global.{Global}
 use Rattle.nq_model.specs.Canonical.{canonical_text}
 use Rattle.nq_model.specs.Databases.{FilledTable, database}
@@ -12,13 +11,13 @@ use Rattle.nq_edge.specs.Edge.{Files, TellsMore, bytes_at}
 use Rattle.nq_edge.specs.Lines.{PutsLine}
 use Rattle.nq_execute.specs.Plans.{Plan}
 use Rattle.nq_execute.specs.declared.refusal.ServerRefusal.TheVariants as server
+use Rattle.database_scripts.specs.declared.database.Database.TheVariants.{Postgres, Sqlite}
 use Rattle.sql_profile.specs.Servers.{held_of}
 use Rattle.sql_profile.proofs.HeldTables.{held_filled}
 use Rattle.command_line.specs.Commands.{Showing, Aim, Command, of_query, run, show_texts, command_of}
 use Rattle.command_line.specs.Noting.{Notes}
 use Rattle.command_line.specs.Refusals.{refused_status, refused_note, status_of}
 use Rattle.command_line.specs.declared.refusal.Refused.{Refused}
-use Rattle.command_line.specs.declared.refusal.Refused.TheVariants as refused_for
 use Rattle.command_line.specs.declared.refusal.InputRefusal.TheVariants as input
 use Rattle.command_line.specs.declared.refusal.Refusal.TheVariants as refusal
 use Rattle.nq_top.specs.Calls.{Comes}
@@ -185,6 +184,8 @@ command_show : (showing : Showing) (words : List (List ℕ)) (s q : List ℕ) �
 unfolding command_of
 command_show Showing.frames words s q is = ap command_of is
 command_show Showing.json words s q is = ap command_of is
+command_show (Showing.script Postgres folder) words s q is = ap command_of is
+command_show (Showing.script Sqlite folder) words s q is = ap command_of is
 
 -- what the promise of a run says of a query that is put to an aim, over files that are held
 record Promised (names : Names) (aim : Aim) (files : Files) (before after : World) (old new : SinkState) (status : ℕ) : Type 0 where

@@ -1,7 +1,7 @@
 -- Any two readings come to one judgement.
 use Rattle.std.proofs.Common.{◌≡◌, ◌+◌, ◌-◌, ℕ, List, [], ◌∷◌, ◌++◌, length, map, Some, None, Option, Result, Ok, Err, cond, nat_lt, refl, ap, subst, ◌∙◌}
 use Rattle.nq_edge.specs.Edge.{Files, bytes_at}
-use Rattle.command_line.specs.Commands.{Aim, run, run_json, run_json_tables, stitch, stitch_json, check, show_types, show_normal, show_paths, show_texts, Command, help, version, of_query, answer, generated}
+use Rattle.command_line.specs.Commands.{Aim, run, run_json, run_json_tables, stitch, stitch_json, check, show_types, show_normal, show_paths, show_texts, Command, help, version, of_query, answer, generated, show_load}
 use Rattle.command_line.specs.declared.refusal.Refused.{Refused}
 use Rattle.command_line.specs.declared.refusal.Refused.TheVariants.{TooLong, Query as QueryRefused, Schema as SchemaRefused}
 use Rattle.nq_model.specs.Terms.{PlacedTerm, bare}
@@ -164,5 +164,6 @@ module _ (reading other : Reading) where
   one_judgement (Some (answer writing schema name folder)) files =
       text_same files schema _ _ _ _ schema_same
       (λ text found is. text_same files name _ _ _ _ (sql_same found) (λ asked columns scoped. refl))
+  one_judgement (Some (show_load database schema)) files = text_same files schema _ _ _ _ schema_same (λ text found is. refl)
   one_judgement (Some (generated size)) files =
       ap (λ (draft : Draft). at_once (planned (drafted draft (generated_tables size)) generated_question)) (draft_same Writing.summary generated_schema generated_query generated_type generated_typed)

@@ -8,11 +8,12 @@ use Rattle.command_line.specs.declared.refusal.Refused.TheVariants.{TooLong}
 use Rattle.command_line.specs.declared.refusal.InputRefusal.{InputRefusal}
 use Rattle.command_line.specs.declared.refusal.InputRefusal.TheVariants as input
 use Rattle.nq_top.specs.Gathering.{Told, RefusalTells}
-use Rattle.nq_top.specs.Judging.{Judgement, Verdict, refused, after, at_once, judged, fetched_then, read_then, text_then, judgement, held_for}
+use Rattle.nq_top.specs.Judging.{Judgement, Verdict, refused, written, after, at_once, judged, fetched_then, read_then, text_then, judgement, held_for}
 use Rattle.nq_top.specs.Limits.{text_limit}
 use Rattle.nq_top.specs.Reading.{Reading}
 use Rattle.nq_top.specs.Steps.{InputCounts, Leads, StepTells, ComesTo, GatherTells, FetchedWithin, FetchRefused, FetchNames, Refuses, ReadSays}
 use Rattle.nq_top.specs.declared.gather.Gathered.{Gathered}
+use Rattle.nq_top.specs.declared.gather.Gathered.TheVariants as gathered
 
 -- 1. names
 
@@ -185,6 +186,14 @@ memory_stops None whole old result is = tt
 memory_stops (Some files) whole old result is = λ reading.
     let P : Result Gathered InputRefusal → Type 0 = λ g. GatherTells (whole reading files) old old g in
     subst P (sym is) (record { front = []; back = (whole reading files).names; all = refl; fetched = tells_nothing old old refl })
+
+-- a text that is written at once
+pub text_told : (held : Option Files) (said text : List ℕ) (old : Told) (result : Result Gathered InputRefusal) → result ≡ Ok (gathered.Text text) → text ≡ said
+    → IfSome held (λ files. (reading : Reading) → GatherTells (at_once (written said)) old old result)
+text_told None said text old result is same = tt
+text_told (Some files) said text old result is same = λ reading.
+    let P : Result Gathered InputRefusal → Type 0 = λ g. GatherTells (at_once (written said)) old old g in
+    subst P (sym is) (record { comes_to = same; fetched = tells_nothing old old refl })
 
 -- what is told of a command is told of the words that are it
 pub at_command : (command given : Command) (held : Option Files) (old new : Told) (result : Result Gathered InputRefusal) → command ≡ given

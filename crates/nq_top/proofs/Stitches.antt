@@ -23,13 +23,13 @@ use Rattle.nq_execute.specs.Serving.{Allowed, Fit}
 use Rattle.nq_execute.proofs.Finishes.{answers_of_type}
 use Rattle.command_line.specs.Commands.{Aim, stitch, stitch_json}
 use Rattle.command_line.specs.declared.refusal.InputRefusal.{InputRefusal}
-use Rattle.nq_top.specs.Foreign.{Foreign, foreign_to, Stitches, AnswersBehind}
-use Rattle.nq_top.specs.Gathering.{Told, RefusalTells}
+use Rattle.nq_top.specs.Foreign.{foreign_to, Stitches, AnswersBehind}
+use Rattle.nq_top.specs.Gathering.{Told}
 use Rattle.nq_top.specs.Judging.{Judgement, at_once, read_then, answers_then, stitch_judged, linked, aim_judged}
 use Rattle.nq_top.specs.Limits.{tables_limit}
 use Rattle.nq_top.specs.Plans.{Draft, draft_to, question_to, IsWritten, IsSoundOver}
 use Rattle.nq_top.specs.Reading.{PlainReading, Reading, TypedTerm, links_read}
-use Rattle.nq_top.specs.Steps.{Leads, StepTells, Accepts, GatherTells, Refuses, IsQuery}
+use Rattle.nq_top.specs.Steps.{StepTells, Accepts, GatherTells, Refuses, IsQuery}
 use Rattle.nq_top.specs.declared.gather.Gathered.{Gathered}
 use Rattle.nq_top.specs.declared.gather.Gathered.TheVariants as gathered
 use Rattle.nq_top.proofs.AnswerReadings.{AnswersTold}

@@ -25,7 +25,7 @@ use Rattle.schema_reader.specs.declared.fault.SchemaFault.TheVariants.{Memory as
 use Rattle.sql_profile.specs.Servers.{RoseBelow}
 use Rattle.table_reader.specs.Faults.{GivesRows, HasFault}
 use Rattle.table_reader.specs.Records.{records_of}
-use Rattle.command_line.specs.Commands.{Showing}
+use Rattle.command_line.specs.Commands.{Showing, database_word}
 use Rattle.command_line.specs.Refusals.{refused_status, refused_note}
 use Rattle.command_line.specs.declared.refusal.Refused.{Refused}
 use Rattle.command_line.specs.declared.refusal.Refused.TheVariants.{TooLong, Schema as SchemaRefused, Query as QueryRefused, IllTyped, Table as TableRefused}
@@ -195,6 +195,8 @@ OfRun words held P =
 abbrev pub show_words : Showing → List ℕ → List ℕ → List (List ℕ)
 show_words Showing.frames schema query = codes "show" ∷ codes "sql" ∷ schema ∷ query ∷ []
 show_words Showing.json schema query = codes "show" ∷ codes "json" ∷ schema ∷ query ∷ []
+show_words (Showing.script database folder) schema query =
+    codes "show" ∷ codes "script" ∷ database_word database ∷ schema ∷ query ∷ folder ∷ []
 
 -- the words are those, over files that are held
 abbrev pub OfShow : List (List ℕ) → Option Files

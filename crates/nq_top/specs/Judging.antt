@@ -7,10 +7,11 @@ use Rattle.nq_model.specs.declared.table.Schema.{Schema}
 use Rattle.nq_model.specs.declared.table.TableShape.{TableShape}
 use Rattle.nq_edge.specs.Edge.{Files, bytes_at}
 use Rattle.nq_ir.specs.Paths.{paths}
+use Rattle.database_scripts.specs.Loads.{load_text}
 use Rattle.shred_types.specs.Columns.{columns_at}
 use Rattle.sql_profile.specs.declared.answer.Answer.{Answer}
 use Rattle.sql_profile.specs.declared.server.Loaded.{Loaded}
-use Rattle.command_line.specs.Commands.{Showing, Aim, run, run_json, run_json_tables, stitch, stitch_json, check, show_types, show_normal, show_paths, show_texts, Command, help, version, of_query, answer, generated}
+use Rattle.command_line.specs.Commands.{Showing, Aim, run, run_json, run_json_tables, stitch, stitch_json, check, show_types, show_normal, show_paths, show_texts, Command, help, version, of_query, answer, generated, show_load}
 use Rattle.command_line.specs.Help.{help_text, version_text}
 use Rattle.command_line.specs.Paths.{paths_text}
 use Rattle.command_line.specs.declared.refusal.Refused.{Refused}
@@ -163,7 +164,8 @@ rows_judged writing files folder schema asked =
     draft_judged files Csv folder schema (sql_draft writing asked.0 asked.1)
     (λ tables. Question.sql writing asked.0)
 
--- the schema, then the query or the SQL text, then each table text in the order of the schema
+-- the schema, then the query or the SQL text if there is one, then each table text in the order of
+-- the schema
 abbrev pub command_judged : Reading → Files → Command → Judgement
 command_judged reading files help = at_once (written help_text)
 command_judged reading files version = at_once (written version_text)
@@ -177,6 +179,8 @@ command_judged reading files (answer writing schema name folder) =
     (λ asked. rows_judged writing files folder found asked))
 command_judged reading files (generated size) =
     at_once (planned (generated_plan reading.plain size) generated_question)
+command_judged reading files (show_load database schema) =
+    schema_then reading files schema (λ found. at_once (written (load_text database found)))
 
 -- the words, and then the command that they are
 abbrev pub judgement : Reading → Option Command → Files → Judgement
@@ -195,3 +199,4 @@ held_for (Some version) held = Some (files_of held)
 held_for (Some (of_query aim schema name)) held = held
 held_for (Some (answer writing schema name folder)) held = held
 held_for (Some (generated size)) held = Some (files_of held)
+held_for (Some (show_load database schema)) held = held

@@ -15,6 +15,7 @@ use crate::stitch::gather_stitched;
 use crate::tables::{TABLES_LIMIT, TableTexts, gather_tables};
 use crate::texts::TypedQuery;
 use command_line::{Aim, Command, InputRefusal, help_text, paths_text, version_text};
+use database_scripts::load_script;
 use nq_edge::Inputs;
 use nq_execute::{Plan, Writing};
 use nq_model::{List, Schema};
@@ -140,5 +141,9 @@ pub fn gather<I: Inputs>(
             gather_draft(alloc, inputs, TableTexts::Csv, folder, &schema, draft)
         }
         Command::Generated(size) => Ok(Gathered::Plan(generated_plan(alloc, size)?)),
+        Command::ShowLoad(database, schema) => {
+            let schema = read_schema(alloc, inputs, schema)?;
+            Ok(Gathered::Text(load_script(alloc, database, &schema)?))
+        }
     }
 }

@@ -18,6 +18,7 @@ ghost use Rattle.nq_top.specs.Steps.{IsQuery, typed_view};
 
 use crate::texts::TypedQuery;
 use command_line::{Showing, frames};
+use database_scripts::ask_script;
 use normal_printer::print_normal;
 use normalise::normalise;
 use nq_compile::{Compiled, compile};
@@ -65,19 +66,23 @@ pub fn normal_text(alloc: Global, schema: &Schema, query: TypedQuery) -> Result<
 }
 
 // What is written in a way of texts that were compiled.
-fn texts_by(alloc: Global, showing: Showing, compiled: &Compiled) -> Result<List<u8>, Memory>
+fn texts_by(alloc: Global, showing: Showing<'_>, compiled: &Compiled) -> Result<List<u8>, Memory>
     requires bag { type_tree compiled.now.result
         ≡ bag (element_type (type_tree compiled.now.result)) }
     requires paths { steps_of compiled.now.paths ≡ paths (type_tree compiled.now.result) }
     requires counted { length compiled.now.texts
         ≡ length (paths (type_tree compiled.now.result)) }
     requires utf8 { All IsUtf8 compiled.now.texts }
-    ensures { IfOk result (λ text. text ≡ texts_by (showing_view showing)
+    ensures { IfOk result (λ text. text ≡ texts_by (showing_view showing.entry)
         (type_tree compiled.now.result) compiled.now.texts) }
 {
     match showing {
         Showing::Frames => frames(alloc, &compiled.paths, &compiled.texts),
         Showing::Json => write_query_json(alloc, &compiled.result, compiled.texts.as_slice()),
+        Showing::Script(database, folder) => {
+            let texts = compiled.texts.as_slice();
+            ask_script(alloc, database, folder.as_bytes(), &compiled.result, texts)
+        }
     }
 }
 
@@ -86,10 +91,10 @@ pub fn shown_text(
     alloc: Global,
     schema: &Schema,
     query: TypedQuery,
-    showing: Showing,
+    showing: Showing<'_>,
 ) -> Result<List<u8>, Memory>
     requires { IsQuery schema.now (typed_view query) }
-    ensures { IfOk result (λ text. (plain : PlainReading) → Shows (showing_view showing) text
+    ensures { IfOk result (λ text. (plain : PlainReading) → Shows (showing_view showing.entry) text
         (shown_texts plain schema.now (placed query.term) (type_tree query.ty))) }
 {
     let compiled = compile(alloc, schema, query.term)?;

@@ -1,4 +1,3 @@
-use Rattle.std.proofs.Common.{[]}
 use Rattle.nq_model.specs.Terms.{placed}
 use Rattle.nq_model.specs.Types.{type_tree}
 use Rattle.nq_execute.specs.Plans.{writing_view}

@@ -1,4 +1,4 @@
-use Rattle.std.proofs.Common.{◌≡◌, ◌<◌, ◌∙◌, List, Err, All, length, sym, subst, rules}
+use Rattle.std.proofs.Common.{◌<◌, ◌∙◌, List, All, length, sym, subst, rules}
 use Rattle.nq_model.specs.Types.{TypeTree, type_tree}
 use Rattle.nq_model.specs.declared.table.ColumnType.{ColumnType}
 use Rattle.nq_ir.specs.NormalForms.{element_type}
