@@ -11,6 +11,8 @@ mod honest;
 #[cfg(test)]
 mod large;
 #[cfg(test)]
+mod long;
+#[cfg(test)]
 mod scripted;
 #[cfg(test)]
 mod tables;
