@@ -1,4 +1,4 @@
-// Texts with thousands of parts in one sum or condition, with the answers of each server.
+// Texts with 3,000 parts in one sum or condition, with the answers of each server.
 ghost use Rattle.std.specs.Prelude.{◌≡◌, ◌<◌, []};
 ghost use Rattle.sql_profile.specs.Scope.{shapes_of, shapes_of_schema};
 
@@ -28,7 +28,7 @@ struct Case {
 }
 
 const CASES: [Case; 9] = [
-    // Sums: of ones, of a column to ones, and of columns, where 1 + 2,999 times 5 is 14,996.
+    // Sums of ones, of ones and a column, and of columns: 1 and 2,999 times 5 are 14,996.
     Case {
         first: r#"SELECT 1"#,
         between: r#" + 1"#,
@@ -47,7 +47,8 @@ const CASES: [Case; 9] = [
         last: r#" + "x"."a" AS "n" FROM "t" AS "x""#,
         answers: ["14996 ;17996 ;14998 ;", "14998 ;17996 ;14996 ;"],
     },
-    // Conditions, of which the last alone decides on a row that the first ones leave open.
+    // Under AND the last condition drops a row that all before it keep; under OR the first keeps a
+    // row, and the last another.
     Case {
         first: r#"SELECT "x"."b" AS "b" FROM "t" AS "x" WHERE "x"."a" = 5"#,
         between: r#" AND "x"."a" = 5"#,
@@ -60,7 +61,7 @@ const CASES: [Case; 9] = [
         last: r#" OR "x"."b" = 3"#,
         answers: ["1 ;3 ;", "3 ;1 ;"],
     },
-    // Conditions on two sources: both rows of the second table meet each row with the number 5.
+    // Conditions on two sources.
     Case {
         first: r#"SELECT "x"."b" AS "b", "y"."b" AS "c" FROM "t" AS "x", "e" AS "y" WHERE "x"."a" = "y"."a""#,
         between: r#" AND "x"."a" = "y"."a""#,
@@ -73,7 +74,7 @@ const CASES: [Case; 9] = [
         last: r#" OR "x"."a" > 5"#,
         answers: ["1 2 ;2 1 ;2 2 ;", "2 2 ;2 1 ;1 2 ;"],
     },
-    // Scalar queries that each count the two rows, and that count those with the number of a row.
+    // Scalar queries, each a count of the two rows, or of those with the number of the row around.
     Case {
         first: r#"SELECT (SELECT COUNT(*) FROM "e" AS "y")"#,
         between: r#" + (SELECT COUNT(*) FROM "e" AS "y")"#,
