@@ -8,7 +8,6 @@ from pathlib import Path
 from threading import Lock
 
 from .answers import write_answers
-from .errors import ProgramError
 from .program import call
 from .snapshot import snapshot
 
@@ -109,22 +108,18 @@ def _workplace(sources):
 def _compile(sources):
     """The type of a query, its texts, and the types of the columns of each answer."""
     with _workplace(sources) as folder:
-        files = [str(folder / "schema"), str(folder / "query")]
-        kind = call(["show", "types", *files], sources).decode("utf-8").rstrip("\n")
-        paths = call(["show", "paths", *files], sources).decode("utf-8")
-        frames = call(["show", "sql", *files], sources)
-    columns = [tuple(line.rpartition(": ")[2].replace("|", " ").split())
-               for line in paths.splitlines()]
-    texts = tuple(_texts(frames))
-    if len(texts) != len(columns):
-        raise ProgramError(f"nq wrote {len(texts)} texts for {len(columns)} paths")
-    return kind, texts, tuple(columns)
+        words = ["show", "json", str(folder / "schema"), str(folder / "query")]
+        shown = json.loads(call(words, sources))
+    texts = tuple(text["sql"] for text in shown["texts"])
+    columns = tuple(tuple(column["type"] for column in text["columns"]) for text in shown["texts"])
+    return _type_text(shown["type"]), texts, columns
 
 
-def _texts(frames):
-    """The texts of frames: a head `-- PATH BYTES`, that many bytes, and a line `;`."""
-    while frames:
-        head, _, rest = frames.partition(b"\n")
-        length = int(head.rpartition(b" ")[2])
-        yield rest[:length].decode("utf-8")
-        frames = rest[length + len(b"\n;\n"):]
+def _type_text(kind):
+    """A type as nq writes it, from its form in `nq show json`."""
+    if isinstance(kind, str):
+        return kind
+    if "bag" in kind:
+        return f"[{_type_text(kind['bag'])}]"
+    fields = (f"{label}: {_type_text(of)}" for label, of in kind["record"].items())
+    return f"({', '.join(fields)})"
