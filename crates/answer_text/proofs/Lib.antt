@@ -1,0 +1,10 @@
+pub mod PartValues
+pub mod Ends
+pub mod Writing
+pub mod Sorting
+pub mod Spanning
+pub mod Fresh
+pub mod Grouping
+pub mod Building
+pub mod Stitched
+pub mod Moved
