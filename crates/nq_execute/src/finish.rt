@@ -8,9 +8,9 @@ ghost use Rattle.stitcher.specs.Stitching.{rows_of};
 ghost use Rattle.nq_execute.specs.Plans.{CanFinish, columns_by, finish_view, finished, indexes_view, row_text_by, row_writing_view, text_by, value_by, value_text, writing_view};
 ghost use Rattle.nq_execute.specs.Serving.{Fit};
 
-use crate::flat::{flat_fields, flat_text};
 use crate::plan::{Finish, Indexes, RowWriting, Writing};
 use crate::summary::summarise;
+use answer_text::answer_text;
 use canon::{row_places, sort_deep, write, write_row_lines};
 use nq_json::{write_json, write_json_rows};
 use nq_model::{ColumnType, List, Memory, Ty, Value};
@@ -75,9 +75,9 @@ fn stitched_text(
     text_by(alloc, of, writing, value)
 }
 
-// What is written of the value. The canonical text of a bag of records of base values is written
-// from the rows of its one answer.
-#[tactic(auto, using(crate::proofs::FlatBags::flat_rules))]
+// What is written of the value. Its canonical text is written from the answers, and no value is
+// built.
+#[tactic(auto, unfolding(crate::specs::Plans::value_text))]
 fn value_text(
     alloc: Global,
     of: &Ty,
@@ -90,11 +90,11 @@ fn value_text(
     ensures { IfOk result (λ text. text ≡ value_text (type_tree of.now)
         (indexes_view indexes.now) (writing_view writing.now) (rows_of answers)) }
 {
-    match (indexes, writing, flat_fields(of)) {
-        (Indexes::Numbers, Writing::Text, Some(fields)) => {
-            flat_text(alloc, fields, &answers.as_slice()[0].rows)
+    match (indexes, writing) {
+        (Indexes::Numbers, Writing::Text) => answer_text(alloc, of, answers),
+        (Indexes::Numbers, Writing::Summary | Writing::Json) => {
+            stitched_text(alloc, of, indexes, writing, answers)
         }
-        _ => stitched_text(alloc, of, indexes, writing, answers),
     }
 }
 

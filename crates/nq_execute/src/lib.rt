@@ -6,7 +6,6 @@
 
 mod ask;
 mod finish;
-mod flat;
 mod laws;
 mod load;
 mod plan;
