@@ -100,28 +100,44 @@ fn over(alloc: Global, number: u64) -> Result<Test, Memory> {
     })
 }
 
-// Counts and sums have generators and no tag.
-fn totals(alloc: Global) -> Result<Normal, Memory> {
-    let count = Base::Count(over(alloc, 3)?);
-    let sum = Base::Sum {
-        over: over(alloc, 4)?,
-        value: boxed(alloc, Base::Int(7))?,
-    };
+// A count, which has generators and no tag.
+fn count(alloc: Global) -> Result<Body, Memory> {
+    let over = over(alloc, 3)?;
+    Ok(Body::Plain(Base::Count(over)))
+}
+
+// A sum, likewise.
+fn sum(alloc: Global) -> Result<Body, Memory> {
+    let over = over(alloc, 4)?;
+    let value = boxed(alloc, Base::Int(7))?;
+    Ok(Body::Plain(Base::Sum { over, value }))
+}
+
+// The bodies of a bag, a count and a sum.
+fn total_bodies(alloc: Global) -> Result<List<(Label, Body)>, Memory> {
     let mut bodies = List::new(alloc);
     bodies.push((Label::from_str(alloc, "b")?, Body::Bag(ints(alloc, &[2])?)))?;
-    bodies.push((Label::from_str(alloc, "n")?, Body::Plain(count)))?;
-    bodies.push((Label::from_str(alloc, "s")?, Body::Plain(sum)))?;
+    bodies.push((Label::from_str(alloc, "n")?, count(alloc)?))?;
+    bodies.push((Label::from_str(alloc, "s")?, sum(alloc)?))?;
+    Ok(bodies)
+}
+
+fn total_types(alloc: Global) -> Result<List<(Label, Ty)>, Memory> {
     let mut types = List::new(alloc);
     let bag = Ty::Bag(boxed(alloc, Ty::Int)?);
     types.push((Label::from_str(alloc, "b")?, bag))?;
     types.push((Label::from_str(alloc, "n")?, Ty::Int))?;
     types.push((Label::from_str(alloc, "s")?, Ty::Int))?;
+    Ok(types)
+}
+
+// A bag of one record of these.
+fn totals(alloc: Global) -> Result<Normal, Memory> {
+    let element = Ty::Rec(total_types(alloc)?);
+    let body = Body::Rec(total_bodies(alloc)?);
     let mut parts = List::new(alloc);
-    parts.push(comp(alloc, 1, Body::Rec(bodies))?)?;
-    Ok(Normal {
-        element: Ty::Rec(types),
-        parts,
-    })
+    parts.push(comp(alloc, 1, body)?)?;
+    Ok(Normal { element, parts })
 }
 
 pub fn made(alloc: Global, form: Form) -> Result<Normal, Memory> {
