@@ -13,7 +13,7 @@ pub enum Shape {
     Bag(&'static Shape),
 }
 
-/// The rows of an answer. Their cells are words, and a word that is no number is a text.
+/// The rows of an answer. Their cells are words: numbers, truth values, and else texts.
 pub type Listed = &'static [&'static str];
 
 /// The type.
@@ -37,10 +37,18 @@ fn fields_of(alloc: Global, fields: &[(&'static str, Shape)]) -> Result<List<(La
     Ok(made)
 }
 
+/// The type of a bag of such elements.
+pub fn bag_type(alloc: Global, element: &Shape) -> Result<Ty, Memory> {
+    let element = type_of(alloc, element)?;
+    Ok(Ty::Bag(boxed(alloc, element)?))
+}
+
 fn cell_of(alloc: Global, word: &str) -> Result<Cell, Memory> {
-    match word.parse::<i64>() {
-        Ok(number) => Ok(Cell::Int(number)),
-        Err(_) => Ok(Cell::Text(Text::from_str(alloc, word)?)),
+    match (word, word.parse::<i64>()) {
+        (_, Ok(number)) => Ok(Cell::Int(number)),
+        ("false", _) => Ok(Cell::Bool(false)),
+        ("true", _) => Ok(Cell::Bool(true)),
+        _ => Ok(Cell::Text(Text::from_str(alloc, word)?)),
     }
 }
 
