@@ -17,17 +17,21 @@ class Made:
         self.random = random.Random(seed)
         self.names = 0
 
-    def cell(self, kind):
+    def cell(self, kind, is_alone):
+        """The cell of a row, which has others beside it unless it is alone."""
         if kind == "int":
             return str(self.random.randint(-2, 3))
-        return self.random.choice(["true", "false"] if kind == "bool" else self.TEXTS)
+        # (sqlite3 takes an empty line for an empty text, so `show load` refuses both)
+        texts = self.TEXTS[1:] if is_alone else self.TEXTS
+        return self.random.choice(["true", "false"] if kind == "bool" else texts)
 
     def tables(self, folder):
         """Writes the tables: few rows, many of them equal."""
         for name, columns in self.TABLES.items():
             lines = [",".join(column for column, _ in columns)]
             for _ in range(self.random.randint(0, 6)):
-                lines.append(",".join(f'"{self.cell(kind)}"' for _, kind in columns))
+                is_alone = len(columns) == 1
+                lines.append(",".join(f'"{self.cell(kind, is_alone)}"' for _, kind in columns))
             (folder / f"{name}.csv").write_text("\n".join(lines) + "\n")
 
     def of_base(self, kind, scope, depth):

@@ -17,8 +17,8 @@ sys.path.insert(0, str(Path(__file__).resolve().parent))
 import nq
 
 SCHEMA = """
-table departments (name: text) key (name);
-table employees (dept: text, name: text) key (name);
+table departments (name: text, key (name));
+table employees (dept: text, name: text, key (name));
 table tasks (employee: text, task: text);
 """
 QUERY = """
