@@ -34,7 +34,7 @@ const RECORDS: Shape = Shape::Rec(&[
 
 const EMPTY: Shape = Shape::Rec(&[]);
 
-// A level without columns of its own, in one that has only them.
+// Rows in the bag have no column but those of their index, and the record has none.
 const NO_COLUMN: Shape = Shape::Rec(&[
     ("a", Shape::Bag(&EMPTY)),
     ("b", Shape::Rec(&[("c", EMPTY)])),

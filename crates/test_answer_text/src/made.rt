@@ -1,4 +1,4 @@
-// Answers that a seed decides: their rows fit, and else nothing is right about them.
+// Answers that a seed decides. Their rows fit their columns, and need not be linked.
 use crate::random::Random;
 use nq_model::{Cell, Label, List, Memory, Text, Ty};
 use rows::Rows;
@@ -17,9 +17,11 @@ pub enum Naming {
 pub struct Manner {
     /// Each answer has fewer rows than this, which may be none.
     pub under: u32,
+    /// How their rows name bags.
     pub naming: Naming,
     /// What tags, numbers and integer cells are taken from.
     pub numbers: &'static [i64],
+    /// What text cells are taken from.
     pub words: &'static [&'static str],
 }
 
