@@ -1,0 +1,5 @@
+pub mod LineSteps
+pub mod ColumnSteps
+pub mod Pieces
+pub mod Characters
+pub mod Utf8

@@ -1,0 +1,9 @@
+//! Worked places, excerpts and texts on rules: tests alone, over calls that are checked elsewhere.
+#![tactic(auto)]
+
+#[cfg(test)]
+mod excerpts;
+#[cfg(test)]
+mod places;
+#[cfg(test)]
+mod rules;
