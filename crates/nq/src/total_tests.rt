@@ -79,7 +79,7 @@ where (count(for (e <- table employees) where (e.dept == d.name) [e]) > 1) [d.na
     ("let sum = fun (x: int) -> x; [sum(2)]", "{2}\n"),
     ("let nq = 2; [nq]", "{2}\n"),
     ("nq 2; let nq = 2; [nq]", "{2}\n"),
-    // A count is as deep as it has comprehensions, and a test is not.
+    // A count over 16 comprehensions, and a test of 4,096.
     (
         "nq 2; let f = fun (b: [int]) -> b ++ b;
 [(n = count(f(f(f(f([1]))))), none = empty(f(f(f(f(f(f(f(f(f(f(f(f([1]))))))))))))))]",
