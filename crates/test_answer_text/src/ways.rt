@@ -19,7 +19,8 @@ fn stitched(alloc: Global, of: &Ty, answers: &List<Answer>) -> Result<Option<Val
     }
 }
 
-/// The text by way of the value, which is stitched and sorted. None where they are no answers.
+/// The text by way of the value, which is stitched and sorted; empty where these are no answers of
+/// the type.
 pub fn by_value(alloc: Global, of: &Ty, answers: &List<Answer>) -> Result<String, Memory> {
     let Some(value) = stitched(alloc, of, answers)? else {
         return Ok(String::new(alloc));
@@ -28,7 +29,7 @@ pub fn by_value(alloc: Global, of: &Ty, answers: &List<Answer>) -> Result<String
     text_of(alloc, write(alloc, &sorted)?)
 }
 
-/// The text straight from the answers. None where the type is no bag.
+/// The text straight from the answers; empty where the type is no bag.
 pub fn straight(alloc: Global, of: &Ty, answers: List<Answer>) -> Result<String, Memory> {
     match of {
         Ty::Bag(_) => text_of(alloc, answer_text(alloc, of, answers)?),
