@@ -25,7 +25,8 @@ use Rattle.answer_text.specs.Members.{member, member_cmp}
 use Rattle.answer_text.specs.Parts.{value_in}
 use Rattle.answer_text.specs.Spans.{index_of, spanned, AreSpanned}
 use Rattle.answer_text.specs.declared.part.Part.{Part}
-use Rattle.answer_text.proofs.Sorting.{reordered_from_permutation, ascends_from_sorted}
+use Rattle.canon.proofs.AllRows.{rows_from}
+use Rattle.canon.proofs.Sorting.{reordered_from_permutation, ascends_from_sorted}
 use Rattle.answer_text.proofs.Spanning.{same_index}
 
 pub member_total : IsTotalOrder member_cmp
@@ -41,22 +42,6 @@ not_turned Greater e = absurd (cc)
 index_tie : (i : ℤ × ℤ) → index_cmp i i ≡ Equal
 index_tie i =
     ap₂ ordering_then (not_turned (int_cmp i.0 i.0) (int_cmp_total.antisymm i.0 i.0)) (not_turned (int_cmp i.1 i.1) (int_cmp_total.antisymm i.1 i.1))
-
--- the rows at all places
-rows_from : (before rows : List (List Cell)) → map (row_at (before ++ rows)) (count_from (length before) (length rows)) ≡ rows
-rows_from before [] = refl
-rows_from before (row ∷ rows) =
-    let next : length (before ++ row ∷ []) ≡ suc (length before) = length_push before row in
-    ap₂ (λ (r : List Cell) (rs : List (List Cell)). r ∷ rs) (here before row rows)
-    (ap₂ (λ (all : List (List Cell)) (n : ℕ). map (row_at all) (count_from n (length rows))) (sym (append_assoc before (row ∷ []) rows)) (sym next) ∙ rows_from (before ++ row ∷ []) rows)
-  where
-    length_push : (xs : List (List Cell)) (x : List Cell) → length (xs ++ x ∷ []) ≡ suc (length xs)
-    length_push [] x = refl
-    length_push (y ∷ xs) x = ap suc (length_push xs x)
-
-    here : (xs : List (List Cell)) (x : List Cell) (ys : List (List Cell)) → get_or (xs ++ x ∷ ys) (length xs) [] ≡ x
-    here [] x ys = refl
-    here (y ∷ xs) x ys = here xs x ys
 
 module _ (element : Part) (rows : List (List Cell)) where
   abbrev key : ℕ → (ℤ × ℤ) × Nested

@@ -1,7 +1,5 @@
 pub mod PartValues
-pub mod Ends
-pub mod Writing
-pub mod Sorting
+pub mod Placed
 pub mod Spanning
 pub mod Fresh
 pub mod Grouping

@@ -13,6 +13,7 @@ use Rattle.nq_model.specs.Values.{Nested, base, Fields, bag_of, elements_of}
 use Rattle.nq_model.specs.declared.table.Cell.{Cell}
 use Rattle.nq_model.proofs.Canonical.{canonical_sorted}
 use Rattle.nq_model.proofs.Sameness.{elements_back}
+use Rattle.canon.proofs.Canonical.{canonical_bag}
 use Rattle.nq_ir.specs.Building.{Source, element, element_fields, built}
 use Rattle.nq_ir.specs.NormalForms.{element_type}
 use Rattle.nq_ir.specs.Parts.{leaves, leaves_in, slots, slots_in, bags, element_types}
@@ -24,10 +25,6 @@ use Rattle.stitcher.proofs.Laid.{types_stand}
 use Rattle.answer_text.specs.Elements.{part_value, fields_value, bag_value}
 use Rattle.answer_text.specs.Indexes.{rows_under}
 use Rattle.answer_text.proofs.Building.{each_same}
-
-canonical_bag : (vs : List Nested) → canonical (bag_of vs) ≡ bag_of (sorted_by value_cmp (map canonical vs))
-canonical_bag vs =
-    ap bag_of (canonical_sorted (elements_of vs) ∙ ap (λ (l : List Nested). sorted_by value_cmp (map canonical l)) (elements_back vs))
 
 mutual
   leaves_long : (a : TypeTree) (n : ℕ) → length (leaf_places a n) ≡ leaves a

@@ -1,60 +1,15 @@
 // The canonical texts of the values of parts.
-ghost use Rattle.std.specs.Prelude.{◌≡◌, ◌++◌, OnOk, codes, string_bytes};
-ghost use Rattle.nq_model.specs.CellRefs.{cell_seen};
-ghost use Rattle.nq_model.specs.Canonical.{cell_text, written};
-ghost use Rattle.nq_model.specs.Separators.{separator};
+ghost use Rattle.std.specs.Prelude.{◌≡◌, ◌++◌, OnOk, string_bytes};
+ghost use Rattle.nq_model.specs.Canonical.{written};
 ghost use Rattle.nq_model.specs.Values.{rec};
-ghost use Rattle.nq_model.specs.declared.table.Cell.TheVariants as cell;
 ghost use Rattle.rows.specs.Places.{row_at};
 ghost use Rattle.answer_text.specs.Parts.{value_in, fields_in, bag_in};
 
 use crate::part::Part;
 use crate::read::{cell_at, index_at};
-use itoa::Buffer;
-use nq_model::{CellRef, Label, Memory};
+use canon::{write_cell, write_separator};
+use nq_model::{Label, Memory};
 use rows::Rows;
-
-// What stands before the field or the element at a place.
-fn write_separator(text: &mut String, place: usize) -> Result<(), Memory>
-    ensures { OnOk result (string_bytes text.new ≡ string_bytes text.old ++ separator place) }
-{
-    if place > 0 {
-        text.push_str(", ")?;
-    }
-    Ok(())
-}
-
-// The text between single quotes, with each single quote doubled.
-#[inline(always)]
-fn write_quoted(text: &mut String, quoted: &str) -> Result<(), Memory>
-    ensures { OnOk result (string_bytes text.new
-        ≡ string_bytes text.old ++ cell_text (cell.Text quoted.now)) }
-{
-    text.push_str("'")?;
-    let mut rest = quoted;
-    while let Some((before, after)) = rest.split_once('\'') {
-        text.push_str(before)?;
-        text.push_str("''")?;
-        rest = after;
-    }
-    text.push_str(rest)?;
-    text.push_str("'")?;
-    Ok(())
-}
-
-// Inlined, as is what it calls for a text: a cell that is passed through memory is copied there,
-// which waits for whatever was read before it.
-#[inline(always)]
-fn write_cell(text: &mut String, cell: &CellRef<'_>) -> Result<(), Memory>
-    ensures { OnOk result (string_bytes text.new
-        ≡ string_bytes text.old ++ cell_text (cell_seen cell.now)) }
-{
-    match cell {
-        CellRef::Int(number) => Ok(text.push_str(Buffer::new().format(*number))?),
-        CellRef::Bool(truth) => Ok(write!(text, "{truth}")?),
-        CellRef::Text(quoted) => write_quoted(text, quoted),
-    }
-}
 
 // The text of the value of a part in a row.
 #[cycle(write)]

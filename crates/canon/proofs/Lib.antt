@@ -1,10 +1,9 @@
-mod Shorter
-mod Sorting
-mod Canonical
-mod Writing
+pub mod AllRows
+pub mod Ends
+pub mod Sorting
+pub mod Canonical
+pub mod Writing
 mod Apart
 mod Sorted
 mod Typed
-mod FlatRows
-mod Places
 mod RowTexts

@@ -20,6 +20,7 @@ use Rattle.nq_model.proofs.Orders.{IsStrictOrder, sorted_reordered}
 use Rattle.rows.specs.Places.{row_at, rows_at}
 use Rattle.row_order.specs.Keys.{key_of, keys_at}
 use Rattle.row_order.proofs.Rising.{rises_next}
+use Rattle.canon.proofs.AllRows.{length_push, behind, rows_from}
 use Rattle.canon.proofs.Sorting.{sorted_by_key}
 use Rattle.canon.specs.RowTexts.{bar, row_cmp, row_line, rows_text, sorted_rows}
 
@@ -53,37 +54,13 @@ count_length : (a n : ℕ) → length (count_from a n) ≡ n
 count_length a zero = refl
 count_length a (suc n) = ap suc (count_length (suc a) n)
 
--- the rows at all places
-rows_from : (before rows : List (List Cell)) → map (row_at (before ++ rows)) (count_from (length before) (length rows)) ≡ rows
-rows_from before [] = refl
-rows_from before (row ∷ rows) =
-    let next : length (before ++ row ∷ []) ≡ suc (length before) = length_push before row in
-    ap₂ (λ (r : List Cell) (rs : List (List Cell)). r ∷ rs) (here before row rows)
-    (ap₂ (λ (all : List (List Cell)) (n : ℕ). map (row_at all) (count_from n (length rows))) (sym (append_assoc before (row ∷ []) rows)) (sym next) ∙ rows_from (before ++ row ∷ []) rows)
-  where
-    length_push : (xs : List (List Cell)) (x : List Cell) → length (xs ++ x ∷ []) ≡ suc (length xs)
-    length_push [] x = refl
-    length_push (y ∷ xs) x = ap suc (length_push xs x)
-
-    here : (xs : List (List Cell)) (x : List Cell) (ys : List (List Cell)) → get_or (xs ++ x ∷ ys) (length xs) [] ≡ x
-    here [] x ys = refl
-    here (y ∷ xs) x ys = here xs x ys
-
 -- the key of a row under all its columns is the row
 key_from : (before row : List Cell) → key_of (count_from (length before) (length row)) (before ++ row) ≡ row
 key_from before [] = refl
 key_from before (c ∷ row) =
     let next : length (before ++ c ∷ []) ≡ suc (length before) = length_push before c in
-    ap₂ (λ (d : Cell) (ds : List Cell). d ∷ ds) (here before c row)
+    ap₂ (λ (d : Cell) (ds : List Cell). d ∷ ds) (behind before c row no_cell)
     (ap₂ (λ (all : List Cell) (n : ℕ). key_of (count_from n (length row)) all) (sym (append_assoc before (c ∷ []) row)) (sym next) ∙ key_from (before ++ c ∷ []) row)
-  where
-    length_push : (xs : List Cell) (x : Cell) → length (xs ++ x ∷ []) ≡ suc (length xs)
-    length_push [] x = refl
-    length_push (y ∷ xs) x = ap suc (length_push xs x)
-
-    here : (xs : List Cell) (x : Cell) (ys : List Cell) → get_or (xs ++ x ∷ ys) (length xs) no_cell ≡ x
-    here [] x ys = refl
-    here (y ∷ xs) x ys = here xs x ys
 
 row_order : IsStrictOrder row_cmp
 row_order = record { total = lists_total cell_order.total; ties = lists_tie cell_cmp cell_order.ties }

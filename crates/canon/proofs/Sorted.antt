@@ -63,7 +63,7 @@ module _ {A : Type 0} (cmp : A → A → Ordering) (o : IsStrictOrder cmp) where
       subst (λ i. is_lt (cmp (get_or (x ∷ y ∷ ys) i d) (get_or (x ∷ y ∷ ys) (suc k) d)) ≡ false) (sym next) (ascending_sorted (y ∷ ys) up.1 k d (omega arith) (omega (arith, high)))
 
   pub sorted_ascending_all : (xs : List A) → IsSorted cmp xs → Ascends cmp xs
-  sorted_ascending_all xs up = subst (Ascends cmp) (same xs) (ascends_from_sorted cmp (λ x. x) o xs up)
+  sorted_ascending_all xs up = subst (Ascends cmp) (same xs) (ascends_from_sorted cmp (λ x. x) o.total xs up)
     where
       same : (ys : List A) → map (λ x. x) ys ≡ ys
       same [] = refl

@@ -2,9 +2,8 @@
 use Rattle.std.proofs.Common.{◌≡◌, ◌≢◌, ℕ, zero, suc, ◌+◌, ◌<◌, List, [], ◌∷◌, ◌++◌, map, refl, sym, ap, ◌∙◌, cond, eqb, length, take, get_or, arith, append_assoc, codes, inl, inr}
 use Rattle.std.proofs.lemmas.List.{take_more, map-append}
 use Rattle.std.proofs.lemmas.Bool.Decides.{eqb_tells}
-use Rattle.nq_model.specs.Values.{Nested, nested, fields_of, elements_of, fields_view}
+use Rattle.nq_model.specs.Values.{Nested, fields_of, elements_of}
 use Rattle.nq_model.specs.Canonical.{doubled_quotes, written, written_fields, written_elements}
-use Rattle.nq_model.specs.declared.value.Value.{Value}
 use Rattle.nq_model.specs.Separators.{separator}
 
 -- the text after start grows by a separator and an item
@@ -17,15 +16,16 @@ elements_push [] w v = refl
 elements_push (u ∷ vs) w v =
     ap (λ (l : List ℕ). written w ++ (codes ", " ++ l)) (elements_push vs u v) ∙ (simp append_assoc)
 
-pub elements_more : (xs : List Value) (i : ℕ) (x : Value) → i < length xs → x ≡ get_or xs i x
-    → written_elements (elements_of (map nested (take (i + 1) xs))) ≡ written_elements (elements_of (map nested (take i xs))) ++ (separator i ++ written (nested x))
-elements_more [] i x h e = absurd (omega (arith, h))
-elements_more (y ∷ ys) zero x h e =
-    ap (λ (l : List Value). written_elements (elements_of (map nested l))) (take_more (y ∷ ys) zero x h ∙ ap (λ z. z ∷ []) (sym e))
-elements_more (y ∷ ys) (suc i) x h e =
-    ap (λ (l : List Value). written_elements (elements_of (map nested l))) (take_more (y ∷ ys) (suc i) x h ∙ ap (λ z. y ∷ (take i ys ++ z ∷ [])) (sym e))
-    ∙ ap (λ (l : List Nested). written_elements (elements_of (nested y ∷ l))) (map-append nested (take i ys) (x ∷ []))
-    ∙ elements_push (map nested (take i ys)) (nested y) (nested x)
+-- the text of the first elements, and that of one more
+pub elements_more : {A : Type 0} (view : A → Nested) (xs : List A) (i : ℕ) (x : A) → i < length xs → x ≡ get_or xs i x
+    → written_elements (elements_of (map view (take (i + 1) xs))) ≡ written_elements (elements_of (map view (take i xs))) ++ (separator i ++ written (view x))
+elements_more view [] i x h e = absurd (omega (arith, h))
+elements_more {A} view (y ∷ ys) zero x h e =
+    ap (λ (l : List A). written_elements (elements_of (map view l))) (take_more (y ∷ ys) zero x h ∙ ap (λ z. z ∷ []) (sym e))
+elements_more {A} view (y ∷ ys) (suc i) x h e =
+    ap (λ (l : List A). written_elements (elements_of (map view l))) (take_more (y ∷ ys) (suc i) x h ∙ ap (λ z. y ∷ (take i ys ++ z ∷ [])) (sym e))
+    ∙ ap (λ (l : List Nested). written_elements (elements_of (view y ∷ l))) (map-append view (take i ys) (x ∷ []))
+    ∙ elements_push (map view (take i ys)) (view y) (view x)
 
 -- the text of a field
 abbrev pub field_text : List ℕ × Nested → List ℕ
@@ -36,15 +36,16 @@ fields_push [] g f = simp append_assoc
 fields_push (h ∷ fs) g f =
     ap (λ (l : List ℕ). g.0 ++ (codes " = " ++ (written g.1 ++ (codes ", " ++ l)))) (fields_push fs h f) ∙ (simp append_assoc)
 
-pub fields_more : (xs : List (List ℕ × Value)) (i : ℕ) (x : List ℕ × Value) → i < length xs → x ≡ get_or xs i x
-    → written_fields (fields_of (fields_view (take (i + 1) xs))) ≡ written_fields (fields_of (fields_view (take i xs))) ++ (separator i ++ field_text (x.0, nested x.1))
-fields_more [] i x h e = absurd (omega (arith, h))
-fields_more (y ∷ ys) zero x h e =
-    ap (λ (l : List (List ℕ × Value)). written_fields (fields_of (fields_view l))) (take_more (y ∷ ys) zero x h ∙ ap (λ z. z ∷ []) (sym e))
-fields_more (y ∷ ys) (suc i) x h e =
-    ap (λ (l : List (List ℕ × Value)). written_fields (fields_of (fields_view l))) (take_more (y ∷ ys) (suc i) x h ∙ ap (λ z. y ∷ (take i ys ++ z ∷ [])) (sym e))
-    ∙ ap (λ (l : List (List ℕ × Nested)). written_fields (fields_of ((y.0, nested y.1) ∷ l))) (map-append (λ (f : List ℕ × Value). (f.0, nested f.1)) (take i ys) (x ∷ []))
-    ∙ fields_push (fields_view (take i ys)) (y.0, nested y.1) (x.0, nested x.1)
+-- the text of the first fields, and that of one more
+pub fields_more : {A : Type 0} (view : A → Nested) (xs : List (List ℕ × A)) (i : ℕ) (x : List ℕ × A) → i < length xs → x ≡ get_or xs i x
+    → written_fields (fields_of (map (λ f. (f.0, view f.1)) (take (i + 1) xs))) ≡ written_fields (fields_of (map (λ f. (f.0, view f.1)) (take i xs))) ++ (separator i ++ field_text (x.0, view x.1))
+fields_more view [] i x h e = absurd (omega (arith, h))
+fields_more {A} view (y ∷ ys) zero x h e =
+    ap (λ (l : List (List ℕ × A)). written_fields (fields_of (map (λ f. (f.0, view f.1)) l))) (take_more (y ∷ ys) zero x h ∙ ap (λ z. z ∷ []) (sym e))
+fields_more {A} view (y ∷ ys) (suc i) x h e =
+    ap (λ (l : List (List ℕ × A)). written_fields (fields_of (map (λ f. (f.0, view f.1)) l))) (take_more (y ∷ ys) (suc i) x h ∙ ap (λ z. y ∷ (take i ys ++ z ∷ [])) (sym e))
+    ∙ ap (λ (l : List (List ℕ × Nested)). written_fields (fields_of ((y.0, view y.1) ∷ l))) (map-append (λ (f : List ℕ × A). (f.0, view f.1)) (take i ys) (x ∷ []))
+    ∙ fields_push (map (λ (f : List ℕ × A). (f.0, view f.1)) (take i ys)) (y.0, view y.1) (x.0, view x.1)
 
 -- no byte of a text is a quote
 abbrev pub HasNoQuote : List ℕ → Type 0

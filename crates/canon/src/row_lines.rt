@@ -5,7 +5,7 @@ ghost use Rattle.nq_model.specs.Cells.{RowFits};
 ghost use Rattle.rows.specs.Places.{row_at, rows_at};
 ghost use Rattle.canon.specs.RowTexts.{bar, row_line, rows_text};
 
-use crate::row_text::write_cell;
+use crate::pieces::write_cell;
 use crate::sorted_rows::row_places;
 use nq_model::{ColumnType, List, Memory};
 use rows::Rows;

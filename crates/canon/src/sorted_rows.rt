@@ -6,11 +6,21 @@ ghost use Rattle.nq_model.specs.Numberings.{count_from};
 ghost use Rattle.rows.specs.Places.{rows_at};
 ghost use Rattle.canon.specs.RowTexts.{sorted_rows};
 
-use crate::row_text::columns_between;
 use nq_model::{ColumnType, Memory};
 use row_order::order;
 use rows::Rows;
 use std::alloc::Global;
+
+// The places of so many columns.
+fn columns_of(alloc: Global, count: usize) -> Result<Vec<usize>, Memory>
+    ensures { IfOk result (λ columns. columns.items ≡ count_from 0 count) }
+{
+    let mut columns = Vec::with_capacity(alloc, count)?;
+    for column in 0..count {
+        columns.push(column)?;
+    }
+    Ok(columns)
+}
 
 /// The places of all rows, counted from 0, in the order of the rows' cells from the left: by the
 /// first cell that differs. Equal rows stand in any order. The types are those of the cells. Fails
@@ -21,7 +31,7 @@ pub fn row_places(alloc: Global, rows: &Rows, types: &[ColumnType]) -> Result<Ve
         (λ places. IsPermutation (count_from 0 (length rows.now)) places.items) }
     ensures order { IfOk result (λ places. rows_at rows.now places.items ≡ sorted_rows rows.now) }
 {
-    let columns = columns_between(alloc, 0, types.len())?;
+    let columns = columns_of(alloc, types.len())?;
     let places = order(alloc, rows, columns.as_slice())?;
     Ok(places)
 }

@@ -1,11 +1,10 @@
 // The canonical text.
 ghost use Rattle.std.specs.Prelude.{◌≡◌, ◌++◌, IfOk, OnOk, map, codes, string_bytes};
 ghost use Rattle.nq_model.specs.Values.{nested, rec_of, bag_of, fields_view};
-ghost use Rattle.nq_model.specs.Canonical.{canonical_text, cell_text, written};
-ghost use Rattle.nq_model.specs.declared.table.Cell.TheVariants as cell;
+ghost use Rattle.nq_model.specs.Canonical.{canonical_text, written};
 ghost use Rattle.canon.specs.Sorted.{IsSortedDeep};
-ghost use Rattle.nq_model.specs.Separators.{separator};
 
+use crate::pieces::{write_quoted, write_separator};
 use itoa::Buffer;
 use nq_model::{Label, List, Memory, Value};
 use std::alloc::Global;
@@ -38,24 +37,6 @@ fn write_value(text: &mut String, value: &Value) -> Result<(), Memory>
     }
 }
 
-// The text between single quotes, with each single quote doubled.
-#[inline(always)]
-pub(crate) fn write_quoted(text: &mut String, quoted: &str) -> Result<(), Memory>
-    ensures { OnOk result (string_bytes text.new
-        ≡ string_bytes text.old ++ cell_text (cell.Text quoted.now)) }
-{
-    text.push_str("'")?;
-    let mut rest = quoted;
-    while let Some((before, after)) = rest.split_once('\'') {
-        text.push_str(before)?;
-        text.push_str("''")?;
-        rest = after;
-    }
-    text.push_str(rest)?;
-    text.push_str("'")?;
-    Ok(())
-}
-
 #[cycle(write)]
 fn write_record(text: &mut String, fields: &[(Label, Value)]) -> Result<(), Memory>
     ensures { OnOk result (string_bytes text.new
@@ -83,15 +64,5 @@ fn write_bag(text: &mut String, elements: &[Value]) -> Result<(), Memory>
         write_value(text, element)?;
     }
     text.push_str("}")?;
-    Ok(())
-}
-
-// What stands before the field or the element at a place.
-pub(crate) fn write_separator(text: &mut String, place: usize) -> Result<(), Memory>
-    ensures { OnOk result (string_bytes text.new ≡ string_bytes text.old ++ separator place) }
-{
-    if place > 0 {
-        text.push_str(", ")?;
-    }
     Ok(())
 }

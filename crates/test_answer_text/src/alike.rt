@@ -1,10 +1,10 @@
 // Both ways give one text, whatever the answers.
-use crate::given::{Shape, bag_type};
 use crate::made::{Manner, Naming, answers_of};
 use crate::ways::{by_value, straight};
 use std::alloc::Global;
 use std::process::Abort;
 use std::test::Fail;
+use test_answers::{Shape, bag_type};
 
 const FLAT: Shape = Shape::Rec(&[("a", Shape::Int), ("b", Shape::Bool), ("c", Shape::Text)]);
 

@@ -6,8 +6,6 @@
 #[cfg(test)]
 mod alike;
 #[cfg(test)]
-mod given;
-#[cfg(test)]
 mod made;
 #[cfg(test)]
 mod random;

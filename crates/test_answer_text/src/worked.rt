@@ -1,5 +1,4 @@
 // Answers, each with the text of their value as it is worked out by hand, which both ways give.
-use crate::given::{Listed, Shape, answers_of, bag_type};
 use crate::ways::{by_value, straight};
 use nq_model::{CellRef, List, Memory, Ty, boxed};
 use rows::Rows;
@@ -7,13 +6,7 @@ use sql_profile::Answer;
 use std::alloc::Global;
 use std::process::Abort;
 use std::test::Fail;
-
-// Answers of a bag of such elements, and the text of their value.
-struct Case {
-    element: &'static Shape,
-    answers: &'static [Listed],
-    text: &'static str,
-}
+use test_answers::{Case, Shape, answers_of, bag_type};
 
 const FLAT: Shape = Shape::Rec(&[("a", Shape::Int), ("b", Shape::Bool), ("c", Shape::Text)]);
 

@@ -5,8 +5,6 @@
 #[cfg(test)]
 mod canonical;
 #[cfg(test)]
-mod given;
-#[cfg(test)]
 mod linked;
 #[cfg(test)]
 mod stitched;

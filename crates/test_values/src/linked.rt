@@ -1,8 +1,7 @@
 // Texts of answers, each with the canonical text of their value, or with the first fault.
-use crate::given::{Shape, type_of};
 use crate::stitched::{stitched, text_of};
 use foreign_answers::{links, read_answer};
-use nq_model::{List, Memory, Ty, boxed};
+use nq_model::{List, Ty};
 use reference_stitching::are_answers;
 use shred_types::{columns_at, paths};
 use sql_profile::Answer;
@@ -10,6 +9,7 @@ use std::alloc::Global;
 use std::process::Abort;
 use std::test::Fail;
 use stitcher::FlatNumbers;
+use test_answers::{Shape, bag_type};
 
 // Texts of the answers of a bag of such elements, and what comes of them.
 struct Case {
@@ -225,7 +225,7 @@ fn told(alloc: Global, of: &Ty, texts: &[&str]) -> Result<String, Fail> {
 fn reads_and_links_answers(rt: HostRuntime) -> Result<(), Fail> {
     let alloc = rt.alloc();
     for case in &CASES {
-        let of = Ty::Bag(boxed(alloc, type_of(alloc, case.element)?)?);
+        let of = bag_type(alloc, case.element)?;
         let text = told(alloc, &of, case.texts)?;
         assert_eq!(rt; text.as_str(), case.told);
     }

@@ -1,6 +1,6 @@
 use Rattle.std.proofs.Common.{◌∙◌, sym, arith}
 use Rattle.answer_text.specs.Parts.{value_in}
-use Rattle.answer_text.proofs.Ends.{places_end}
+use Rattle.answer_text.proofs.Placed.{places_end}
 use Rattle.answer_text.proofs.compare.+compare.Goals as goal
 
 pub compare_bags-returns : goal.compare_bags-returns

@@ -1,10 +1,11 @@
 use Rattle.std.proofs.Common.{◌∙◌, sym, arith}
-use Rattle.canon.proofs.Shorter.{elements_end, fields_end}
+use Rattle.nq_model.specs.Values.{nested}
+use Rattle.canon.proofs.Ends.{elements_end, fields_end}
 use Rattle.canon.proofs.order.+compare.Goals as goal
 
 pub compare_bags-returns : goal.compare_bags-returns
 compare_bags-returns t c =
-    c.cmp.ensures ∙ sym (elements_end c.args.elements.now c.args.others.now c.loop-i.i (omega (arith, c.min-i-end.ensures))) ∙ c.loop-i.invariant
+    c.cmp.ensures ∙ sym (elements_end nested c.args.elements.now c.args.others.now c.loop-i.i (omega (arith, c.min-i-end.ensures))) ∙ c.loop-i.invariant
 
 pub compare_fields-returns : goal.compare_fields-returns
 compare_fields-returns t c =

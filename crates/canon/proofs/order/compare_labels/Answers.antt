@@ -1,5 +1,5 @@
 use Rattle.std.proofs.Common.{◌∙◌, sym, arith}
-use Rattle.canon.proofs.Shorter.{labels_end}
+use Rattle.canon.proofs.Ends.{labels_end}
 use Rattle.canon.proofs.order.compare_labels.Goals as goal
 
 pub returns : goal.returns

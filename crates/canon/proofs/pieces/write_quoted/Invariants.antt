@@ -2,7 +2,7 @@ use Rattle.std.proofs.Common.{◌≡◌, ◌++◌, string_bytes, length}
 use denote.Text.{Utf8}
 use denote.Shadow.{shadow}
 use Rattle.nq_model.specs.Canonical.{doubled_quotes}
-use Rattle.answer_text.proofs.write.write_quoted.Given as goal
+use Rattle.canon.proofs.pieces.write_quoted.Given as goal
 
 abbrev pub invariant-loop-before : goal.invariant-loop-before
 invariant-loop-before l =

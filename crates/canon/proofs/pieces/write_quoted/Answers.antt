@@ -1,7 +1,7 @@
 use Rattle.std.proofs.Common.{rules, lit<}
 use Rattle.std.proofs.lemmas.Str.Pattern.{split_parts}
 use Rattle.canon.proofs.Writing.{quote_written, quoted_ends}
-use Rattle.canon.proofs.text.write_quoted.Goals as goal
+use Rattle.canon.proofs.pieces.write_quoted.Goals as goal
 
 pub loop-before-preserved : goal.loop-before-preserved
 loop-before-preserved c =
