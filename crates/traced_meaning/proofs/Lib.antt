@@ -1,0 +1,11 @@
+pub mod Erasing
+pub mod Wrapped
+pub mod RowNames
+pub mod TracedForms
+pub mod Sources
+pub mod Choices
+pub mod Tables
+pub mod Terms
+pub mod NumberedSchemas
+pub mod Whole
+pub mod Examples
