@@ -113,11 +113,11 @@ one_truth true false f g = sym (f refl)
 one_truth false true f g = g refl
 one_truth false false f g = refl
 
-tail_same : {x : ℕ} {xs ys : Label} → x ∷ xs ≡ x ∷ ys → xs ≡ ys
+pub tail_same : {x : ℕ} {xs ys : Label} → x ∷ xs ≡ x ∷ ys → xs ≡ ys
 tail_same e = cc
 
 -- names of numbers, behind the same bytes, are one where the numbers are
-numbered_apart : (f : Label → Label) → ((xs ys : Label) → f xs ≡ f ys → xs ≡ ys) → (j k : ℕ) → bytes_eq (f (number_text j)) (f (number_text k)) ≡ nat_eq j k
+pub numbered_apart : (f : Label → Label) → ((xs ys : Label) → f xs ≡ f ys → xs ≡ ys) → (j k : ℕ) → bytes_eq (f (number_text j)) (f (number_text k)) ≡ nat_eq j k
 numbered_apart f inj j k =
     one_truth (bytes_eq (f (number_text j)) (f (number_text k))) (nat_eq j k)
     (λ e. nat_same j k (number_text_injective j k (inj (number_text j) (number_text k) ((bytes_eq-Decides (f (number_text j)) (f (number_text k))).0 e))))

@@ -231,6 +231,7 @@ module _ (S : List TableShape) where
   -- what is known of a strand, the types of its base parts apart
   pub record StrandFacts (d : StrandTree) : Type 0 where
     pub around : ScopeFacts d.outer_gens d.outer_conds
+    pub inside : ScopeFacts (d.outer_gens ++ d.gens) (both d.outer_conds d.conds)
     pub tables : AreTables S d.gens
     pub differ : Distinct (numbers (d.outer_gens ++ d.gens))
     pub conds_typed : CondsHave S (d.outer_gens ++ d.gens) d.conds
@@ -271,6 +272,7 @@ module _ (S : List TableShape) where
         let d3 : Distinct (seen ++ R) = distinct_sub (sub_append (sub_refl seen) (sub_before G (sub_before C (sub_right B R)))) d in (
           record {
             around = s;
+            inside = inner;
             tables = h.0;
             differ = differ;
             conds_typed = h.1;
@@ -317,6 +319,7 @@ pub record FitScope (gens : List Gen) (conds : Conds) : Type 0 where
 -- the tags and numbers of a strand fit
 pub record FitStrand (d : StrandTree) : Type 0 where
   pub around : FitScope d.outer_gens d.outer_conds
+  pub inside : FitScope (d.outer_gens ++ d.gens) (both d.outer_conds d.conds)
   pub parent : d.parent < 2 ^ 63
   pub tag : d.tag < 2 ^ 63
   pub own_gens : Each IsNumber (numbers d.gens)
@@ -340,7 +343,7 @@ mutual
       let own_conds = each_left IsNumber C (B ++ R) n1 in
       let n2 = each_right IsNumber C (B ++ R) n1 in
       let inner : FitScope (og ++ gens) (both oc conds) = record { gens_fit = subst (Each IsNumber) (sym (numbers_append og gens)) (each_join IsNumber (numbers og) G s.gens_fit own_gens); conds_fit = fit_both oc conds s.conds_fit own_conds } in (
-        record { around = s; parent = b; tag = t.0.1; own_gens = own_gens; own_conds = own_conds; leaves = leaf_numbers IsNumber body (each_left IsNumber B R n2) },
+        record { around = s; inside = inner; parent = b; tag = t.0.1; own_gens = own_gens; own_conds = own_conds; leaves = leaf_numbers IsNumber body (each_left IsNumber B R n2) },
         fit_body u (og ++ gens) (both oc conds) body t.0.1 inner (each_left IsNumber (body_tags body) (comps_tags cs) t.1) (each_left IsNumber B R n2),
         fit_comps p og oc cs b s (each_right IsNumber (body_tags body) (comps_tags cs) t.1) (each_right IsNumber B R n2),
       )

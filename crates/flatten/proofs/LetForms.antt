@@ -66,17 +66,17 @@ module _ (schema : Schema) (form : FormTree) (w : IsWellFormed schema.tables for
   abbrev ps : List (List Step)
   ps = paths (bag a)
 
-  at_levels : map (shred a form.comps) ps ≡ levels a form.comps
+  pub at_levels : map (shred a form.comps) ps ≡ levels a form.comps
   at_levels = shred_levels a form.comps (proper a w.labels_rise) (fits schema form w)
 
   -- what holds of each comprehension of the form holds of the strands at a path
-  level_facts : Each (λ here. Each (λ c. StrandFacts schema.tables (shaped c)) here) (levels a form.comps)
+  pub level_facts : Each (λ here. Each (λ c. StrandFacts schema.tables (shaped c)) here) (levels a form.comps)
   level_facts = levels_all (λ c. StrandFacts schema.tables (shaped c)) a form.comps (form_facts schema.tables form.comps a (distinct (comps_numbers form.comps) w.numbers_differ) w.typed)
 
   level_fits : Each (λ here. Each (λ c. FitStrand (shaped c)) here) (levels a form.comps)
   level_fits = levels_all (λ c. FitStrand (shaped c)) a form.comps (form_fits form.comps w.tags_fit w.numbers_fit)
 
-  level_scopes : Each (λ here. Each (StrandGood (look (all_scopes form.comps)) (all_tags form.comps)) here) (levels a form.comps)
+  pub level_scopes : Each (λ here. Each (StrandGood (look (all_scopes form.comps)) (all_tags form.comps)) here) (levels a form.comps)
   level_scopes = levels_all (StrandGood (look (all_scopes form.comps)) (all_tags form.comps)) a form.comps (strands_good schema.tables a form.comps w.typed (tags_apart schema form w) (distinct (comps_numbers form.comps) w.numbers_differ))
 
   level_types : EachBoth (StrandsTyped schema.tables) (map (element_at (bag a)) ps) (map (shred a form.comps) ps)
@@ -88,7 +88,7 @@ module _ (schema : Schema) (form : FormTree) (w : IsWellFormed schema.tables for
     abbrev here : List PlacedComp
     here = shred a form.comps p
 
-    fine_here : Each (FineStrand schema.tables (element_at (bag a) p)) (strands_at a form.comps p)
+    pub fine_here : Each (FineStrand schema.tables (element_at (bag a) p)) (strands_at a form.comps p)
     fine_here =
         let facts : Each (λ c. StrandFacts schema.tables (shaped c)) here = each_among (λ (l : List PlacedComp). Each (λ c. StrandFacts schema.tables (shaped c)) l) (among_map (shred a form.comps) m) (subst (λ (z : List (List PlacedComp)). Each (λ l. Each (λ c. StrandFacts schema.tables (shaped c)) l) z) (sym at_levels) level_facts) in
         let fits : Each (λ c. FitStrand (shaped c)) here = each_among (λ (l : List PlacedComp). Each (λ c. FitStrand (shaped c)) l) (among_map (shred a form.comps) m) (subst (λ (z : List (List PlacedComp)). Each (λ l. Each (λ c. FitStrand (shaped c)) l) z) (sym at_levels) level_fits) in
@@ -99,7 +99,7 @@ module _ (schema : Schema) (form : FormTree) (w : IsWellFormed schema.tables for
         let fine = each_mapped shaped (λ c. Known c × Typed c) (FineStrand schema.tables (element_at (bag a) p)) (λ c k. record { facts = k.0.0; fit = k.0.1; shape = shape_typed schema.tables (c.outer_gens ++ c.gens) c.body (element_at (bag a) p) k.1 }) here (each_two Known Typed here known types) in
         each_reordered (FineStrand schema.tables (element_at (bag a) p)) (map shaped here) (by_tag (map shaped here)) (reordered_sorted _ (map shaped here)) fine
 
-    around_here : Each (Around (look (all_scopes form.comps))) (strands_at a form.comps p)
+    pub around_here : Each (Around (look (all_scopes form.comps))) (strands_at a form.comps p)
     around_here =
         let good = each_among (λ (l : List PlacedComp). Each (StrandGood (look (all_scopes form.comps)) (all_tags form.comps)) l) (among_map (shred a form.comps) m) (subst (λ (z : List (List PlacedComp)). Each (λ l. Each (StrandGood (look (all_scopes form.comps)) (all_tags form.comps)) l) z) (sym at_levels) level_scopes) in
         let fine = each_mapped shaped (StrandGood (look (all_scopes form.comps)) (all_tags form.comps)) (Around (look (all_scopes form.comps))) (λ c k. k.around) here good in

@@ -239,7 +239,7 @@ module _ (S : List TableShape) (differ : (t : Label) → LabelsDiffer (column_na
         let c = chain f.lets 1 R x (λ j b. new j) h.lets in
         (c.known, c.withs, main_typed c.known c.extends f.element f.lets c.held f.parts h.parts)
 
-schema_extends : (S : List TableShape) → Extends S (shapes_of_schema S)
+pub schema_extends : (S : List TableShape) → Extends S (shapes_of_schema S)
 schema_extends [] t h = absurd (cc)
 schema_extends (s ∷ ss) t h = go (bytes_eq t s.name) h (schema_extends ss t)
   where

@@ -39,7 +39,7 @@ use Rattle.flatten.proofs.WrittenNames.{proper_writable, with_writable, alias_wr
 abbrev pub Fits : ℕ × Label → Type 0
 Fits p = (p.0 < 2 ^ 63) × IsProperName p.1
 
-column_proper : (l : Label) (T : ColumnType) (columns : Columns) → Each IsProperName (names_of columns) → column_type_in l columns ≡ Some T → IsProperName l
+pub column_proper : (l : Label) (T : ColumnType) (columns : Columns) → Each IsProperName (names_of columns) → column_type_in l columns ≡ Some T → IsProperName l
 column_proper l T [] p h = absurd (cc)
 column_proper l T (c ∷ columns) p h = go (bytes_eq l c.0) refl h (column_proper l T columns p.1)
   where
@@ -47,7 +47,7 @@ column_proper l T (c ∷ columns) p h = go (bytes_eq l c.0) refl h (column_prope
     go true e h f = subst IsProperName (sym ((bytes_eq-Decides l c.0).0 e)) p.0
     go false e h f = f h
 
-columns_proper : (S : List TableShape) → Each IsProperShape S → (t : Label) → Each IsProperName (names_of (table_columns S t))
+pub columns_proper : (S : List TableShape) → Each IsProperShape S → (t : Label) → Each IsProperName (names_of (table_columns S t))
 columns_proper [] p t = tt
 columns_proper (s ∷ ss) p t = go (bytes_eq t s.name) (columns_proper ss p.1 t)
   where
@@ -68,7 +68,7 @@ literal_spelled (cell.Int n) h = (h.digits, h.value, h.small)
 literal_spelled (cell.Bool b) h = tt
 literal_spelled (cell.Text t) h = tt
 
-column_spelled : (outer : ℕ → Bool) (p : ℕ × Label) → Fits p → IsSpellableExpr (column_expr outer p.0 p.1)
+pub column_spelled : (outer : ℕ → Bool) (p : ℕ × Label) → Fits p → IsSpellableExpr (column_expr outer p.0 p.1)
 column_spelled outer p f = go (outer p.0)
   where
     go : (o : Bool) → IsSpellableExpr (cond o (ExprTree.column let_alias (outer_column p.0 p.1)) (ExprTree.column (alias p.0) p.1))
@@ -104,7 +104,7 @@ zeros_spelled (Text ∷ ts) = (tt, zeros_spelled ts)
 
 module _ (S : List TableShape) (proper : Each IsProperShape S) where
   -- the columns that have a type in the scope fit
-  abbrev ScopeFits : List Gen → Type 0
+  abbrev pub ScopeFits : List Gen → Type 0
   ScopeFits sc = (g : ℕ) (l : Label) (T : ColumnType) → column_type_in l (gen_columns S sc g) ≡ Some T → Fits (g, l)
 
   fits_more : (gens sc : List Gen) → Each IsNumber (numbers gens) → ScopeFits sc → ScopeFits (gens ++ sc)
@@ -115,7 +115,7 @@ module _ (S : List TableShape) (proper : Each IsProperShape S) where
       go true e h f = (subst (λ z. z < 2 ^ 63) (sym ((Decides-eqb g k.number).0 e)) n.0.1, column_proper l T (table_columns S k.table) (columns_proper S proper k.table) h)
       go false e h f = f h
 
-  fits_all : (gens : List Gen) → Each IsNumber (numbers gens) → ScopeFits gens
+  pub fits_all : (gens : List Gen) → Each IsNumber (numbers gens) → ScopeFits gens
   fits_all gens n = subst ScopeFits (append-nil gens) (fits_more gens [] n (λ g l T h. absurd (cc)))
 
   columns_fit : (gens : List Gen) → Each IsNumber (numbers gens) → Each Fits (columns_in (column_names S) gens)
@@ -126,13 +126,13 @@ module _ (S : List TableShape) (proper : Each IsProperShape S) where
       own [] p = tt
       own (c ∷ cs) p = ((n.0.1, p.0), own cs p.1)
 
-  sources_spelled : (gens : List Gen) → AreTables S gens → Each IsNumber (numbers gens) → Each HasWritableNames (map source_of gens)
+  pub sources_spelled : (gens : List Gen) → AreTables S gens → Each IsNumber (numbers gens) → Each HasWritableNames (map source_of gens)
   sources_spelled [] t n = tt
   sources_spelled (g ∷ gens) t n = ((proper_writable g.table (name_proper S proper g.table t.0), alias_writable g.number n.0.1), sources_spelled gens t.1 n.1)
 
   module _ (outer : ℕ → Bool) where
     mutual
-      base_spelled : (sc : List Gen) (b : BaseTree) (T : ColumnType) → ScopeFits sc → BaseHas S sc b T → Each IsNumber (base_numbers b) → IsSpellableExpr (base_expr outer b)
+      pub base_spelled : (sc : List Gen) (b : BaseTree) (T : ColumnType) → ScopeFits sc → BaseHas S sc b T → Each IsNumber (base_numbers b) → IsSpellableExpr (base_expr outer b)
       base_spelled sc (literal c) T f h n = literal_spelled c h.1
       base_spelled sc (column g l) T f h n = column_spelled outer (g, l) (f g l T h)
       base_spelled sc (unary o b) T f h n = base_spelled sc b h.0 f h.1 n
@@ -155,7 +155,7 @@ module _ (S : List TableShape) (proper : Each IsProperShape S) where
           let inner = fits_more gens sc own f in
           (sources_spelled gens h.1 own, keep_spelled (gens ++ sc) conds inner h.2 (each_left IsNumber (conds_numbers conds) (base_numbers b) r), base_spelled (gens ++ sc) b Int inner h.3 (each_right IsNumber (conds_numbers conds) (base_numbers b) r))
 
-      keep_spelled : (sc : List Gen) (bs : Conds) → ScopeFits sc → CondsHave S sc bs → Each IsNumber (conds_numbers bs) → IsSpellableKeep (conds_keep outer bs)
+      pub keep_spelled : (sc : List Gen) (bs : Conds) → ScopeFits sc → CondsHave S sc bs → Each IsNumber (conds_numbers bs) → IsSpellableKeep (conds_keep outer bs)
       keep_spelled sc no_cond f h n = tt
       keep_spelled sc (and_cond b bs) f h n = joined_spelled sc (base_expr outer b) bs f (base_spelled sc b Truth f h.0 (each_left IsNumber (base_numbers b) (conds_numbers bs) n)) h.1 (each_right IsNumber (base_numbers b) (conds_numbers bs) n)
 

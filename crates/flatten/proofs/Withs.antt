@@ -54,7 +54,7 @@ inner_gens [] = tt
 inner_gens (g ∷ gens) = (refl, inner_gens gens)
 
 mutual
-  inner_all : (b : BaseTree) → Inner none_outer b
+  pub inner_all : (b : BaseTree) → Inner none_outer b
   inner_all (literal c) = tt
   inner_all (column g l) = tt
   inner_all (unary f b) = inner_all b

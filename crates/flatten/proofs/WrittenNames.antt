@@ -11,7 +11,7 @@ use Rattle.sql_profile.specs.WritableNames.{IsWritableName}
 use Rattle.flatten.specs.Names.{number_text, with_name, let_alias, alias, outer_column, number_name, answer_name, one_name}
 use Rattle.flatten.proofs.Apart.{number_text_above}
 
-abbrev Plain : Label → Type 0
+abbrev pub Plain : Label → Type 0
 Plain l = Contains l 34 → ⊥
 
 plain_digits : (xs : Label) → Each (λ c. 48 ≤ c) xs → Plain xs
@@ -19,7 +19,7 @@ plain_digits [] h (k, within, is) = absurd (omega (arith, within))
 plain_digits (x ∷ xs) h (zero, within, is) = let e : x ≡ 34 = is in absurd (omega (arith, e, h.0))
 plain_digits (x ∷ xs) h (suc k, within, is) = plain_digits xs h.1 (k, omega (arith, within), is)
 
-plain_cons : (c : ℕ) (xs : Label) → c ≢ 34 → Plain xs → Plain (c ∷ xs)
+pub plain_cons : (c : ℕ) (xs : Label) → c ≢ 34 → Plain xs → Plain (c ∷ xs)
 plain_cons c xs other h (zero, within, is) = absurd (other is)
 plain_cons c xs other h (suc k, within, is) = h (k, omega (arith, within), is)
 
@@ -29,10 +29,10 @@ plain_none (k, within, is) = absurd (omega (arith, within))
 plain_append : (xs ys : Label) → Plain xs → Plain ys → Plain (xs ++ ys)
 plain_append xs ys h k m = ⊎_elim (λ a. h a) (λ b. k b) (Contains-append_cases xs ys 34 m)
 
-number_plain : (k : ℕ) → Plain (number_text k)
+pub number_plain : (k : ℕ) → Plain (number_text k)
 number_plain k = plain_digits (number_text k) (number_text_above k)
 
-number_short : (k : ℕ) → k < 2 ^ 63 → length (number_text k) ≤ 19
+pub number_short : (k : ℕ) → k < 2 ^ 63 → length (number_text k) ≤ 19
 number_short zero h = omega arith
 number_short (suc k) h =
     let few : length (digits_of 10 (suc k)) ≤ 19 = length-digits_of-le 10 19 (suc k) (omega arith) (omega (arith, h)) in

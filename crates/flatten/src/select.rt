@@ -19,7 +19,7 @@ use std::alloc::Global;
 
 /// How many levels an expression has at most. The stack is memory, so a deeper one is want of
 /// memory.
-const DEEPEST: u64 = 2_000;
+pub(crate) const DEEPEST: u64 = 2_000;
 
 // The let with a number, from 1, if there is one.
 #[tactic(auto, using(crate::proofs::Lists::let_found, crate::proofs::Lists::let_missing))]

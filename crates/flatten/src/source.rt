@@ -9,8 +9,8 @@ use nq_model::{List, Memory};
 use sql_profile::Source;
 use std::alloc::Global;
 
-/// A source for each generator, under its alias.
-pub(crate) fn sources(alloc: Global, gens: &[Gen]) -> Result<List<Source>, Memory>
+/// A source for each generator, under its alias. Fails only if memory runs out.
+pub fn sources(alloc: Global, gens: &[Gen]) -> Result<List<Source>, Memory>
     ensures { IfOk result (λ made. map bare_source made ≡ map source_of gens.now) }
 {
     let mut sources = List::with_capacity(alloc, gens.len())?;
