@@ -1,0 +1,5 @@
+pub mod KeyColumns
+pub mod HomesMore
+pub mod LayoutFacts
+pub mod MoreParts
+pub mod Repeats
