@@ -6,21 +6,18 @@ use Rattle.std.specs.Ordering.{is_lt, int_cmp, ordering_then, ordering_reverse}
 use Rattle.std.specs.declared.cmp.Ordering.{Ordering}
 use Rattle.std.specs.declared.cmp.Ordering.TheVariants.{Less, Equal, Greater}
 use Rattle.std.specs.Cmp.{IsTotalOrder, then_total, on_total, int_cmp_total}
-use Rattle.std.proofs.lemmas.List.{get_or-take, get_or-drop, length-drop}
+use Rattle.std.proofs.lemmas.List.{get_or-take, get_or-drop}
 use Rattle.std.proofs.lemmas.List.Sorted.{sorted_far, ranks_by}
-use Rattle.indexmap.specs.IndexMap.{IndexMap}
 use Rattle.nq_model.specs.Operators.{int_of}
 use Rattle.nq_model.specs.declared.table.Cell.{Cell}
 use Rattle.nq_model.specs.declared.table.Cell.TheVariants as cell
 use Rattle.nq_model.proofs.Canonical.{cell_order}
 use Rattle.rows.specs.Places.{row_at}
 use Rattle.answer_text.specs.Indexes.{index_cmp, is_index}
-use Rattle.answer_text.specs.Members.{member, member_cmp}
-use Rattle.answer_text.specs.Spans.{index_of, AreSpanned, HasOneMore}
-use Rattle.answer_text.specs.declared.part.Part.{Part}
-use Rattle.answer_text.proofs.Spanning.{same_index, index_itself, take_split, filter_both, filter_no, each_also, run_each, run_spanned}
+use Rattle.answer_text.specs.Spans.{index_of}
+use Rattle.answer_text.proofs.Spanning.{same_index, index_itself, take_split, filter_both, filter_no, each_also, run_each}
 
-index_total : IsTotalOrder index_cmp
+pub index_total : IsTotalOrder index_cmp
 index_total = then_total (on_total (λ (i : ℤ × ℤ). i.0) int_cmp_total) (on_total (λ (i : ℤ × ℤ). i.1) int_cmp_total)
 
 int_tie : (a b : ℤ) → int_cmp a b ≡ Equal → a ≡ b
@@ -40,16 +37,6 @@ neither : (r s : Ordering) → s ≡ ordering_reverse r → is_lt r ≡ false �
 neither Less s e h k = absurd (true≢false h)
 neither Equal s e h k = refl
 neither Greater s e h k = absurd (true≢false (sym (ap is_lt e) ∙ k))
-
--- the first of two comparisons does not say that one is below the other, if both together do not
-first_not : (r s : Ordering) → is_lt (ordering_then r s) ≡ false → is_lt r ≡ false
-first_not Less s h = h
-first_not Equal s h = refl
-first_not Greater s h = refl
-
--- members in order stand in the order of their indexes
-pub indexes_sorted : (element : Part) (rows : List (List Cell)) (places : List ℕ) → IsSortedByKey (λ p. member element (row_at rows p)) member_cmp places → IsSortedByKey (index_of rows) index_cmp places
-indexes_sorted element rows places up k d low below = first_not _ _ (up k d low below)
 
 each_place : (P : ℕ → Type 0) (xs : List ℕ) → ((k : ℕ) → k < length xs → P (get_or xs k 0)) → Each P xs
 each_place P [] h = tt
@@ -93,19 +80,3 @@ module _ (rows : List (List Cell)) (places : List ℕ) where
         let pass : ℕ → Bool = λ p. is_index (index_of rows p) next in
         ap (filter pass) (take_split places start (end - start) end (omega (arith, e))) ∙ filter_both pass (take start places) (slice_range places start end)
         ∙ ap₂ (λ (xs ys : List ℕ). xs ++ ys) (filter_no pass (take start places) before) (filter_no pass (slice_range places start end) within)
-
--- one run more, in the words of the code
-pub run_step : {S : Type 0} (rows : List (List Cell)) (places rest : List ℕ) (spans more : IndexMap (ℤ × ℤ) (ℕ × ℕ) S) (start run : ℕ) (index : ℤ × ℤ)
-    → start < length places → rest ≡ drop (start + 1) places → run ≤ length rest → index ≡ index_of rows (get_or places start 0)
-    → All (λ p. is_index (index_of rows p) index ≡ true) (take run rest) → (run < length rest → is_index (index_of rows (get_or rest run 0)) index ≡ false)
-    → HasOneMore spans more index (start, start + 1 + run) → IsSortedByKey (index_of rows) index_cmp places → AreSpanned rows places spans start → IsFresh rows places start
-    → (start + 1 + run ≤ length places) × AreSpanned rows places more (start + 1 + run) × IsFresh rows places (start + 1 + run)
-run_step rows places rest spans more start run index here rest_is low own all ends put up so_far fresh =
-    let long : length rest ≡ length places - (start + 1) = ap length rest_is ∙ length-drop (start + 1) places in
-    let run_all : All (λ p. is_index (index_of rows p) index ≡ true) (take run (drop (start + 1) places)) = subst (λ (l : List ℕ). All (λ p. is_index (index_of rows p) index ≡ true) (take run l)) rest_is all in
-    let next_is : get_or rest run 0 ≡ get_or places (start + 1 + run) 0 = ap (λ (l : List ℕ). get_or l run 0) rest_is ∙ get_or-drop (start + 1) places run 0 in
-    let new : filter (λ p. is_index (index_of rows p) index) (take start places) ≡ [] = subst (λ (k : ℤ × ℤ). filter (λ p. is_index (index_of rows p) k) (take start places) ≡ []) (sym own) (fresh here) in (
-      omega (arith, low, long, here),
-      run_spanned rows places spans more start run (start + 1 + run) index here refl own run_all put new so_far,
-      next_fresh rows places up start run (start + 1 + run) index here refl own run_all (λ below. ap (λ (p : ℕ). is_index (index_of rows p) index) (sym next_is) ∙ ends (omega (arith, below, long))),
-    )

@@ -2,7 +2,8 @@ pub mod PartValues
 pub mod Placed
 pub mod Spanning
 pub mod Fresh
+pub mod Listing
+pub mod Running
 pub mod Grouping
 pub mod Building
 pub mod Stitched
-pub mod Moved

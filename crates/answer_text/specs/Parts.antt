@@ -12,7 +12,7 @@ use Rattle.answer_text.specs.declared.part.Part.TheOpen.{Part-F}
 
 -- the places of the rows of the bag under an index, in its order
 abbrev pub places_under : Groups → ℤ × ℤ → List ℕ
-places_under groups i = spanned groups.spans groups.places i
+places_under groups i = spanned groups.runs.spans groups.runs.places i
 
 -- the value of a part in a row: a cell; a record of parts; or the bag under the index that stands
 -- there, of which each row in the group is an element

@@ -1,58 +1,92 @@
-// How long texts are, at most, so that one buffer is asked for once and never moves while it grows.
-// Were a size too small, the text would grow all the same.
+// How long texts are, so that one buffer is asked for once and does not move while it grows. Were a
+// size too small, as where many quotes are doubled or rows stand in several bags, the text would grow
+// all the same.
 use crate::part::Part;
-use crate::read::{cell_at, index_at};
-use nq_model::{CellRef, Label};
+use nq_model::{CellRef, Label, Memory};
 use rows::Rows;
+use std::alloc::Global;
 
 // The longest text of an integer or a truth value: `-9223372036854775808`.
 const NUMBER_SIZE: usize = 20;
 
-// How many bytes a cell is written with.
+// How many bytes a cell is written with, if no quote is doubled.
 fn cell_size(cell: &CellRef<'_>) -> usize {
     match cell {
         CellRef::Int(_) | CellRef::Bool(_) => NUMBER_SIZE,
-        CellRef::Text(text) => {
-            let bytes = text.as_bytes();
-            let quotes = bytes.iter().filter(|byte| **byte == b'\'').count();
-            bytes.len().saturating_add(quotes).saturating_add(2)
-        }
+        CellRef::Text(text) => text.len().saturating_add(2),
     }
 }
 
-// How many bytes the value of a part in a row is written with.
+// How many bytes the cells of a column are written with.
+fn column_size(rows: &Rows, column: usize) -> usize {
+    let mut size = 0usize;
+    for row in 0..rows.len() {
+        if column < rows.width(row) {
+            size = size.saturating_add(cell_size(&rows.cell(row, column)));
+        }
+    }
+    size
+}
+
+// How many bytes stand round the cells of each element, of which the columns are put at the end: `, `
+// behind it, labels, ` = `, `, `, parentheses and braces.
 #[cycle(size)]
-fn part_size(part: &Part, rows: &Rows, row: usize) -> usize {
+fn size_around(part: &Part, columns: &mut Vec<usize>) -> Result<usize, Memory> {
     match part {
-        Part::Cell(column) => cell_size(&cell_at(rows, row, *column)),
-        Part::Record(fields) => fields_size(fields.as_slice(), rows, row),
-        Part::Bag(column, groups, element) => {
-            let places = groups.places_under(index_at(rows, row, *column));
-            bag_size(element, &groups.rows, places)
+        Part::Cell(column) => {
+            columns.push(*column)?;
+            Ok(2)
         }
+        Part::Record(fields) => size_around_fields(fields.as_slice(), columns),
+        Part::Bag(_, _, _) => Ok(4),
     }
 }
 
-// The same of a record: its parentheses, and each field with its label, ` = ` and `, `.
 #[cycle(size)]
-fn fields_size(fields: &[(Label, Part)], rows: &Rows, row: usize) -> usize {
-    let mut size = 2usize;
+fn size_around_fields(fields: &[(Label, Part)], columns: &mut Vec<usize>) -> Result<usize, Memory> {
+    let mut size = 4usize;
     for field in fields {
-        let around = field.0.as_str().len().saturating_add(5);
-        let value = part_size(&field.1, rows, row);
-        size = size.saturating_add(around).saturating_add(value);
+        let label = field.0.as_str().len().saturating_add(3);
+        let value = size_around(&field.1, columns)?;
+        size = size.saturating_add(label).saturating_add(value);
     }
-    size
+    Ok(size)
 }
 
-/// How many bytes the bag of the elements that the rows at these places are is written with: its
-/// braces, and each element with `, `.
-#[cycle(size)]
-pub(crate) fn bag_size(element: &Part, rows: &Rows, places: &[u32]) -> usize {
-    let mut size = 2usize;
-    for place in places {
-        let value = part_size(element, rows, *place as usize);
-        size = size.saturating_add(value).saturating_add(2);
+// How many bytes the elements that the rows are are written with, without what stands in their bags.
+fn elements_size(alloc: Global, element: &Part, rows: &Rows) -> Result<usize, Memory> {
+    let mut columns = Vec::new(alloc);
+    let around = size_around(element, &mut columns)?;
+    let mut size = around.saturating_mul(rows.len());
+    for column in &columns {
+        size = size.saturating_add(column_size(rows, *column));
     }
-    size
+    Ok(size)
+}
+
+// How many bytes the elements of the bags in a part are written with.
+#[cycle(bags)]
+fn bags_size(alloc: Global, part: &Part) -> Result<usize, Memory> {
+    match part {
+        Part::Cell(_) => Ok(0),
+        Part::Record(fields) => fields_size(alloc, fields.as_slice()),
+        Part::Bag(_, groups, element) => rows_size(alloc, element, &groups.rows),
+    }
+}
+
+#[cycle(bags)]
+fn fields_size(alloc: Global, fields: &[(Label, Part)]) -> Result<usize, Memory> {
+    let mut size = 0usize;
+    for field in fields {
+        size = size.saturating_add(bags_size(alloc, &field.1)?);
+    }
+    Ok(size)
+}
+
+/// How many bytes the elements that the rows are are written with, if each stands in one bag.
+#[cycle(bags)]
+pub(crate) fn rows_size(alloc: Global, element: &Part, rows: &Rows) -> Result<usize, Memory> {
+    let own = elements_size(alloc, element, rows)?;
+    let inner = bags_size(alloc, element)?;
+    Ok(own.saturating_add(inner))
 }

@@ -11,7 +11,7 @@ ghost use Rattle.answer_text.specs.Building.{rows_left};
 ghost use Rattle.answer_text.specs.Elements.{bag_value};
 
 use crate::build::{Bags, bags_of};
-use crate::size::bag_size;
+use crate::size::rows_size;
 use crate::write::write_bag;
 use nq_model::{List, Memory, Ty};
 use sql_profile::Answer;
@@ -36,8 +36,10 @@ fn bag_text(alloc: Global, of: &Ty, answers: List<Answer>) -> Result<List<u8>, M
     let mut left = reversed(answers);
     let Bags { groups, element } = bags_of(alloc, of, &mut left)?;
     let places = groups.places_under((0, 1));
-    let size = bag_size(&element, &groups.rows, places).saturating_add(1);
-    let mut text = String::with_capacity(alloc, size)?;
+    let size = rows_size(alloc, &element, &groups.rows)?;
+    // Some room more, for quotes that are doubled and for what stands round all.
+    let room = size.saturating_add(size / 32).saturating_add(16);
+    let mut text = String::with_capacity(alloc, room)?;
     write_bag(&mut text, &element, &groups.rows, places)?;
     text.push_str("\n")?;
     Ok(List::from_vec(text.into_bytes()))
