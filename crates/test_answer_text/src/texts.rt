@@ -6,7 +6,7 @@ use sql_profile::Answer;
 use std::alloc::Global;
 use std::process::Abort;
 use std::test::Fail;
-use test_answers::{CASES, Case, Shape, answers_of, bag_type, children};
+use test_answers::{CASES, Case, Shape, answers_of, children, type_of};
 
 const STAFF: Shape = Shape::Rec(&[("d", Shape::Text), ("es", Shape::Bag(&Shape::Text))]);
 
@@ -72,7 +72,7 @@ const MORE_CASES: [Case; 6] = [
 
 // Compares the text of the answers with that of the case.
 fn check(rt: &impl Abort, alloc: Global, case: &Case) -> Result<(), Fail> {
-    let of = bag_type(alloc, case.element)?;
+    let of = Ty::Bag(boxed(alloc, type_of(alloc, case.element)?)?);
     let text = answer_text(alloc, &of, answers_of(alloc, case.answers)?)?;
     let told = String::from_utf8_lossy(alloc, text.as_slice())?;
     assert_eq!(rt; told.as_str(), case.text);
@@ -158,7 +158,7 @@ fn told_of(alloc: Global, count: i64) -> Result<String, Fail> {
 #[test]
 fn many_parents_with_one_child_each(rt: HostRuntime) -> Result<(), Fail> {
     let alloc = rt.alloc();
-    let of = bag_type(alloc, &NUMBERED)?;
+    let of = Ty::Bag(boxed(alloc, type_of(alloc, &NUMBERED)?)?);
     let mut answers = List::new(alloc);
     answers.push(parents(alloc, 100_000)?)?;
     answers.push(children(alloc, 100_000)?)?;
