@@ -1,4 +1,5 @@
--- The text of rows: how many they are, and a line for each, in the order of their cells from the left.
+-- The text of rows: how many they are, and a line for each, in the order of their cells from the
+-- left.
 use Rattle.std.specs.Prelude.{ℕ, zero, suc, List, [], ◌++◌, codes, decimal, length, map}
 use Rattle.std.specs.List.{flat_map, join_with_byte}
 use Rattle.std.specs.Cmp.Lexicographic.{slice_cmp}
@@ -27,4 +28,5 @@ bar (suc place) = codes "|"
 
 -- `rows K`, and a line for each row, in order
 unfoldable pub rows_text : List (List Cell) → List ℕ
-rows_text rows = codes "rows " ++ (decimal (length rows) ++ (codes "\n" ++ flat_map row_line (sorted_rows rows)))
+rows_text rows = codes "rows " ++ (decimal (length rows)
+    ++ (codes "\n" ++ flat_map row_line (sorted_rows rows)))

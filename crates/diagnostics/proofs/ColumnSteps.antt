@@ -14,17 +14,20 @@ no_text bytes refused = by (is_utf8 bytes) refl
     by false e = refl
 
 -- the columns behind some bytes are those of the rest
-behind : (count : ℕ) (bytes : List ℕ) → columns_behind count bytes ≡ columns_behind 0 (drop count bytes)
+behind : (count : ℕ) (bytes : List ℕ) → columns_behind count bytes
+    ≡ columns_behind 0 (drop count bytes)
 behind zero bytes = refl
 behind (suc count) [] = refl
 behind (suc count) (byte ∷ bytes) = behind count bytes
 
 -- the length of a column, by whether one, two, three and four bytes are UTF-8
 abbrev pub chosen : Bool → Bool → Bool → Bool → ℕ
-chosen one two three four = if one then 1 else if two then 2 else if three then 3 else if four then 4 else 1
+chosen one two three four
+    = if one then 1 else if two then 2 else if three then 3 else if four then 4 else 1
 
 -- a column has a byte, and no more than there are
-pub column_fits : (bytes : List ℕ) → 0 < length bytes → (0 < column_len bytes) × (column_len bytes ≤ length bytes)
+pub column_fits : (bytes : List ℕ) → 0 < length bytes → (0 < column_len bytes)
+    × (column_len bytes ≤ length bytes)
 column_fits [] h = absurd (omega arith)
 column_fits (a ∷ []) h = by (is_utf8 (a ∷ []))
   where
@@ -37,38 +40,46 @@ column_fits (a ∷ b ∷ []) h = by (is_utf8 (a ∷ [])) (is_utf8 (a ∷ b ∷ [
     by true t = (omega arith, omega arith)
     by false true = (omega arith, omega arith)
     by false false = (omega arith, omega arith)
-column_fits (a ∷ b ∷ c ∷ []) h = by (is_utf8 (a ∷ [])) (is_utf8 (a ∷ b ∷ [])) (is_utf8 (a ∷ b ∷ c ∷ []))
+column_fits (a ∷ b ∷ c ∷ []) h = by (is_utf8 (a ∷ [])) (is_utf8 (a ∷ b ∷ []))
+    (is_utf8 (a ∷ b ∷ c ∷ []))
   where
     by : (s t u : Bool) → (0 < chosen s t u u) × (chosen s t u u ≤ 3)
     by true t u = (omega arith, omega arith)
     by false true u = (omega arith, omega arith)
     by false false true = (omega arith, omega arith)
     by false false false = (omega arith, omega arith)
-column_fits (a ∷ b ∷ c ∷ d ∷ rest) h = by (is_utf8 (a ∷ [])) (is_utf8 (a ∷ b ∷ [])) (is_utf8 (a ∷ b ∷ c ∷ [])) (is_utf8 (a ∷ b ∷ c ∷ d ∷ []))
+column_fits (a ∷ b ∷ c ∷ d ∷ rest) h = by (is_utf8 (a ∷ [])) (is_utf8 (a ∷ b ∷ []))
+    (is_utf8 (a ∷ b ∷ c ∷ [])) (is_utf8 (a ∷ b ∷ c ∷ d ∷ []))
   where
-    by : (s t u v : Bool) → (0 < chosen s t u v) × (chosen s t u v ≤ suc (suc (suc (suc (length rest)))))
+    by : (s t u v : Bool) → (0 < chosen s t u v) × (chosen s t u v ≤ suc
+        (suc (suc (suc (length rest)))))
     by true t u v = (omega arith, omega arith)
     by false true u v = (omega arith, omega arith)
     by false false true v = (omega arith, omega arith)
     by false false false true = (omega arith, omega arith)
     by false false false false = (omega arith, omega arith)
 
-split : (byte : ℕ) (bytes : List ℕ) (count : ℕ) → 0 < count → columns_behind (count - 1) bytes ≡ columns_behind 0 (drop count (byte ∷ bytes))
+split : (byte : ℕ) (bytes : List ℕ) (count : ℕ) → 0 < count → columns_behind (count - 1) bytes
+    ≡ columns_behind 0 (drop count (byte ∷ bytes))
 split byte bytes zero h = absurd (omega arith)
 split byte bytes (suc count) h = let e : suc count - 1 ≡ count = omega arith in ap (λ n. columns_behind n bytes) e ∙ behind count bytes
 
 -- the first column, and the columns of what is behind it
-pub columns_split : (bytes : List ℕ) → 0 < length bytes → columns bytes ≡ take (column_len bytes) bytes ∷ columns (drop (column_len bytes) bytes)
+pub columns_split : (bytes : List ℕ) → 0 < length bytes → columns bytes
+    ≡ take (column_len bytes) bytes ∷ columns (drop (column_len bytes) bytes)
 unfolding columns
 columns_split [] h = absurd (omega arith)
 columns_split (byte ∷ bytes) h =
-    ap (λ rest. take (column_len (byte ∷ bytes)) (byte ∷ bytes) ∷ rest) (split byte bytes (column_len (byte ∷ bytes)) (column_fits (byte ∷ bytes) h).0)
+    ap (λ rest. take (column_len (byte ∷ bytes)) (byte ∷ bytes) ∷ rest)
+    (split byte bytes (column_len (byte ∷ bytes)) (column_fits (byte ∷ bytes) h).0)
 
 -- the same, as the code finds them
-pub split_is : (bytes front back : List ℕ) (count : ℕ) → 0 < length bytes → count ≡ column_len bytes → front ≡ take count bytes → back ≡ drop count bytes
+pub split_is : (bytes front back : List ℕ) (count : ℕ) → 0 < length bytes → count ≡ column_len bytes
+    → front ≡ take count bytes → back ≡ drop count bytes
     → columns bytes ≡ front ∷ columns back
 split_is bytes front back count h c f b =
-    columns_split bytes h ∙ ap (λ n. take n bytes ∷ columns (drop n bytes)) (sym c) ∙ ap₂ (λ (x y : List ℕ). x ∷ columns y) (sym f) (sym b)
+    columns_split bytes h ∙ ap (λ n. take n bytes ∷ columns (drop n bytes)) (sym c)
+    ∙ ap₂ (λ (x y : List ℕ). x ∷ columns y) (sym f) (sym b)
 
 pub column_some : (bytes : List ℕ) → 0 < length bytes → 0 < column_len bytes
 column_some bytes h = (column_fits bytes h).0
@@ -84,8 +95,10 @@ unfolding columns
 no_columns [] h = refl
 no_columns (byte ∷ bytes) h = absurd (omega (arith, h))
 
-pub none_left : (bytes : List ℕ) (count : ℕ) → length bytes ≡ 0 → drop count (columns bytes) ≡ columns bytes
-none_left bytes count h = ap (drop count) (no_columns bytes h) ∙ none count ∙ sym (no_columns bytes h)
+pub none_left : (bytes : List ℕ) (count : ℕ) → length bytes ≡ 0 → drop count (columns bytes)
+    ≡ columns bytes
+none_left bytes count h = ap (drop count) (no_columns bytes h) ∙ none count
+    ∙ sym (no_columns bytes h)
   where
     none : (n : ℕ) → drop {A = List ℕ} n [] ≡ []
     none zero = refl
@@ -95,21 +108,27 @@ one_less : (count at : ℕ) → at < count → count - at ≡ suc (count - (at +
 one_less count at h = omega arith
 
 -- a column more is left out
-pub skip_one : (rest column behind : List ℕ) (count at : ℕ) → at < count → columns rest ≡ column ∷ columns behind
+pub skip_one : (rest column behind : List ℕ) (count at : ℕ) → at < count → columns rest ≡ column
+    ∷ columns behind
     → drop (count - at) (columns rest) ≡ drop (count - (at + 1)) (columns behind)
-skip_one rest column behind count at h e = ap₂ (λ n (cs : List (List ℕ)). drop n cs) (one_less count at h) e
+skip_one rest column behind count at h e = ap₂ (λ n (cs : List (List ℕ)). drop n cs)
+    (one_less count at h) e
 
 -- where there is no column, none is shown
-pub none_shown : (text rest : List ℕ) (count : ℕ) → length rest ≡ 0 → text ++ shown_line (take count (columns rest)) ≡ text
-none_shown text rest count h = ap (λ (cs : List (List ℕ)). text ++ shown_line (take count cs)) (no_columns rest h) ∙ none count
+pub none_shown : (text rest : List ℕ) (count : ℕ) → length rest ≡ 0 → text
+    ++ shown_line (take count (columns rest)) ≡ text
+none_shown text rest count h = ap (λ (cs : List (List ℕ)). text ++ shown_line (take count cs))
+    (no_columns rest h) ∙ none count
   where
     none : (n : ℕ) → text ++ shown_line (take n []) ≡ text
     none zero = append-nil text
     none (suc n) = append-nil text
 
 -- a column more is shown
-pub show_one : (old new rest column behind : List ℕ) (count at : ℕ) → at < count → columns rest ≡ column ∷ columns behind → new ≡ old ++ shown column
-    → new ++ shown_line (take (count - (at + 1)) (columns behind)) ≡ old ++ shown_line (take (count - at) (columns rest))
+pub show_one : (old new rest column behind : List ℕ) (count at : ℕ) → at < count → columns rest
+    ≡ column ∷ columns behind → new ≡ old ++ shown column
+    → new ++ shown_line (take (count - (at + 1)) (columns behind)) ≡ old
+    ++ shown_line (take (count - at) (columns rest))
 show_one old new rest column behind count at h e put =
     let left = take (count - (at + 1)) (columns behind) in
     ap (λ (t : List ℕ). t ++ shown_line left) put

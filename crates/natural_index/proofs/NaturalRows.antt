@@ -19,7 +19,8 @@ abbrev mutual
 
   pub shapes_cells : Tables → List Cell → Shapes → Env → List Cell
   shapes_cells ts index no_shape e = []
-  shapes_cells ts index (with_shape l s fs) e = shape_cells ts index s e ++ shapes_cells ts index fs e
+  shapes_cells ts index (with_shape l s fs) e = shape_cells ts index s e
+      ++ shapes_cells ts index fs e
 
 -- the tag of a comprehension and its key cells
 abbrev pub inner_cells : List TableShape → Layout → StrandTree → Env → List Cell
@@ -28,12 +29,15 @@ inner_cells S inner d e = cell.Int (pos d.tag) ∷ index_cells inner (scope_key 
 -- the row of a comprehension at a choice: the index of the bag around, and the element
 abbrev pub natural_row : List TableShape → Tables → Layout → Layout → StrandTree → Env → List Cell
 natural_row S ts outer inner d e =
-    cell.Int (pos d.parent) ∷ (index_cells outer (key_columns S d.outer_gens) e ++ shape_cells ts (inner_cells S inner d e) d.shape e)
+    cell.Int (pos d.parent) ∷ (index_cells outer (key_columns S d.outer_gens) e
+    ++ shape_cells ts (inner_cells S inner d e) d.shape e)
 
 -- the choices that all conditions in scope keep
 abbrev pub scope_choices : Tables → StrandTree → List Env
 scope_choices ts d = kept ts (d.outer_gens ++ d.gens) (both d.outer_conds d.conds) []
 
 -- the rows of comprehensions
-abbrev pub natural_rows : List TableShape → Tables → Layout → Layout → List StrandTree → List (List Cell)
-natural_rows S ts outer inner ds = flat_map (λ d. map (natural_row S ts outer inner d) (scope_choices ts d)) ds
+abbrev pub natural_rows : List TableShape → Tables → Layout → Layout → List StrandTree
+    → List (List Cell)
+natural_rows S ts outer inner ds = flat_map (λ d. map (natural_row S ts outer inner d)
+    (scope_choices ts d)) ds

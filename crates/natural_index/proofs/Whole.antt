@@ -25,15 +25,18 @@ counted k zero m = elim m [ ]
 counted k (suc n) first = omega arith
 counted k (suc n) (later m) = let h = counted (suc k) n m in omega (arith, h)
 
-both_mapped : {A B : Type 0} (P : A → B → Type 0) (f : A → B) (xs : List A) → ((x : A) → Among x xs → P x (f x)) → EachBoth P xs (map f xs)
+both_mapped : {A B : Type 0} (P : A → B → Type 0) (f : A → B) (xs : List A)
+    → ((x : A) → Among x xs → P x (f x)) → EachBoth P xs (map f xs)
 both_mapped P f [] h = refl
 both_mapped P f (x ∷ xs) h = (h x first, both_mapped P f xs (λ y m. h y (later m)))
 
-each_mapped : {A B : Type 0} (P : B → Type 0) (f : A → B) (xs : List A) → ((x : A) → Among x xs → P (f x)) → Each P (map f xs)
+each_mapped : {A B : Type 0} (P : B → Type 0) (f : A → B) (xs : List A)
+    → ((x : A) → Among x xs → P (f x)) → Each P (map f xs)
 each_mapped P f [] h = tt
 each_mapped P f (x ∷ xs) h = (h x first, each_mapped P f xs (λ y m. h y (later m)))
 
-module _ (schema : Schema) (proper : IsProperSchema schema) (form : FormTree) (w : IsWellFormed schema.tables form) where
+module _ (schema : Schema) (proper : IsProperSchema schema) (form : FormTree)
+    (w : IsWellFormed schema.tables form) where
   within : (q : ℕ) → Among q (count_from 0 (bags (bag form.element))) → q < bags (bag form.element)
   within q m = let h = counted 0 (bags (bag form.element)) m in omega (arith, h)
 
@@ -41,10 +44,18 @@ module _ (schema : Schema) (proper : IsProperSchema schema) (form : FormTree) (w
   pub trees_scoped : AreScopedTrees schema form (natural_trees schema.tables form)
   trees_scoped =
       both_mapped _ (natural_tree schema.tables form) (count_from 0 (bags (bag form.element)))
-      (λ q m. tree_scoped schema proper _ _ _ _ (ready schema form w q (subst (λ n. q < n) (sym (paths_long schema form w)) (within q m))))
+      (λ q m. tree_scoped schema proper _ _ _ _ (ready schema form w q
+      (subst (λ n. q < n) (sym (paths_long schema form w)) (within q m))))
 
   -- and texts can spell them, where there are numbers for their columns
-  pub trees_spelled : ((q : ℕ) → q < bags (bag form.element) → HasNumbers (layout_at (outer_layouts schema.tables form) q) (element_columns (index_columns (layout_at (inner_layouts schema.tables form) q)) (element_of (element_types (bag form.element)) q))) → Each IsSpellable (natural_trees schema.tables form)
+  pub trees_spelled : ((q : ℕ) → q < bags (bag form.element)
+      → HasNumbers (layout_at (outer_layouts schema.tables form) q)
+      (element_columns (index_columns (layout_at (inner_layouts schema.tables form) q))
+      (element_of (element_types (bag form.element)) q)))
+      → Each IsSpellable (natural_trees schema.tables form)
   trees_spelled few =
-      each_mapped IsSpellable (natural_tree schema.tables form) (count_from 0 (bags (bag form.element)))
-      (λ q m. tree_spelled schema proper _ _ _ _ (few q (within q m)) (ready schema form w q (subst (λ n. q < n) (sym (paths_long schema form w)) (within q m))))
+      each_mapped IsSpellable (natural_tree schema.tables form)
+      (count_from 0 (bags (bag form.element)))
+      (λ q m. tree_spelled schema proper _ _ _ _ (few q (within q m))
+      (ready schema form w q (subst (λ n. q < n) (sym (paths_long schema form w))
+      (within q m))))

@@ -19,7 +19,8 @@ naming_at a ds = cond (nat_eq (slots a) 0) [] (flat_map (λ d. d.gens) ds)
 
 -- the generators whose rows name bags: those of the comprehensions whose elements hold a bag
 abbrev pub naming : FormTree → List Gen
-naming form = flat_map (λ x. naming_at x.0 x.1) (zip (element_types (bag form.element)) (strands_by_path form))
+naming form = flat_map (λ x. naming_at x.0 x.1) (zip (element_types (bag form.element))
+    (strands_by_path form))
 
 -- those whose tables have no key
 abbrev pub keyless : List TableShape → List Gen → List Gen

@@ -29,10 +29,11 @@ pub record IsScopedTree (schema : Schema) (types : List ColumnType) (tree : SqlT
 -- the trees are, in path order, each with the columns that the scheme has at its path
 abbrev pub AreScopedTrees : Schema → FormTree → List SqlTree → Type 0
 AreScopedTrees schema form trees =
-    EachBoth (λ q tree. IsScopedTree schema ((natural_keys schema.tables form).columns q) tree) (count_from 0 (bags (bag form.element))) trees
+    EachBoth (λ q tree. IsScopedTree schema ((natural_keys schema.tables form).columns q) tree)
+    (count_from 0 (bags (bag form.element))) trees
 
--- Over all tables of the schema, whatever answers SQL allows, each to its tree by itself, the scheme reads them
--- for the form and those tables.
+-- Over all tables of the schema, whatever answers SQL allows, each to its tree by itself, the
+-- scheme reads them for the form and those tables.
 abbrev pub KeysRead : Schema → FormTree → List SqlTree → Type 0
 KeysRead schema form trees =
     (tables : List (List (List Cell))) → AreTablesOf schema.tables tables

@@ -1,5 +1,5 @@
--- The natural SQL trees of a normal form: a SELECT for each comprehension, in which all generators in scope are
--- sources, and bags are named by tags and keys.
+-- The natural SQL trees of a normal form: a SELECT for each comprehension, in which all generators
+-- in scope are sources, and bags are named by tags and keys.
 --
 -- After the natural indexes of Cheney, Lindley and Wadler, "Query Shredding", SIGMOD 2014.
 use Rattle.std.specs.Prelude.{◌<◌, ◌^◌, ℕ, suc, pos, false, List, [], ◌∷◌, ◌++◌, map, get_or, length}
@@ -46,10 +46,12 @@ text_word = 107 ∷ 116 ∷ []
 abbrev pub part_word : Label
 part_word = 99 ∷ []
 
--- what stands in the columns of an answer, under their names: the tag, the key cells of each type, and the parts of the element
+-- what stands in the columns of an answer, under their names: the tag, the key cells of each type,
+-- and the parts of the element
 abbrev pub in_columns : {A : Type 0} → A → (ints bools texts parts : List A) → List (Label × A)
 in_columns tag ints bools texts parts =
-    (tag_name, tag) ∷ (numbered int_word 1 ints ++ (numbered bool_word 1 bools ++ (numbered text_word 1 texts ++ numbered part_word 1 parts)))
+    (tag_name, tag) ∷ (numbered int_word 1 ints ++ (numbered bool_word 1 bools
+    ++ (numbered text_word 1 texts ++ numbered part_word 1 parts)))
 
 -- a key column, and 0, FALSE or the empty text
 abbrev pub key_expr : KeyColumn → ExprTree
@@ -76,30 +78,37 @@ abbrev mutual
   shapes_exprs index (with_shape l s fs) = shape_exprs index s ++ shapes_exprs index fs
 
 -- the columns of the SELECT of a comprehension: the index of the bag around, and the element
-abbrev pub natural_columns : List TableShape → Layout → Layout → StrandTree → List (Label × ExprTree)
+abbrev pub natural_columns : List TableShape → Layout → Layout → StrandTree
+    → List (Label × ExprTree)
 natural_columns S outer inner d =
     let around = group key_expr zero_expr outer (key_columns S d.outer_gens) in
-    in_columns (int (pos d.parent)) (around column_type.Int) (around column_type.Bool) (around column_type.Text)
+    in_columns (int (pos d.parent)) (around column_type.Int) (around column_type.Bool)
+    (around column_type.Text)
     (shape_exprs (index_exprs inner d.tag (scope_key S d)) d.shape)
 
 -- columns as items
 abbrev pub as_items : List (Label × ExprTree) → List (Label × ValueTree)
 as_items columns = map (λ c. (c.0, plain c.1)) columns
 
--- the SELECT of a comprehension: all generators in scope, outermost first, and all conditions in scope, from outside in
+-- the SELECT of a comprehension: all generators in scope, outermost first, and all conditions in
+-- scope, from outside in
 abbrev pub natural_select : List TableShape → Layout → Layout → StrandTree → SelectTree
 natural_select S outer inner d =
-    select (items_from (as_items (natural_columns S outer inner d))) (map source_of (d.outer_gens ++ d.gens)) (conds_keep none_outer (both d.outer_conds d.conds))
+    select (items_from (as_items (natural_columns S outer inner d)))
+    (map source_of (d.outer_gens ++ d.gens)) (conds_keep none_outer
+    (both d.outer_conds d.conds))
 
 -- the SELECT where there is no comprehension: one without a row
 abbrev pub empty_select : Layout → Layout → TypeTree → SelectTree
 empty_select outer inner a =
     let zeros = group key_expr zero_expr outer [] in
-    select (items_from (as_items (in_columns (int (pos 0)) (zeros column_type.Int) (zeros column_type.Bool) (zeros column_type.Text)
+    select (items_from (as_items (in_columns (int (pos 0)) (zeros column_type.Int)
+    (zeros column_type.Bool) (zeros column_type.Text)
     (map zero_expr (element_columns (index_columns inner) a))))) [] (keep_if (bool false))
 
 -- the SELECTs of the comprehensions at a path
-abbrev pub natural_selects : List TableShape → Layout → Layout → TypeTree → List StrandTree → List SelectTree
+abbrev pub natural_selects : List TableShape → Layout → Layout → TypeTree → List StrandTree
+    → List SelectTree
 natural_selects S outer inner a [] = empty_select outer inner a ∷ []
 natural_selects S outer inner a (d ∷ ds) = map (natural_select S outer inner) (d ∷ ds)
 
@@ -108,13 +117,16 @@ abbrev pub union_tree : List SelectTree → SqlTree
 union_tree selects = record { withs = []; main = query_from selects }
 
 -- the tree at a path, where the paths have these layouts, element types and comprehensions
-abbrev pub tree_in : List TableShape → (outers inners : List Layout) → List TypeTree → List (List StrandTree) → ℕ → SqlTree
+abbrev pub tree_in : List TableShape → (outers inners : List Layout) → List TypeTree
+    → List (List StrandTree) → ℕ → SqlTree
 tree_in S outers inners elements strands q =
-    union_tree (natural_selects S (layout_at outers q) (layout_at inners q) (element_of elements q) (get_or strands q []))
+    union_tree (natural_selects S (layout_at outers q) (layout_at inners q) (element_of elements q)
+    (get_or strands q []))
 
 -- the tree of a form at a path
 abbrev pub natural_tree : List TableShape → FormTree → ℕ → SqlTree
-natural_tree S form q = tree_in S (outer_layouts S form) (inner_layouts S form) (element_types (bag form.element)) (strands_by_path form) q
+natural_tree S form q = tree_in S (outer_layouts S form) (inner_layouts S form)
+    (element_types (bag form.element)) (strands_by_path form) q
 
 -- the trees of a form, in path order
 abbrev pub natural_trees : List TableShape → FormTree → List SqlTree

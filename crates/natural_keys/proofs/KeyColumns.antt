@@ -5,5 +5,6 @@ use Rattle.nq_model.specs.declared.table.TableShape.{TableShape}
 use Rattle.nq_ir.specs.declared.base.Gen.{Gen}
 use Rattle.natural_keys.specs.Layouts.{gen_key, key_columns}
 
-pub scope_made : (S : List TableShape) (xs ys : List Gen) → key_columns S (xs ++ ys) ≡ key_columns S xs ++ key_columns S ys
+pub scope_made : (S : List TableShape) (xs ys : List Gen) → key_columns S (xs ++ ys)
+    ≡ key_columns S xs ++ key_columns S ys
 scope_made S xs ys = flat_map-append (gen_key S) xs ys

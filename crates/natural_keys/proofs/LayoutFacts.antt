@@ -13,7 +13,11 @@ use Rattle.natural_keys.specs.Layouts.{layout_of, most, of_type, raised, scope_k
 
 -- the least layout that two layouts fit into
 abbrev pub joined : Layout → Layout → Layout
-joined l m = record { ints = max l.ints m.ints; bools = max l.bools m.bools; texts = max l.texts m.texts }
+joined l m = record {
+  ints = max l.ints m.ints;
+  bools = max l.bools m.bools;
+  texts = max l.texts m.texts;
+}
 
 max_assoc : (a b c : ℕ) → max (max a b) c ≡ max a (max b c)
 max_assoc a b c = omega arith
@@ -25,12 +29,21 @@ none_max : (a : ℕ) → max 0 a ≡ a
 none_max a = omega arith
 
 pub joined_first : (l : Layout) → joined no_layout l ≡ l
-joined_first l = λ t. record { ints = none_max l.ints t; bools = none_max l.bools t; texts = none_max l.texts t }
+joined_first l = λ t. record {
+  ints = none_max l.ints t;
+  bools = none_max l.bools t;
+  texts = none_max l.texts t;
+}
 
 pub joined_last : (l : Layout) → joined l no_layout ≡ l
-joined_last l = λ t. record { ints = max_none l.ints t; bools = max_none l.bools t; texts = max_none l.texts t }
+joined_last l = λ t. record {
+  ints = max_none l.ints t;
+  bools = max_none l.bools t;
+  texts = max_none l.texts t;
+}
 
-pub joined_more : (S : List TableShape) (l : Layout) (d : StrandTree) (ds : List StrandTree) → joined (raised l (scope_key S d)) (layout_of S ds) ≡ joined l (layout_of S (d ∷ ds))
+pub joined_more : (S : List TableShape) (l : Layout) (d : StrandTree) (ds : List StrandTree)
+    → joined (raised l (scope_key S d)) (layout_of S ds) ≡ joined l (layout_of S (d ∷ ds))
 joined_more S l d ds = λ t. record {
   ints = max_assoc l.ints (length (of_type Int (scope_key S d))) (most S Int ds) t;
   bools = max_assoc l.bools (length (of_type Truth (scope_key S d))) (most S Truth ds) t;
@@ -38,12 +51,15 @@ joined_more S l d ds = λ t. record {
 }
 
 -- the key columns of each comprehension find room in the layout of all
-pub most_fits : (S : List TableShape) (t : ColumnType) {d : StrandTree} {ds : List StrandTree} → Among d ds → length (of_type t (scope_key S d)) ≤ most S t ds
+pub most_fits : (S : List TableShape) (t : ColumnType) {d : StrandTree} {ds : List StrandTree}
+    → Among d ds → length (of_type t (scope_key S d)) ≤ most S t ds
 most_fits S t (first {xs = ds}) = omega arith
 most_fits S t (later {y = e} m) = let h = most_fits S t m in omega (arith, h)
 
 -- one path more
-pub outer_step : (inners : List Layout) (hs : List Home) (k : ℕ) (h : Home) → 0 < k → k < length hs → h ≡ get_or hs k h → outer_by inners (take k hs) ++ layout_at inners h.0 ∷ [] ≡ outer_by inners (take (k + 1) hs)
+pub outer_step : (inners : List Layout) (hs : List Home) (k : ℕ) (h : Home) → 0 < k → k < length hs
+    → h ≡ get_or hs k h → outer_by inners (take k hs) ++ layout_at inners h.0 ∷ []
+    ≡ outer_by inners (take (k + 1) hs)
 outer_step inners [] k h some within is = absurd (omega (arith, within))
 outer_step inners (x ∷ hs) zero h some within is = absurd (omega (arith, some))
 outer_step inners (x ∷ hs) (suc k) h some within is =
@@ -58,7 +74,8 @@ outer_step inners (x ∷ hs) (suc k) h some within is =
 -- a layout has as many columns as cells
 pub types_long : (l : Layout) → length (layout_types l) ≡ width l
 types_long l =
-    let a = length-append (replicate l.ints Int) (replicate l.bools Truth ++ replicate l.texts Text) in
+    let a = length-append (replicate l.ints Int) (replicate l.bools Truth
+    ++ replicate l.texts Text) in
     let b = length-append (replicate l.bools Truth) (replicate l.texts Text) in
     let i = length-replicate l.ints Int in
     let j = length-replicate l.bools Truth in

@@ -13,13 +13,15 @@ use Rattle.natural_keys.specs.declared.index.KeyIndex.{KeyIndex}
 use Rattle.natural_keys.specs.Indexes.{index_eq, index_fed}
 
 pub index_equivalence : IsEquivalence index_eq
-index_equivalence = and_equiv (on_equiv (λ i. i.tag) int_eq_equiv) (on_equiv (λ i. i.cells) (lists_equiv cell_equivalence))
+index_equivalence = and_equiv (on_equiv (λ i. i.tag) int_eq_equiv)
+    (on_equiv (λ i. i.cells) (lists_equiv cell_equivalence))
 
 both_true : (a b : Bool) → (a && b) ≡ true → (a ≡ true) × (b ≡ true)
 both_true true b h = (refl, h)
 both_true false b h = absurd (cc)
 
-cells_alike : (xs ys : List Cell) → pointwise cell_eq xs ys ≡ true → flat_map cell_fed xs ≡ flat_map cell_fed ys
+cells_alike : (xs ys : List Cell) → pointwise cell_eq xs ys ≡ true → flat_map cell_fed xs
+    ≡ flat_map cell_fed ys
 cells_alike [] [] h = refl
 cells_alike [] (y ∷ ys) h = absurd (cc)
 cells_alike (x ∷ xs) [] h = absurd (cc)
@@ -30,4 +32,5 @@ cells_alike (x ∷ xs) (y ∷ ys) h =
 pub index_alike : (i j : KeyIndex) → index_eq i j ≡ true → index_fed i ≡ index_fed j
 index_alike i j same =
     let t = both_true (int_eq i.tag j.tag) (pointwise cell_eq i.cells j.cells) same in
-    ap₂ (λ (a b : fed.HashWrites). a ++ b) (ap fed.i64 ((signed_Decides i.tag j.tag).0 t.0)) (cells_alike i.cells j.cells t.1)
+    ap₂ (λ (a b : fed.HashWrites). a ++ b) (ap fed.i64 ((signed_Decides i.tag j.tag).0 t.0))
+    (cells_alike i.cells j.cells t.1)

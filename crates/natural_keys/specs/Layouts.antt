@@ -34,7 +34,11 @@ type_in l columns = unwrap_or (column_type_in l columns) Int
 
 -- the key columns of a generator, in key order
 abbrev pub gen_key : List TableShape → Gen → List KeyColumn
-gen_key S g = map (λ k. record { generator = g.number; name = k; of = type_in k (table_columns S g.table) }) (table_key S g.table)
+gen_key S g = map (λ k. record {
+  generator = g.number;
+  name = k;
+  of = type_in k (table_columns S g.table);
+}) (table_key S g.table)
 
 -- those of generators, outermost first
 abbrev pub key_columns : List TableShape → List Gen → List KeyColumn
@@ -48,7 +52,8 @@ scope_key S d = key_columns S (d.outer_gens ++ d.gens)
 abbrev pub of_type : ColumnType → List KeyColumn → List KeyColumn
 of_type t ks = filter (λ k. same_type k.of t) ks
 
--- the greatest number of key columns of a type that one of these comprehensions has; 0 where there is none
+-- the greatest number of key columns of a type that one of these comprehensions has; 0 where there
+-- is none
 abbrev pub most : List TableShape → ColumnType → List StrandTree → ℕ
 most S t [] = 0
 most S t (d ∷ ds) = max (length (of_type t (scope_key S d))) (most S t ds)
@@ -63,7 +68,11 @@ no_layout = record { ints = 0; bools = 0; texts = 0 }
 
 -- a layout that these key columns fit into too
 abbrev pub raised : Layout → List KeyColumn → Layout
-raised l ks = record { ints = max l.ints (length (of_type Int ks)); bools = max l.bools (length (of_type Truth ks)); texts = max l.texts (length (of_type Text ks)) }
+raised l ks = record {
+  ints = max l.ints (length (of_type Int ks));
+  bools = max l.bools (length (of_type Truth ks));
+  texts = max l.texts (length (of_type Text ks));
+}
 
 abbrev pub layout_at : List Layout → ℕ → Layout
 layout_at layouts q = get_or layouts q no_layout
@@ -72,11 +81,13 @@ layout_at layouts q = get_or layouts q no_layout
 abbrev pub strands_by_path : FormTree → List (List StrandTree)
 strands_by_path form = map (strands_at form.element form.comps) (paths (bag form.element))
 
--- by path, the layout of the indexes that its rows give for inner bags: the indexes name the comprehensions there
+-- by path, the layout of the indexes that its rows give for inner bags: the indexes name the
+-- comprehensions there
 abbrev pub inner_layouts : List TableShape → FormTree → List Layout
 inner_layouts S form = map (layout_of S) (strands_by_path form)
 
--- by path, the layout of the indexes of the bags in which its rows stand: no cell at the empty path, else as the rows of the enclosing path give them
+-- by path, the layout of the indexes of the bags in which its rows stand: no cell at the empty
+-- path, else as the rows of the enclosing path give them
 abbrev pub outer_by : List Layout → List Home → List Layout
 outer_by inners [] = []
 outer_by inners (h ∷ homes) = no_layout ∷ map (λ home. layout_at inners home.0) homes
@@ -98,11 +109,13 @@ abbrev pub filled : {A : Type 0} → ℕ → List A → A → List A
 filled n xs z = xs ++ replicate (n - length xs) z
 
 -- what stands for the key columns of one type in a layout, each by f, filled up
-abbrev pub group : {A : Type 0} → (KeyColumn → A) → (ColumnType → A) → Layout → List KeyColumn → ColumnType → List A
+abbrev pub group : {A : Type 0} → (KeyColumn → A) → (ColumnType → A) → Layout → List KeyColumn
+    → ColumnType → List A
 group f zero l ks t = filled (count_in l t) (map f (of_type t ks)) (zero t)
 
 -- what stands for all of them: first int, then bool, then text
-abbrev pub in_layout : {A : Type 0} → (KeyColumn → A) → (ColumnType → A) → Layout → List KeyColumn → List A
+abbrev pub in_layout : {A : Type 0} → (KeyColumn → A) → (ColumnType → A) → Layout → List KeyColumn
+    → List A
 in_layout f zero l ks = group f zero l ks Int ++ (group f zero l ks Truth ++ group f zero l ks Text)
 
 -- the types of the key columns of a layout

@@ -19,10 +19,22 @@ places_of outer inner a = record {
 
 -- with one more base part, and with one more inner bag
 abbrev pub with_leaf : Places → ColumnType → Places
-with_leaf v of = record { columns = v.columns ++ of ∷ []; leaves = v.leaves ++ (length v.columns + 1) ∷ []; slots = v.slots; outer = v.outer; inner = v.inner }
+with_leaf v of = record {
+  columns = v.columns ++ of ∷ [];
+  leaves = v.leaves ++ (length v.columns + 1) ∷ [];
+  slots = v.slots;
+  outer = v.outer;
+  inner = v.inner;
+}
 
 abbrev pub with_slot : List ColumnType → Places → Places
-with_slot index v = record { columns = v.columns ++ index; leaves = v.leaves; slots = v.slots ++ length v.columns ∷ []; outer = v.outer; inner = v.inner }
+with_slot index v = record {
+  columns = v.columns ++ index;
+  leaves = v.leaves;
+  slots = v.slots ++ length v.columns ∷ [];
+  outer = v.outer;
+  inner = v.inner;
+}
 
 -- with the columns of one more part of the element, and of more fields
 abbrev pub with_part : List ColumnType → Places → TypeTree → Places

@@ -1,7 +1,8 @@
 -- The index scheme by keys.
 --
--- The columns at a path are the tag of the enclosing comprehension, its key cells, and those of the element: one
--- for a base type, those of its fields for a record, in label order, and for a bag a tag and key cells.
+-- The columns at a path are the tag of the enclosing comprehension, its key cells, and those of the
+-- element: one for a base type, those of its fields for a record, in label order, and for a bag a
+-- tag and key cells.
 use Rattle.std.specs.Prelude.{ℕ, pos, ◌+◌, List, [], ◌∷◌, ◌++◌, get_or, length, take, drop}
 use Rattle.nq_model.specs.Types.{TypeTree, int, bool, text, rec, bag, fun, FieldTypes, none, field}
 use Rattle.nq_model.specs.declared.table.Cell.{Cell}
@@ -51,7 +52,8 @@ abbrev mutual
 
   pub leaf_places_in : List ColumnType → FieldTypes → ℕ → List ℕ
   leaf_places_in index none n = []
-  leaf_places_in index (field l a fs) n = leaf_places index a n ++ leaf_places_in index fs (n + element_width index a)
+  leaf_places_in index (field l a fs) n = leaf_places index a n
+      ++ leaf_places_in index fs (n + element_width index a)
 
 -- where its inner bags stand, each by its first column
 abbrev mutual
@@ -65,28 +67,36 @@ abbrev mutual
 
   pub slot_places_in : List ColumnType → FieldTypes → ℕ → List ℕ
   slot_places_in index none n = []
-  slot_places_in index (field l a fs) n = slot_places index a n ++ slot_places_in index fs (n + element_width index a)
+  slot_places_in index (field l a fs) n = slot_places index a n
+      ++ slot_places_in index fs (n + element_width index a)
 
--- the columns of the answer at a path with elements of this type: the outer index, and the element with its inner indexes
+-- the columns of the answer at a path with elements of this type: the outer index, and the element
+-- with its inner indexes
 abbrev pub answer_columns : Layout → Layout → TypeTree → List ColumnType
 answer_columns outer inner a = index_columns outer ++ element_columns (index_columns inner) a
 
--- the index of so many cells that stands in a row from this place on: its tag, and behind it the cells
+-- the index of so many cells that stands in a row from this place on: its tag, and behind it the
+-- cells
 abbrev pub key_at : ℕ → List Cell → ℕ → KeyIndex
 key_at n row place = record { tag = int_at row place; cells = take n (drop (place + 1) row) }
 
--- the scheme for a type whose bags have these element types, and whose paths have these layouts; the top has the tag 0 and no cell
+-- the scheme for a type whose bags have these element types, and whose paths have these layouts;
+-- the top has the tag 0 and no cell
 abbrev pub natural_scheme : List TypeTree → List Layout → List Layout → Scheme KeyIndex
 natural_scheme elements outers inners = record {
   elements = elements;
   columns = λ q. answer_columns (layout_at outers q) (layout_at inners q) (element_of elements q);
-  base = λ q l. get_or (leaf_places (index_columns (layout_at inners q)) (element_of elements q) (length (index_columns (layout_at outers q)) + 1)) l 0;
+  base = λ q l. get_or (leaf_places (index_columns (layout_at inners q)) (element_of elements q)
+      (length (index_columns (layout_at outers q)) + 1)) l 0;
   top = record { tag = pos 0; cells = [] };
   outer = λ q row. key_at (width (layout_at outers q)) row 0;
-  inner = λ q s row. key_at (width (layout_at inners q)) row (get_or (slot_places (index_columns (layout_at inners q)) (element_of elements q) (length (index_columns (layout_at outers q)))) s 0);
+  inner = λ q s row. key_at (width (layout_at inners q)) row
+      (get_or (slot_places (index_columns (layout_at inners q)) (element_of elements q)
+      (length (index_columns (layout_at outers q)))) s 0);
   is = index_eq;
 }
 
 -- the scheme of a form over the tables of a schema
 abbrev pub natural_keys : List TableShape → FormTree → Scheme KeyIndex
-natural_keys S form = natural_scheme (element_types (bag form.element)) (outer_layouts S form) (inner_layouts S form)
+natural_keys S form = natural_scheme (element_types (bag form.element)) (outer_layouts S form)
+    (inner_layouts S form)

@@ -50,10 +50,10 @@ SELECT "ot", "on", "c1" FROM (SELECT ':x' AS "c1");
     (
         "[: (client: bool, name: text, paid: bool, size: int)]",
         ONE,
-        "/srv/a b",
-        r#"COPY (SELECT 1) TO STDOUT WITH (FORMAT csv, HEADER true) \g '/srv/a b/1.csv'
+        "/a b",
+        r#"COPY (SELECT 1) TO STDOUT WITH (FORMAT csv, HEADER true) \g '/a b/1.csv'
 "#,
-        r#".output "/srv/a b/1.csv"
+        r#".output "/a b/1.csv"
 .print ot,on,c1,c2,c3,c4
 SELECT "ot", "on", CASE "c1" WHEN 1 THEN 'true' WHEN 0 THEN 'false' END, "c2", CASE "c3" WHEN 1 THEN 'true' WHEN 0 THEN 'false' END, "c4" FROM (SELECT 1);
 "#,

@@ -53,9 +53,12 @@ elements_agree : (v w : Nested) → erased v ≡ w → map erased_element (eleme
 elements_agree v w e = sym (elements_erased v) ∙ ap elements_in e
 
 -- rows before those of the elements are erased with them
-each_agrees : (x : Nested) (ys : List Nested) → map erased_element (map (with_rows (names_in (rows_part x))) ys) ≡ map erased_element ys
+each_agrees : (x : Nested) (ys : List Nested) → map erased_element
+    (map (with_rows (names_in (rows_part x))) ys) ≡ map erased_element ys
 each_agrees x ys =
-    map_of_map erased_element (with_rows (names_in (rows_part x))) ys ∙ map_same (λ y. erased_element (with_rows (names_in (rows_part x)) y)) erased_element (λ y. sym (part_erased y)) ys
+    map_of_map erased_element (with_rows (names_in (rows_part x))) ys
+    ∙ map_same (λ y. erased_element (with_rows (names_in (rows_part x)) y)) erased_element
+    (λ y. sym (part_erased y)) ys
 
 erased_bag : (vs : List Nested) → erased (bag_of vs) ≡ bag_of (map erased_element vs)
 erased_bag vs = ap bag (go vs)
@@ -64,11 +67,14 @@ erased_bag vs = ap bag (go vs)
     go [] = refl
     go (v ∷ vs) = ap (more (erased_element v)) (go vs)
 
-under_erased : (l : Label) (fs : Fields) → erased (value_under l fs) ≡ value_under l (erased_fields fs)
+under_erased : (l : Label) (fs : Fields) → erased (value_under l fs)
+    ≡ value_under l (erased_fields fs)
 under_erased l Fields.none = refl
 under_erased l (field k v fs) = go (bytes_eq k l) (under_erased l fs)
   where
-    go : (t : Bool) → erased (value_under l fs) ≡ value_under l (erased_fields fs) → erased (cond t v (value_under l fs)) ≡ cond t (erased v) (value_under l (erased_fields fs))
+    go : (t : Bool) → erased (value_under l fs) ≡ value_under l (erased_fields fs)
+        → erased (cond t v (value_under l fs)) ≡ cond t (erased v)
+        (value_under l (erased_fields fs))
     go true e = refl
     go false e = e
 
@@ -87,37 +93,46 @@ erased_record fs = ap rec (go fs)
     go [] = refl
     go (f ∷ fs) = ap (field f.0 (erased f.1)) (go fs)
 
-put_erased : (l : Label) (v : Nested) (fs : List (Label × Nested)) → fields_erased (put_field l v fs) ≡ put_field l (erased v) (fields_erased fs)
+put_erased : (l : Label) (v : Nested) (fs : List (Label × Nested))
+    → fields_erased (put_field l v fs) ≡ put_field l (erased v) (fields_erased fs)
 put_erased l v [] = refl
 put_erased l v (f ∷ fs) = go (is_gt (label_cmp l f.0)) (put_erased l v fs)
   where
-    go : (t : Bool) → fields_erased (put_field l v fs) ≡ put_field l (erased v) (fields_erased fs) → fields_erased (cond t (f ∷ put_field l v fs) ((l, v) ∷ f ∷ fs)) ≡ cond t ((f.0, erased f.1) ∷ put_field l (erased v) (fields_erased fs)) ((l, erased v) ∷ (f.0, erased f.1) ∷ fields_erased fs)
+    go : (t : Bool) → fields_erased (put_field l v fs) ≡ put_field l (erased v) (fields_erased fs)
+        → fields_erased (cond t (f ∷ put_field l v fs) ((l, v) ∷ f ∷ fs))
+        ≡ cond t ((f.0, erased f.1) ∷ put_field l (erased v) (fields_erased fs))
+        ((l, erased v) ∷ (f.0, erased f.1) ∷ fields_erased fs)
     go true e = ap (λ (z : List (Label × Nested)). (f.0, erased f.1) ∷ z) e
     go false e = refl
 
-choice_erased : (t : Bool) (v w x y : Nested) → erased v ≡ x → erased w ≡ y → erased (cond t v w) ≡ cond t x y
+choice_erased : (t : Bool) (v w x y : Nested) → erased v ≡ x → erased w ≡ y → erased (cond t v w)
+    ≡ cond t x y
 choice_erased true v w x y d e = d
 choice_erased false v w x y d e = e
 
-guard_erased : (t : Bool) (vs ws : List Nested) → map erased_element vs ≡ ws → map erased_element (cond t vs []) ≡ cond t ws []
+guard_erased : (t : Bool) (vs ws : List Nested) → map erased_element vs ≡ ws
+    → map erased_element (cond t vs []) ≡ cond t ws []
 guard_erased true vs ws e = e
 guard_erased false vs ws e = refl
 
 -- what is asked of elements is asked of their cells
-pub asked_of_cells : (g : Aggregate) (xs ys : List Nested) → map cell_of xs ≡ map cell_of ys → aggregate_value g xs ≡ aggregate_value g ys
+pub asked_of_cells : (g : Aggregate) (xs ys : List Nested) → map cell_of xs ≡ map cell_of ys
+    → aggregate_value g xs ≡ aggregate_value g ys
 asked_of_cells Emptiness [] [] e = refl
 asked_of_cells Emptiness [] (y ∷ ys) e = absurd (cc)
 asked_of_cells Emptiness (x ∷ xs) [] e = absurd (cc)
 asked_of_cells Emptiness (x ∷ xs) (y ∷ ys) e = refl
 asked_of_cells Count xs ys e =
-    ap (λ n. cell.Int (int_wrap w64 (pos n))) (sym (length_map cell_of xs) ∙ ap length e ∙ length_map cell_of ys)
+    ap (λ n. cell.Int (int_wrap w64 (pos n))) (sym (length_map cell_of xs) ∙ ap length e
+    ∙ length_map cell_of ys)
 asked_of_cells Sum xs ys e = ap (λ (l : List Cell). cell.Int (sum_of l)) e
 
 -- the rows of tables hold no bags
 abbrev IsFlat : Nested → Type 0
 IsFlat v = erased v ≡ v
 
-each_put : {A : Type 0} (P : A → Type 0) (cmp : A → A → Ordering) (x : A) (ys : List A) → P x → Each P ys → Each P (put_by cmp x ys)
+each_put : {A : Type 0} (P : A → Type 0) (cmp : A → A → Ordering) (x : A) (ys : List A) → P x
+    → Each P ys → Each P (put_by cmp x ys)
 each_put P cmp x [] p e = (p, tt)
 each_put P cmp x (y ∷ ys) p e = go (is_gt (cmp x y)) (each_put P cmp x ys p e.1)
   where
@@ -125,18 +140,21 @@ each_put P cmp x (y ∷ ys) p e = go (is_gt (cmp x y)) (each_put P cmp x ys p e.
     go true k = (e.0, k)
     go false k = (p, e)
 
-each_sorted : {A : Type 0} (P : A → Type 0) (cmp : A → A → Ordering) (xs : List A) → Each P xs → Each P (sorted_by cmp xs)
+each_sorted : {A : Type 0} (P : A → Type 0) (cmp : A → A → Ordering) (xs : List A) → Each P xs
+    → Each P (sorted_by cmp xs)
 each_sorted P cmp [] e = tt
 each_sorted P cmp (x ∷ xs) e = each_put P cmp x (sorted_by cmp xs) e.0 (each_sorted P cmp xs e.1)
 
 flat_fields : (fs : List (Label × Nested)) → Each (λ f. IsFlat f.1) fs → fields_erased fs ≡ fs
 flat_fields [] e = refl
-flat_fields (f ∷ fs) e = ap₂ (λ v (z : List (Label × Nested)). (f.0, v) ∷ z) e.0 (flat_fields fs e.1)
+flat_fields (f ∷ fs) e = ap₂ (λ v (z : List (Label × Nested)). (f.0, v) ∷ z) e.0
+    (flat_fields fs e.1)
 
 flat_row : (names : List Label) (row : List Cell) → IsFlat (row_record names row)
 flat_row names row =
     let cells = zip names (map base row) in
-    erased_record (by_label cells) ∙ ap rec_of (flat_fields (by_label cells) (each_sorted (λ f. IsFlat f.1) (λ f g. label_cmp f.0 g.0) cells (go names row)))
+    erased_record (by_label cells) ∙ ap rec_of (flat_fields (by_label cells)
+    (each_sorted (λ f. IsFlat f.1) (λ f g. label_cmp f.0 g.0) cells (go names row)))
   where
     go : (names : List Label) (row : List Cell) → Each (λ f. IsFlat f.1) (zip names (map base row))
     go [] row = tt
@@ -147,15 +165,19 @@ flat_rows : (o : Option FilledTable) → Each IsFlat (elements_in (table_rows_va
 flat_rows None = tt
 flat_rows (Some table) = go table.rows
   where
-    go : (rows : List (List Cell)) → Each IsFlat (elements (elements_of (map (row_record (names_of table.columns)) rows)))
+    go : (rows : List (List Cell)) → Each IsFlat (elements
+        (elements_of (map (row_record (names_of table.columns)) rows)))
     go [] = tt
     go (row ∷ rows) = (flat_row (names_of table.columns) row, go rows)
 
-bag_again : (o : Option FilledTable) → bag_of (elements_in (table_rows_value o)) ≡ table_rows_value o
+bag_again : (o : Option FilledTable) → bag_of (elements_in (table_rows_value o))
+    ≡ table_rows_value o
 bag_again None = refl
-bag_again (Some table) = ap bag_of (elements_back (map (row_record (names_of table.columns)) table.rows))
+bag_again (Some table) = ap bag_of
+    (elements_back (map (row_record (names_of table.columns)) table.rows))
 
-rows_erased : (t : Label) (n : ℕ) (vs : List Nested) → Each IsFlat vs → map erased_element (traced_rows t n vs) ≡ vs
+rows_erased : (t : Label) (n : ℕ) (vs : List Nested) → Each IsFlat vs
+    → map erased_element (traced_rows t n vs) ≡ vs
 rows_erased t n [] e = refl
 rows_erased t n (v ∷ vs) e = ap₂ (λ x (l : List Nested). x ∷ l) e.0 (rows_erased t (suc n) vs e.1)
 
@@ -164,43 +186,86 @@ module _ (tables : List FilledTable) where
   table_erased t =
       let o = find (λ (table : FilledTable). bytes_eq table.name t) tables in
       let rows = elements_in (table_meaning tables t) in
-      erased_bag (traced_rows t 1 rows) ∙ ap bag_of (rows_erased t 1 rows (flat_rows o)) ∙ bag_again o
+      erased_bag (traced_rows t 1 rows) ∙ ap bag_of (rows_erased t 1 rows (flat_rows o))
+      ∙ bag_again o
 
   mutual
-    pub trace_erased : (env : List Nested) (m : TermTree) → erased (trace tables env m) ≡ meaning tables (map erased env) m
+    pub trace_erased : (env : List Nested) (m : TermTree) → erased (trace tables env m)
+        ≡ meaning tables (map erased env) m
     trace_erased env (TermTree.var k) = sym (get_or_map erased env k (base (cell.Bool false)))
     trace_erased env (TermTree.int n) = refl
     trace_erased env (TermTree.bool b) = refl
     trace_erased env (TermTree.text t) = refl
     trace_erased env (TermTree.table t) = table_erased t
-    trace_erased env (TermTree.unary op a) = ap (λ c. base (unary_value op c)) (cells_agree (trace tables env a) (meaning tables (map erased env) a) (trace_erased env a))
-    trace_erased env (TermTree.binary op a b) = ap₂ (λ c d. base (binary_value op c d)) (cells_agree (trace tables env a) (meaning tables (map erased env) a) (trace_erased env a)) (cells_agree (trace tables env b) (meaning tables (map erased env) b) (trace_erased env b))
+    trace_erased env (TermTree.unary op a) = ap (λ c. base (unary_value op c))
+        (cells_agree (trace tables env a) (meaning tables (map erased env) a) (trace_erased env a))
+    trace_erased env (TermTree.binary op a b) = ap₂ (λ c d. base (binary_value op c d))
+        (cells_agree (trace tables env a) (meaning tables (map erased env) a) (trace_erased env a))
+        (cells_agree (trace tables env b) (meaning tables (map erased env) b) (trace_erased env b))
     trace_erased env (TermTree.choose x a b) =
-        choice_erased (is_true (cell_of (trace tables env x))) (trace tables env a) (trace tables env b) (meaning tables (map erased env) a) (meaning tables (map erased env) b) (trace_erased env a) (trace_erased env b) ∙ ap (λ c. cond (is_true c) (meaning tables (map erased env) a) (meaning tables (map erased env) b)) (cells_agree (trace tables env x) (meaning tables (map erased env) x) (trace_erased env x))
-    trace_erased env (TermTree.rec fs) = erased_record (trace_fields tables env fs) ∙ ap rec_of (fields_agree env fs)
-    trace_erased env (TermTree.field a l) = field_erased l (trace tables env a) ∙ ap (field_in l) (trace_erased env a)
+        choice_erased (is_true (cell_of (trace tables env x))) (trace tables env a)
+        (trace tables env b) (meaning tables (map erased env) a)
+        (meaning tables (map erased env) b) (trace_erased env a) (trace_erased env b)
+        ∙ ap (λ c. cond (is_true c) (meaning tables (map erased env) a)
+        (meaning tables (map erased env) b)) (cells_agree (trace tables env x)
+        (meaning tables (map erased env) x) (trace_erased env x))
+    trace_erased env (TermTree.rec fs) = erased_record (trace_fields tables env fs)
+        ∙ ap rec_of (fields_agree env fs)
+    trace_erased env (TermTree.field a l) = field_erased l (trace tables env a)
+        ∙ ap (field_in l) (trace_erased env a)
     trace_erased env (TermTree.aggregate g a) =
-        ap base (asked_of_cells g (map value_part (elements_in (trace tables env a))) (elements_in (meaning tables (map erased env) a)) (map_of_map cell_of value_part (elements_in (trace tables env a)) ∙ map_same (λ x. cell_of (value_part x)) (λ x. cell_of (erased_element x)) (λ x. sym (ap cell_of (part_erased x) ∙ cell_erased (value_part x))) (elements_in (trace tables env a)) ∙ sym (map_of_map cell_of erased_element (elements_in (trace tables env a))) ∙ ap (map cell_of) (elements_agree (trace tables env a) (meaning tables (map erased env) a) (trace_erased env a))))
+        ap base (asked_of_cells g (map value_part (elements_in (trace tables env a)))
+        (elements_in (meaning tables (map erased env) a))
+        (map_of_map cell_of value_part (elements_in (trace tables env a))
+        ∙ map_same (λ x. cell_of (value_part x)) (λ x. cell_of (erased_element x))
+        (λ x. sym (ap cell_of (part_erased x) ∙ cell_erased (value_part x)))
+        (elements_in (trace tables env a)) ∙ sym (map_of_map cell_of erased_element
+        (elements_in (trace tables env a))) ∙ ap (map cell_of)
+        (elements_agree (trace tables env a) (meaning tables (map erased env) a)
+        (trace_erased env a))))
     trace_erased env (TermTree.single a) = ap (λ v. bag_of (v ∷ [])) (trace_erased env a)
     trace_erased env (TermTree.nil type) = refl
     trace_erased env (TermTree.union a b) =
         let xs = elements_in (trace tables env a) in
         let ys = elements_in (trace tables env b) in
-        erased_bag (xs ++ ys) ∙ ap bag_of (map-append erased_element xs ys ∙ ap₂ (λ (x y : List Nested). x ++ y) (elements_agree (trace tables env a) (meaning tables (map erased env) a) (trace_erased env a)) (elements_agree (trace tables env b) (meaning tables (map erased env) b) (trace_erased env b)))
+        erased_bag (xs ++ ys) ∙ ap bag_of (map-append erased_element xs ys
+        ∙ ap₂ (λ (x y : List Nested). x ++ y) (elements_agree (trace tables env a)
+        (meaning tables (map erased env) a) (trace_erased env a))
+        (elements_agree (trace tables env b) (meaning tables (map erased env) b)
+        (trace_erased env b)))
     trace_erased env (TermTree.for a b) =
         let xs = elements_in (trace tables env a) in
-        let f : Nested → List Nested = λ x. map (with_rows (names_in (rows_part x))) (elements_in (trace tables (value_part x ∷ env) b)) in
+        let f : Nested → List Nested = λ x. map (with_rows (names_in (rows_part x)))
+        (elements_in (trace tables (value_part x ∷ env) b)) in
         let g : Nested → List Nested = λ v. elements_in (meaning tables (v ∷ map erased env) b) in
-        erased_bag (flat_map f xs) ∙ ap bag_of (map_flat erased_element f xs ∙ flat_same (λ x. map erased_element (f x)) (λ x. g (erased_element x)) (λ x. each_agrees x (elements_in (trace tables (value_part x ∷ env) b)) ∙ elements_agree (trace tables (value_part x ∷ env) b) (meaning tables (erased (value_part x) ∷ map erased env) b) (trace_erased (value_part x ∷ env) b) ∙ ap (λ v. elements_in (meaning tables (v ∷ map erased env) b)) (sym (part_erased x))) xs ∙ sym (flat_of_map g erased_element xs) ∙ ap (flat_map g) (elements_agree (trace tables env a) (meaning tables (map erased env) a) (trace_erased env a)))
+        erased_bag (flat_map f xs) ∙ ap bag_of (map_flat erased_element f xs
+        ∙ flat_same (λ x. map erased_element (f x)) (λ x. g (erased_element x))
+        (λ x. each_agrees x (elements_in (trace tables (value_part x ∷ env) b))
+        ∙ elements_agree (trace tables (value_part x ∷ env) b)
+        (meaning tables (erased (value_part x) ∷ map erased env) b)
+        (trace_erased (value_part x ∷ env) b) ∙ ap (λ v. elements_in
+        (meaning tables (v ∷ map erased env) b)) (sym (part_erased x))) xs
+        ∙ sym (flat_of_map g erased_element xs) ∙ ap (flat_map g)
+        (elements_agree (trace tables env a) (meaning tables (map erased env) a)
+        (trace_erased env a)))
     trace_erased env (TermTree.guard x a) =
         let xs = elements_in (trace tables env a) in
         let t = is_true (cell_of (trace tables env x)) in
-        erased_bag (cond t xs []) ∙ ap bag_of (guard_erased t xs (elements_in (meaning tables (map erased env) a)) (elements_agree (trace tables env a) (meaning tables (map erased env) a) (trace_erased env a)) ∙ ap (λ c. cond (is_true c) (elements_in (meaning tables (map erased env) a)) []) (cells_agree (trace tables env x) (meaning tables (map erased env) x) (trace_erased env x)))
+        erased_bag (cond t xs []) ∙ ap bag_of (guard_erased t xs
+        (elements_in (meaning tables (map erased env) a))
+        (elements_agree (trace tables env a) (meaning tables (map erased env) a)
+        (trace_erased env a)) ∙ ap (λ c. cond (is_true c)
+        (elements_in (meaning tables (map erased env) a)) [])
+        (cells_agree (trace tables env x) (meaning tables (map erased env) x)
+        (trace_erased env x)))
     trace_erased env (TermTree.fun taken a) = refl
     trace_erased env (TermTree.apply a b) = refl
     trace_erased env (TermTree.bind a b) = refl
 
-    fields_agree : (env : List Nested) (fs : TermFields) → fields_erased (trace_fields tables env fs) ≡ field_meanings tables (map erased env) fs
+    fields_agree : (env : List Nested) (fs : TermFields)
+        → fields_erased (trace_fields tables env fs) ≡ field_meanings tables (map erased env) fs
     fields_agree env TermFields.none = refl
     fields_agree env (TermFields.with_field l a fs) =
-        put_erased l (trace tables env a) (trace_fields tables env fs) ∙ ap₂ (λ v (z : List (Label × Nested)). put_field l v z) (trace_erased env a) (fields_agree env fs)
+        put_erased l (trace tables env a) (trace_fields tables env fs)
+        ∙ ap₂ (λ v (z : List (Label × Nested)). put_field l v z) (trace_erased env a)
+        (fields_agree env fs)

@@ -6,7 +6,8 @@ use Rattle.canon.proofs.pieces.write_quoted.Given as goal
 
 abbrev pub invariant-loop-before : goal.invariant-loop-before
 invariant-loop-before l =
-    shadow (Utf8 l.rest) × (string_bytes l.text ++ doubled_quotes l.rest ≡ string_bytes l.initial.text ++ doubled_quotes l.quoted)
+    shadow (Utf8 l.rest) × (string_bytes l.text ++ doubled_quotes l.rest
+    ≡ string_bytes l.initial.text ++ doubled_quotes l.quoted)
 
 abbrev pub decreases-loop-before : goal.decreases-loop-before
 decreases-loop-before l = length l.rest

@@ -11,6 +11,12 @@ loop-column-preserved c =
     let row = row_at c.args.rows.now c.args.row in
     let column = c.loop-column.column in
     let cell = cell_seen c.cell.result in
-    let below : column < length row = omega (arith, c.loop-column-test.true, c.width-column-end.ensures) in
-    let next = cells_more row column cell below (c.cell.ensures ∙ get_or_default row column _ cell below) in
-    appended _ _ _ _ _ _ _ _ c.loop-column.invariant c.in_ok-write_bar.ensures c.in_ok-write_cell.ensures next
+    let below : column < length row = omega (
+      arith,
+      c.loop-column-test.true,
+      c.width-column-end.ensures,
+    ) in
+    let next = cells_more row column cell below (c.cell.ensures
+    ∙ get_or_default row column _ cell below) in
+    appended _ _ _ _ _ _ _ _ c.loop-column.invariant c.in_ok-write_bar.ensures
+    c.in_ok-write_cell.ensures next

@@ -6,4 +6,5 @@ use Rattle.canon.proofs.row_lines.write_line.Given as goal
 
 abbrev pub invariant-loop-column : goal.invariant-loop-column
 invariant-loop-column l =
-    string_bytes l.text ≡ string_bytes l.initial.text ++ join_with_byte 124 (map cell_text (take l.column (row_at l.rows l.row)))
+    string_bytes l.text ≡ string_bytes l.initial.text ++ join_with_byte 124
+    (map cell_text (take l.column (row_at l.rows l.row)))

@@ -8,4 +8,6 @@ use Rattle.canon.proofs.sort.put_in_order.Goals as goal
 
 pub returns : goal.returns
 returns c =
-    sorted_by_key value_cmp nested value_order _ _ c.sort_unstable_by.ensures.permutation (c.sort_unstable_by.ensures.sorted _ (ranks_by value_order.total nested) (answers_always _ _ _ (λ f a r g h. search rules)))
+    sorted_by_key value_cmp nested value_order _ _ c.sort_unstable_by.ensures.permutation
+    (c.sort_unstable_by.ensures.sorted _ (ranks_by value_order.total nested)
+    (answers_always _ _ _ (λ f a r g h. search rules)))

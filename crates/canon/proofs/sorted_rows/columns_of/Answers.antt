@@ -8,5 +8,6 @@ loop-column-preserved c =
     let column : ℕ = c.loop-column.column in
     let next : suc column ≡ column + 1 = omega arith in
     let this : column ≡ 0 + column = omega arith in
-    c.in_ok-push.ensures.items ∙ ap (λ (l : List ℕ). l ++ column ∷ []) c.loop-column.invariant ∙ ap (λ (m : ℕ). count_from 0 column ++ m ∷ []) this
+    c.in_ok-push.ensures.items ∙ ap (λ (l : List ℕ). l ++ column ∷ []) c.loop-column.invariant
+    ∙ ap (λ (m : ℕ). count_from 0 column ++ m ∷ []) this
     ∙ sym (count_next 0 column) ∙ ap (count_from 0) next

@@ -9,6 +9,8 @@ returns-clause-order c =
     let rows = c.args.rows.now in
     let types = c.args.types.now in
     let places = c.in_ok-places.places.items in
-    let columns : c.as_slice.result.now ≡ count_from 0 (length types) = c.as_slice.ensures.value ∙ c.in_ok-columns.ensures in
-    let up = subst (λ (cs : List ℕ). Rises key_lt (keys_at rows cs places)) columns c.in_ok-places.ensures.order in
+    let columns : c.as_slice.result.now ≡ count_from 0 (length types) = c.as_slice.ensures.value
+    ∙ c.in_ok-columns.ensures in
+    let up = subst (λ (cs : List ℕ). Rises key_lt (keys_at rows cs places)) columns
+    c.in_ok-places.ensures.order in
     rows_in_order rows types c.requires places c.in_ok-places.ensures.places up

@@ -5,8 +5,10 @@ use Rattle.canon.proofs.text.+write.Given as goal
 
 abbrev pub invariant-write_record-loop-i : goal.invariant-write_record-loop-i
 invariant-write_record-loop-i l =
-    string_bytes l.text ≡ string_bytes l.initial.text ++ written_fields (fields_of (fields_view (take l.i l.fields)))
+    string_bytes l.text ≡ string_bytes l.initial.text ++ written_fields
+    (fields_of (fields_view (take l.i l.fields)))
 
 abbrev pub invariant-write_bag-loop-i : goal.invariant-write_bag-loop-i
 invariant-write_bag-loop-i l =
-    string_bytes l.text ≡ string_bytes l.initial.text ++ written_elements (elements_of (map nested (take l.i l.elements)))
+    string_bytes l.text ≡ string_bytes l.initial.text ++ written_elements
+    (elements_of (map nested (take l.i l.elements)))

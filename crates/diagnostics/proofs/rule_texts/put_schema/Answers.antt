@@ -7,6 +7,7 @@ pub returns : goal.returns
 unfolding schema_lines
 returns c =
     on_ok c.extend_from_slice-2.result
-    (put_two c.args.text.now c.extend_from_slice.new.self c.extend_from_slice-2.new.self (codes "The examples are over\n") c.as_bytes.result.now example_schema
+    (put_two c.args.text.now c.extend_from_slice.new.self c.extend_from_slice-2.new.self
+    (codes "The examples are over\n") c.as_bytes.result.now example_schema
     c.in_ok-extend_from_slice.ensures.ok (c.as_bytes.ensures.value ∙ c.example_schema.ensures))
     c.extend_from_slice-2.ensures.ok

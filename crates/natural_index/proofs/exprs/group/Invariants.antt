@@ -7,5 +7,6 @@ use Rattle.natural_index.proofs.exprs.group.Given as goal
 abbrev pub invariant-loop-at : goal.invariant-loop-at
 invariant-loop-at l = record {
   own : l.own ≡ length (map key_expr (of_type l.of l.keys));
-  made : map expr_tree l.made ≡ map key_expr (of_type l.of l.keys) ++ replicate (l.at - l.own) (zero_expr l.of);
+  made : map expr_tree l.made ≡ map key_expr (of_type l.of l.keys)
+      ++ replicate (l.at - l.own) (zero_expr l.of);
 }

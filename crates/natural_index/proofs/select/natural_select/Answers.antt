@@ -11,7 +11,8 @@ pub returns : goal.returns
 returns c =
     let part = c.args.part.now in
     select_made c.in_ok-items.items c.in_ok-from.from c.in_ok-keep.keep
-    (as_items (natural_columns c.args.schema.now.tables c.args.outer c.args.inner (strand_tree part)))
+    (as_items (natural_columns c.args.schema.now.tables c.args.outer c.args.inner
+    (strand_tree part)))
     (map source_of (part.outer_gens ++ part.gens))
     (conds_keep none_outer (both (conds_tree part.outer_conds) (conds_tree part.conds)))
     c.in_ok-items.ensures c.in_ok-from.ensures c.in_ok-keep.ensures

@@ -15,10 +15,18 @@ loop-at-preserved c =
     let forms = c.args.forms.now in
     let k = c.loop-at.at in
     let within : k < length forms = c.loop-at-test.true in
-    let few = numbers_are outers inners forms k within (get_or forms k c.index-forms-at.result) c.index-forms-at.result refl c.as_slice.result.now (c.as_slice.ensures ∙ c.in_ok-columns.ensures) (c.has_numbers.ensures c.if-not-has_numbers.false) in
+    let few = numbers_are outers inners forms k within (get_or forms k c.index-forms-at.result)
+    c.index-forms-at.result refl c.as_slice.result.now
+    (c.as_slice.ensures ∙ c.in_ok-columns.ensures)
+    (c.has_numbers.ensures c.if-not-has_numbers.false) in
     let form = c.index-forms-at-in-loop-at.result in
     record {
-      are = made_more (tree_in S outers inners (elements_of forms) (parts_of forms)) c.loop-at.texts c.push.new.self c.in_ok-text_at.field-0 k c.loop-at.invariant.are c.in_ok-push.ensures.ok
-          (text_is outers inners forms k within form form c.index-forms-at-in-loop-at.is S (sql_tree c.in_ok-text_at.field-0) c.in_ok-text_at.ensures);
-      numbered = below_more (λ (q : ℕ). HasNumbers (layout_at outers q) (element_columns (index_columns (layout_at inners q)) (element_of (elements_of forms) q))) k c.loop-at.invariant.numbered few;
+      are = made_more (tree_in S outers inners (elements_of forms)
+          (parts_of forms)) c.loop-at.texts c.push.new.self c.in_ok-text_at.field-0 k
+          c.loop-at.invariant.are c.in_ok-push.ensures.ok
+          (text_is outers inners forms k within form form c.index-forms-at-in-loop-at.is S
+          (sql_tree c.in_ok-text_at.field-0) c.in_ok-text_at.ensures);
+      numbered = below_more (λ (q : ℕ). HasNumbers (layout_at outers q)
+          (element_columns (index_columns (layout_at inners q)) (element_of (elements_of forms) q)))
+          k c.loop-at.invariant.numbered few;
     }

@@ -6,4 +6,5 @@ use Rattle.natural_keys.proofs.layouts.layout_of.Given as goal
 
 abbrev pub invariant-loop-part : goal.invariant-loop-part
 invariant-loop-part l =
-    joined l.layout (layout_of l.schema.tables (map strand_tree (drop l.part-index l.parts))) ≡ layout_of l.schema.tables (map strand_tree l.parts)
+    joined l.layout (layout_of l.schema.tables (map strand_tree (drop l.part-index l.parts)))
+    ≡ layout_of l.schema.tables (map strand_tree l.parts)

@@ -8,7 +8,9 @@ pub returns : goal.returns
 returns g c =
     let W = g.H.Hasher.write in
     let cells = c.as_slice-cell-items.result.now in
-    sym (ap (λ (l : List Cell). fold W c.loop-cell.state (flat_map cell_fed l)) (drop_of_length-le cells c.loop-cell-test.false))
+    sym (ap (λ (l : List Cell). fold W c.loop-cell.state (flat_map cell_fed l))
+    (drop_of_length-le cells c.loop-cell-test.false))
     ∙ c.loop-cell.invariant
-    ∙ ap (λ (l : List Cell). fold W c.hash.new.state (flat_map cell_fed l)) c.as_slice-cell-items.ensures
+    ∙ ap (λ (l : List Cell). fold W c.hash.new.state (flat_map cell_fed l))
+    c.as_slice-cell-items.ensures
     ∙ ap (λ s. fold W s (flat_map cell_fed c.args.self.now.cells)) c.hash.ensures
