@@ -78,7 +78,9 @@ abbrev views : List (List ℕ × Part) → List Cell → List (List ℕ × Neste
 views made row = map (λ f. (f.0, value_in f.1 row)) made
 
 -- some fields are made, and the rest begin at a column, with these answers left
-pub record AreFilled (all : FieldTypes) (ans : List AnswerRows) (column : ℕ) (made : List (List ℕ × Part)) (rest : FieldTypes) (left : List AnswerRows) (now : ℕ) : Type 0 where
+pub record AreFilled (all : FieldTypes) (ans : List AnswerRows) (column : ℕ)
+    (made : List (List ℕ × Part)) (rest : FieldTypes) (left : List AnswerRows)
+    (now : ℕ) : Type 0 where
   pub values : (row : List Cell) → onto (views made row) (fields_value rest left now row)
       ≡ fields_value all ans column row
   pub wide : now + length (fields_columns rest) ≡ column + length (fields_columns all)
@@ -97,26 +99,26 @@ one_filled : (all : FieldTypes) (ans : List AnswerRows) (column : ℕ) (made : L
     (l : List ℕ) (a : TypeTree) (fs : FieldTypes) (left : List AnswerRows) (now : ℕ) (part : Part)
     (after : List AnswerRows) (next : ℕ)
     → IsPartOf a left now part → next ≡ now + width a → after ≡ drop (bags a) left
-        → AreFilled all ans column made (field l a fs) left now
-        → AreFilled all ans column (made ++ (l, part) ∷ []) fs after next
+    → AreFilled all ans column made (field l a fs) left now
+    → AreFilled all ans column (made ++ (l, part) ∷ []) fs after next
 one_filled all ans column made l a fs left now part after next is next_is after_is f = record {
   values = λ row.
       let longer : views (made ++ (l, part) ∷ []) row ≡ views made row ++ (l, value_in part row)
-            ∷ [] = map-append (λ (p : List ℕ × Part). (p.0, value_in p.1 row)) made
-            ((l, part) ∷ []) in
+      ∷ [] = map-append (λ (p : List ℕ × Part). (p.0, value_in p.1 row)) made
+      ((l, part) ∷ []) in
       let others : fields_value fs after next row ≡ fields_value fs (drop (bags a) left)
-            (now + width a) row = ap₂ (λ (x : List AnswerRows)
-            (c : ℕ). fields_value fs x c row) after_is next_is in
+      (now + width a) row = ap₂ (λ (x : List AnswerRows)
+      (c : ℕ). fields_value fs x c row) after_is next_is in
       ap₂ (λ (vs : List (List ℕ × Nested)) (fs : Fields). onto vs fs) longer others
       ∙ onto_more (views made row) (l, value_in part row)
-          (fields_value fs (drop (bags a) left) (now + width a) row)
+      (fields_value fs (drop (bags a) left) (now + width a) row)
       ∙ ap (λ (v : Nested). onto (views made row) (Fields.field l v
-          (fields_value fs (drop (bags a) left) (now + width a) row))) (is row)
+      (fields_value fs (drop (bags a) left) (now + width a) row))) (is row)
       ∙ f.values row;
   wide =
       let whole : now + (width a + length (fields_columns fs))
-            ≡ column + length (fields_columns all) = ap (λ (n : ℕ). now + n)
-            (sym (length-append (element_columns a) (fields_columns fs))) ∙ f.wide in
+      ≡ column + length (fields_columns all) = ap (λ (n : ℕ). now + n)
+      (sym (length-append (element_columns a) (fields_columns fs))) ∙ f.wide in
       omega (arith, next_is, whole);
   taken = ap (drop (bags_in fs)) after_is ∙ drop-drop (bags_in fs) (bags a) left ∙ f.taken;
 }
@@ -126,27 +128,30 @@ pub next_filled : (all : FieldTypes) (ans : List AnswerRows) (column : ℕ)
     (l : List ℕ) (left : List AnswerRows) (now : ℕ) (part : Part) (after : List AnswerRows)
     (next : ℕ)
     → k < length fields → f ≡ get_or fields k f → l ≡ f.0 → IsPartOf (type_tree f.1) left now part
-        → next ≡ now + width (type_tree f.1) → after ≡ drop (bags (type_tree f.1)) left
+    → next ≡ now + width (type_tree f.1) → after ≡ drop (bags (type_tree f.1)) left
     → AreFilled all ans column made (types_of (drop k fields)) left now
-        → AreFilled all ans column (made ++ (l, part) ∷ [])
-        (types_of (drop (k + 1) fields)) after next
+    → AreFilled all ans column (made ++ (l, part) ∷ [])
+    (types_of (drop (k + 1) fields)) after next
 next_filled all ans column made fields k f l left now part after next below here label is next_is
     after_is filled =
     let types_here : types_of (drop k fields) ≡ field f.0 (type_tree f.1)
-          (types_of (drop (suc k) fields)) = ap types_of
-          (drop-cons fields k f below ∙ ap (λ (z : List ℕ × Ty). z ∷ drop (suc k) fields)
-          (sym here)) in
+    (types_of (drop (suc k) fields)) = ap types_of
+    (drop-cons fields k f below ∙ ap (λ (z : List ℕ × Ty). z ∷ drop (suc k) fields)
+    (sym here)) in
     let one = one_filled all ans column made f.0 (type_tree f.1)
-          (types_of (drop (suc k) fields)) left now part after next is next_is after_is
-          (subst (λ (z : FieldTypes). AreFilled all ans column made z left now) types_here filled)
-          in
+    (types_of (drop (suc k) fields)) left now part after next is next_is after_is
+    (subst (λ (z : FieldTypes). AreFilled all ans column made z left now) types_here filled)
+    in
     let place : suc k ≡ k + 1 = omega arith in
     subst (λ (m : ℕ). AreFilled all ans column (made ++ (l, part) ∷ [])
-        (types_of (drop m fields)) after next) place
+    (types_of (drop m fields)) after next) place
     (subst (λ (m : List ℕ). AreFilled all ans column (made ++ (m, part) ∷ [])
-        (types_of (drop (suc k) fields)) after next) (sym label) one)
+    (types_of (drop (suc k) fields)) after next) (sym label) one)
 
-module _ (fields : List (List ℕ × Ty)) (ans : List AnswerRows) (column : ℕ) (made : List (List ℕ × Part)) (k : ℕ) (left : List AnswerRows) (now : ℕ) (past : length fields ≤ k) (filled : AreFilled (types_of fields) ans column made (types_of (drop k fields)) left now) where
+module _ (fields : List (List ℕ × Ty)) (ans : List AnswerRows) (column : ℕ)
+    (made : List (List ℕ × Part)) (k : ℕ) (left : List AnswerRows) (now : ℕ)
+    (past : length fields ≤ k) (filled : AreFilled (types_of fields) ans column made
+    (types_of (drop k fields)) left now) where
   none_left : types_of (drop k fields) ≡ FieldTypes.none
   none_left = ap types_of (drop_all k fields past)
 
@@ -176,15 +181,15 @@ each_same {B = B} f g e (x ∷ xs) = ap₂ (λ (y : B) (ys : List B). y ∷ ys) 
 pub bag_made : (a : TypeTree) (ans : List AnswerRows) (rows : AnswerRows) (left : List AnswerRows)
     (element : Part) (groups : Groups)
     → rows ≡ get_or ans 0 [] → left ≡ drop 1 ans → IsPartOf a left 2 element
-        → AreSorted element rows groups → IsBagOf a ans groups element
+    → AreSorted element rows groups → IsBagOf a ans groups element
 bag_made a ans rows left element groups rows_are left_is is sorted i =
     let own : (r : List Cell) → value_in element r ≡ part_value a (drop 1 ans) 2 r = λ r. is r
-          ∙ ap (λ (x : List AnswerRows). part_value a x 2 r) left_is in
+    ∙ ap (λ (x : List AnswerRows). part_value a x 2 r) left_is in
     ap bag_of (sorted.sorted i
     ∙ ap (sorted_by value_cmp) (each_same (value_in element)
-        (λ r. part_value a (drop 1 ans) 2 r) own (rows_under i rows)
-        ∙ ap (λ (x : AnswerRows). map (λ r. part_value a (drop 1 ans) 2 r)
-        (rows_under i x)) rows_are))
+    (λ r. part_value a (drop 1 ans) 2 r) own (rows_under i rows)
+    ∙ ap (λ (x : AnswerRows). map (λ r. part_value a (drop 1 ans) 2 r)
+    (rows_under i x)) rows_are))
 
 -- 4. parts
 
@@ -206,7 +211,7 @@ pub bag_part : (a : TypeTree) (ans : List AnswerRows) (c : ℕ) (groups : Groups
     → IsPartOf (bag a) ans c (part.Bag c groups box)
 bag_part a ans c groups element box e is row =
     value_of_bag c groups box row ∙ ap (λ (p : Part). bag_in p groups.rows
-        (places_under groups (index_at row c))) e ∙ is (index_at row c)
+    (places_under groups (index_at row c))) e ∙ is (index_at row c)
 
 pub function_part : (a b : TypeTree) (ans : List AnswerRows) (c : ℕ) (fields : List (List ℕ × Part))
     → fields ≡ [] → IsPartOf (fun a b) ans c (part.Record fields)
@@ -227,8 +232,8 @@ pub bag_written : (a : TypeTree) (ans left : List AnswerRows) (groups : Groups) 
     (places bytes : List ℕ) → left ≡ ans → IsBagOf a left groups element → places
     ≡ places_under groups (pos 0, pos 1)
     → bytes ≡ written (bag_in element groups.rows places) ++ codes "\n" → bytes
-        ≡ written (bag_value a ans (pos 0, pos 1)) ++ codes "\n"
+    ≡ written (bag_value a ans (pos 0, pos 1)) ++ codes "\n"
 bag_written a ans left groups element places bytes e is here whole =
     whole ∙ ap (λ (v : Nested). written v ++ codes "\n")
     (ap (λ (l : List ℕ). bag_in element groups.rows l) here ∙ is (pos 0, pos 1)
-        ∙ ap (λ (l : List AnswerRows). bag_value a l (pos 0, pos 1)) e)
+    ∙ ap (λ (l : List AnswerRows). bag_value a l (pos 0, pos 1)) e)

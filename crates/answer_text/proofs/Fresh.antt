@@ -6,13 +6,12 @@ use Rattle.std.specs.Ordering.{is_lt, int_cmp, ordering_then, ordering_reverse}
 use Rattle.std.specs.declared.cmp.Ordering.{Ordering}
 use Rattle.std.specs.declared.cmp.Ordering.TheVariants.{Less, Equal, Greater}
 use Rattle.std.specs.Cmp.{IsTotalOrder, then_total, on_total, int_cmp_total}
-use Rattle.std.proofs.lemmas.List.{get_or-take, get_or-drop}
+use Rattle.std.proofs.lemmas.List.{get_or-take}
 use Rattle.std.proofs.lemmas.List.Sorted.{sorted_far, ranks_by}
 use Rattle.nq_model.specs.Operators.{int_of}
 use Rattle.nq_model.specs.declared.table.Cell.{Cell}
 use Rattle.nq_model.specs.declared.table.Cell.TheVariants as cell
 use Rattle.nq_model.proofs.Canonical.{cell_order}
-use Rattle.rows.specs.Places.{row_at}
 use Rattle.answer_text.specs.Indexes.{index_cmp, is_index}
 use Rattle.answer_text.specs.Spans.{index_of}
 use Rattle.answer_text.proofs.Spanning.{same_index, index_itself, take_split, filter_both, filter_no, each_also, run_each}
@@ -42,8 +41,11 @@ neither Greater s e h k = absurd (true≢false (sym (ap is_lt e) ∙ k))
 each_place : (P : ℕ → Type 0) (xs : List ℕ) → ((k : ℕ) → k < length xs → P (get_or xs k 0))
     → Each P xs
 each_place P [] h = tt
-each_place P (x ∷ xs) h = (h 0 (omega arith), each_place P xs
-    (λ k below. h (suc k) (omega (arith, below))))
+each_place P (x ∷ xs) h = (
+  h 0 (omega arith),
+  each_place P xs
+      (λ k below. h (suc k) (omega (arith, below))),
+)
 
 different : (i j : ℤ × ℤ) (b : Bool) → is_index i j ≡ b → (is_index i j ≡ true → ⊥) → is_index i j
     ≡ false
@@ -70,41 +72,41 @@ module _ (rows : List (List Cell)) (places : List ℕ) where
         → index ≡ index_of rows (get_or places start 0)
         → All (λ p. is_index (index_of rows p) index ≡ true) (take n (drop (start + 1) places))
         → (end < length places → is_index (index_of rows (get_or places end 0)) index ≡ false)
-            → IsFresh end
+        → IsFresh end
     next_fresh start n end index here e own run ends below =
         let next : ℤ × ℤ = index_of rows (get_or places end 0) in
         let apart : (is_index index next ≡ true → ⊥) = λ h. true≢false
-              (sym (index_itself index) ∙ ap (λ (i : ℤ × ℤ). is_index i index)
-              (same_index index next h) ∙ ends below) in
+        (sym (index_itself index) ∙ ap (λ (i : ℤ × ℤ). is_index i index)
+        (same_index index next h) ∙ ends below) in
         let before : Each (λ p. is_index (index_of rows p) next ≡ false) (take start places)
-              = each_place (λ p. is_index (index_of rows p) next ≡ false) (take start places)
-              (λ k low.
+        = each_place (λ p. is_index (index_of rows p) next ≡ false) (take start places)
+        (λ k low.
         let short : k < min start (length places) = subst (λ (m : ℕ). k < m)
-              (length-take start places) low in
+        (length-take start places) low in
         let place : get_or (take start places) k 0 ≡ get_or places k 0
-              = get_or-take start places k 0 (omega (arith, short)) in
+        = get_or-take start places k 0 (omega (arith, short)) in
         let this : ℤ × ℤ = index_of rows (get_or places k 0) in
         let old : is_index this next ≡ false = different this next (is_index this next) refl (λ h.
         let one : this ≡ next = same_index this next h in
         let not_above : is_lt (index_cmp index next) ≡ false
-              = ap₂ (λ (i j : ℤ × ℤ). is_lt (index_cmp i j)) own (sym one)
-              ∙ far k start (omega (arith, short)) here in
+        = ap₂ (λ (i j : ℤ × ℤ). is_lt (index_cmp i j)) own (sym one)
+        ∙ far k start (omega (arith, short)) here in
         let not_below : is_lt (index_cmp next index) ≡ false
-              = ap (λ (i : ℤ × ℤ). is_lt (index_cmp next i)) own
-              ∙ far start end (omega (arith, e)) below in
+        = ap (λ (i : ℤ × ℤ). is_lt (index_cmp next i)) own
+        ∙ far start end (omega (arith, e)) below in
         let tie : index ≡ next = index_one index next (neither (index_cmp index next)
-              (index_cmp next index) (index_total.antisymm next index) not_above not_below) in
+        (index_cmp next index) (index_total.antisymm next index) not_above not_below) in
         apart (ap (λ (i : ℤ × ℤ). is_index index i) (sym tie) ∙ index_itself index)) in
         ap (λ (p : ℕ). is_index (index_of rows p) next) place ∙ old) in
         let within : Each (λ p. is_index (index_of rows p) next ≡ false)
-              (slice_range places start end) = each_also
-              (λ p. is_index (index_of rows p) index ≡ true)
-              (λ p. is_index (index_of rows p) next ≡ false)
+        (slice_range places start end) = each_also
+        (λ p. is_index (index_of rows p) index ≡ true)
+        (λ p. is_index (index_of rows p) next ≡ false)
         (λ p h. ap (λ (i : ℤ × ℤ). is_index i next) (same_index (index_of rows p) index h)
-            ∙ different index next (is_index index next) refl apart) (slice_range places start end)
-            (run_each rows places start n end index here e own run) in
+        ∙ different index next (is_index index next) refl apart) (slice_range places start end)
+        (run_each rows places start n end index here e own run) in
         let pass : ℕ → Bool = λ p. is_index (index_of rows p) next in
         ap (filter pass) (take_split places start (end - start) end (omega (arith, e)))
-            ∙ filter_both pass (take start places) (slice_range places start end)
+        ∙ filter_both pass (take start places) (slice_range places start end)
         ∙ ap₂ (λ (xs ys : List ℕ). xs ++ ys) (filter_no pass (take start places) before)
-            (filter_no pass (slice_range places start end) within)
+        (filter_no pass (slice_range places start end) within)

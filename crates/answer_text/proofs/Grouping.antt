@@ -34,20 +34,20 @@ module _ (element : Part) (rows : List (List Cell)) where
       → AreInRuns element rows before now spans → AreInRuns element rows all sorted spans
   runs_moved before all now sorted spans e h runs i =
       ap (map value_at) (ap (λ (l : List ℕ). spanned spans l i) h) ∙ runs i
-          ∙ ap (λ (l : List ℕ). sorted_by value_cmp (map value_at (under rows l i))) e
+      ∙ ap (λ (l : List ℕ). sorted_by value_cmp (map value_at (under rows l i))) e
 
   -- places that are put in another order first are in the same runs
   pub runs_of_all : (all places sorted : List ℕ) (spans : Spans) → IsPermutation all places
       → AreInRuns element rows places sorted spans → AreInRuns element rows all sorted spans
   runs_of_all all places sorted spans permuted runs i =
       let kept : Reordered (under rows all i) (under rows places i)
-            = matched_filter (λ (x y : ℕ). x ≡ y) (pass i) (pass i)
-            (λ x y e. ap (pass i) e) all places (reordered_from_permutation all places permuted) in
+      = matched_filter (λ (x y : ℕ). x ≡ y) (pass i) (pass i)
+      (λ x y e. ap (pass i) e) all places (reordered_from_permutation all places permuted) in
       let valued : Reordered (map value_at (under rows all i)) (map value_at (under rows places i))
-            = matched_map (λ (x y : ℕ). x ≡ y) (λ (v w : Nested). v ≡ w) value_at value_at
-            (λ x y e. ap value_at e) (under rows all i) (under rows places i) kept in
+      = matched_map (λ (x y : ℕ). x ≡ y) (λ (v w : Nested). v ≡ w) value_at value_at
+      (λ x y e. ap value_at e) (under rows all i) (under rows places i) kept in
       runs i ∙ sym (sorted_reordered value_cmp value_order (map value_at (under rows all i))
-          (map value_at (under rows places i)) valued)
+      (map value_at (under rows places i)) valued)
 
   filter_rows : (q : List Cell → Bool) (ps : List ℕ) → map (row_at rows)
       (filter (λ p. q (row_at rows p)) ps) ≡ filter q (map (row_at rows) ps)
@@ -57,20 +57,20 @@ module _ (element : Part) (rows : List (List Cell)) where
       go : (b : Bool) → map (row_at rows) (filter (λ k. q (row_at rows k)) ps)
           ≡ filter q (map (row_at rows) ps)
           → map (row_at rows) (cond b (p ∷ filter (λ k. q (row_at rows k)) ps)
-              (filter (λ k. q (row_at rows k)) ps)) ≡ cond b
-              (row_at rows p ∷ filter q (map (row_at rows) ps)) (filter q (map (row_at rows) ps))
+          (filter (λ k. q (row_at rows k)) ps)) ≡ cond b
+          (row_at rows p ∷ filter q (map (row_at rows) ps)) (filter q (map (row_at rows) ps))
       go true rest = ap (λ (l : List (List Cell)). row_at rows p ∷ l) rest
       go false rest = rest
 
   -- the runs of all rows give the elements under each index in canonical order
   pub groups_sorted : (runs : Runs) → AreRuns element rows runs → (i : ℤ × ℤ)
       → map (value_in element) (rows_at rows (spanned runs.spans runs.places i))
-          ≡ sorted_by value_cmp (map (value_in element) (rows_under i rows))
+      ≡ sorted_by value_cmp (map (value_in element) (rows_under i rows))
   groups_sorted runs are i =
       let all : List ℕ = count_from 0 (length rows) in
       let named : map value_at (under rows all i) ≡ map (value_in element) (rows_under i rows)
-            = sym (map-map (value_in element) (row_at rows) (under rows all i))
+      = sym (map-map (value_in element) (row_at rows) (under rows all i))
       ∙ ap (map (value_in element)) (filter_rows (λ r. is_index (index_at r 0) i) all
-          ∙ ap (filter (λ r. is_index (index_at r 0) i)) (rows_from [] rows)) in
+      ∙ ap (filter (λ r. is_index (index_at r 0) i)) (rows_from [] rows)) in
       map-map (value_in element) (row_at rows) (spanned runs.spans runs.places i) ∙ are i
-          ∙ ap (sorted_by value_cmp) named
+      ∙ ap (sorted_by value_cmp) named

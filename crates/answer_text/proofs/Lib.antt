@@ -5,5 +5,6 @@ pub mod Fresh
 pub mod Listing
 pub mod Running
 pub mod Grouping
+pub mod Headed
 pub mod Building
 pub mod Stitched

@@ -17,10 +17,10 @@ module _ (view : List Cell → Nested) (rows : List (List Cell)) where
   -- how two bags compare where the shorter one ends
   pub places_end : (a b : List ℕ) (i : ℕ) → i ≡ min (length a) (length b) →
       value_cmp (bag_of (map view (rows_at rows (drop i a))))
-          (bag_of (map view (rows_at rows (drop i b)))) ≡ nat_cmp (length a) (length b)
+      (bag_of (map view (rows_at rows (drop i b)))) ≡ nat_cmp (length a) (length b)
   places_end a b i e =
       ap₂ (λ (x y : List Nested). value_cmp (bag_of x) (bag_of y))
-          (map-map view (row_at rows) (drop i a)) (map-map view (row_at rows) (drop i b))
+      (map-map view (row_at rows) (drop i a)) (map-map view (row_at rows) (drop i b))
       ∙ elements_end view_at a b i e
 
   -- the text of the first rows, and that of one more
@@ -28,11 +28,11 @@ module _ (view : List Cell → Nested) (rows : List (List Cell)) where
       ≡ get_or places i place
       → written_elements (elements_of (map view (rows_at rows (take (i + 1) places))))
       ≡ written_elements (elements_of (map view (rows_at rows (take i places))))
-          ++ (separator i ++ written (view (row_at rows place)))
+      ++ (separator i ++ written (view (row_at rows place)))
   rows_more places i place h e =
       ap (λ (l : List Nested). written_elements (elements_of l))
-          (map-map view (row_at rows) (take (i + 1) places))
+      (map-map view (row_at rows) (take (i + 1) places))
       ∙ elements_more view_at places i place h e
       ∙ ap (λ (l : List Nested). written_elements (elements_of l)
-          ++ (separator i ++ written (view (row_at rows place))))
-          (sym (map-map view (row_at rows) (take i places)))
+      ++ (separator i ++ written (view (row_at rows place))))
+      (sym (map-map view (row_at rows) (take i places)))

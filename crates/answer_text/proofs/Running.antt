@@ -1,5 +1,5 @@
 -- Runs of places that are put in order, one more at a time.
-use Rattle.std.proofs.Common.{◌≡◌, ℕ, ℤ, zero, suc, ◌+◌, ◌-◌, ◌<◌, ◌≤◌, List, [], ◌∷◌, ◌++◌, refl, sym, ap, ap₂, ◌∙◌, subst, Bool, true, false, cond, map, filter, get_or, length, min, take, drop, slice_range, All, arith, append-nil, length-take, length-drop, IsPermutation}
+use Rattle.std.proofs.Common.{◌≡◌, ℕ, ℤ, suc, ◌+◌, ◌-◌, ◌<◌, ◌≤◌, List, [], ◌∷◌, ◌++◌, refl, sym, ap, ap₂, ◌∙◌, subst, Bool, true, false, cond, map, filter, get_or, length, min, take, drop, slice_range, All, arith, append-nil, length-take, length-drop, IsPermutation}
 use borrow.Rule.Slice.PartMut.{mid_of, put_mid}
 use Rattle.std.proofs.lemmas.List.{drop-drop, get_or-drop, length-map, take_all}
 use Rattle.std.proofs.lemmas.List.Sorted.{IsPermutation-put_mid, length_permutation}
@@ -24,7 +24,8 @@ use Rattle.answer_text.proofs.Spanning.{same_index, take_split, filter_both, fil
 use Rattle.answer_text.proofs.Fresh.{IsFresh, next_fresh}
 
 -- up to a place the runs are in order, each in its span, and behind it the places are as before
-pub record AreSortedTo (element : Part) (rows : List (List Cell)) (before now : List ℕ) (spans : Spans) (done : ℕ) : Type 0 where
+pub record AreSortedTo (element : Part) (rows : List (List Cell)) (before now : List ℕ)
+    (spans : Spans) (done : ℕ) : Type 0 where
   pub long : length now ≡ length before
   pub within : done ≤ length before
   pub rest : drop done now ≡ drop done before
@@ -74,10 +75,12 @@ module _ (element : Part) (rows : List (List Cell)) where
       → AreSortedTo element rows before now spans done → AreInRuns element rows before now spans
   all_done before now spans done past inv i =
       let whole : take done before ≡ before = take_all done before
-            (omega (arith, past, inv.long)) in
+      (omega (arith, past, inv.long)) in
       inv.in_runs i ∙ ap (λ (l : List ℕ). sorted_by value_cmp (map value_at (under rows l i))) whole
 
-  module _ (before now : List ℕ) (spans : Spans) (start : ℕ) (index : ℤ × ℤ) (inv : AreSortedTo element rows before now spans start) (here : start < length now) (own : index ≡ index_of rows (get_or now start 0)) where
+  module _ (before now : List ℕ) (spans : Spans) (start : ℕ) (index : ℤ × ℤ)
+      (inv : AreSortedTo element rows before now spans start) (here : start < length now)
+      (own : index ≡ index_of rows (get_or now start 0)) where
     below : start < length before
     below = omega (arith, here, inv.long)
 
@@ -85,8 +88,8 @@ module _ (element : Part) (rows : List (List Cell)) where
     first =
         let same : start + 0 ≡ start = omega arith in
         ap (λ (n : ℕ). get_or now n 0) (sym same) ∙ sym (get_or-drop start now 0 0)
-            ∙ ap (λ (l : List ℕ). get_or l 0 0) inv.rest ∙ get_or-drop start before 0 0
-            ∙ ap (λ (n : ℕ). get_or before n 0) same
+        ∙ ap (λ (l : List ℕ). get_or l 0 0) inv.rest ∙ get_or-drop start before 0 0
+        ∙ ap (λ (n : ℕ). get_or before n 0) same
 
     own_before : index ≡ index_of rows (get_or before start 0)
     own_before = own ∙ ap (index_of rows) first
@@ -98,14 +101,14 @@ module _ (element : Part) (rows : List (List Cell)) where
         let s : ℕ = (span_under spans index).0 in
         let e : ℕ = (span_under spans index).1 in
         let new : under rows (take start before) index ≡ []
-              = subst (λ (i : ℤ × ℤ). under rows (take start before) i ≡ []) (sym own_before)
-              (inv.fresh up below) in
+        = subst (λ (i : ℤ × ℤ). under rows (take start before) i ≡ []) (sym own_before)
+        (inv.fresh up below) in
         let none : map value_at (slice_range now s e) ≡ [] = inv.in_runs index
-              ∙ ap (λ (l : List ℕ). sorted_by value_cmp (map value_at l)) new in
+        ∙ ap (λ (l : List ℕ). sorted_by value_cmp (map value_at l)) new in
         let long : length (slice_range now s e) ≡ min (e - s) (length now - s)
-              = length-take (e - s) (drop s now) ∙ ap (min (e - s)) (length-drop s now) in
+        = length-take (e - s) (drop s now) ∙ ap (min (e - s)) (length-drop s now) in
         let count : length (slice_range now s e) ≡ 0 = sym
-              (length-map (slice_range now s e) value_at) ∙ ap length none in
+        (length-map (slice_range now s e) value_at) ∙ ap length none in
         let low : e ≤ start = inv.ended index in
         omega (arith, some, low, here, long, count)
 
@@ -137,9 +140,9 @@ module _ (element : Part) (rows : List (List Cell)) where
       run_long : length (mid_of start (end - start) now) ≡ end - start
       run_long =
           let long : length (slice_range before start end)
-                ≡ min (end - start) (length before - start)
-                = length-take (end - start) (drop start before)
-                ∙ ap (min (end - start)) (length-drop start before) in
+          ≡ min (end - start) (length before - start)
+          = length-take (end - start) (drop start before)
+          ∙ ap (min (end - start)) (length-drop start before) in
           ap length same_run ∙ omega (arith, long, within)
 
       -- the places up to the end of the run, under an index
@@ -166,7 +169,7 @@ module _ (element : Part) (rows : List (List Cell)) where
             let empty : e - s ≡ 0 = omega (arith, free) in
             let none : spanned spans now index ≡ [] = ap (λ (k : ℕ). take k (drop s now)) empty in
             none_sorted value_at (under rows (take start before) index)
-                (sym (ap (map value_at) none) ∙ inv.in_runs index)
+            (sym (ap (map value_at) none) ∙ inv.in_runs index)
 
         now_span : (i : ℤ × ℤ) (b : Bool) → is_index index i ≡ b → span_under more i
             ≡ cond b (start, end) (span_under spans i)
@@ -177,44 +180,44 @@ module _ (element : Part) (rows : List (List Cell)) where
         runs_more i true e =
             let same : index ≡ i = same_index index i e in
             let now_is : spanned more new i ≡ part = ap (λ (s : ℕ × ℕ). slice_range new s.0 s.1)
-                  (now_span i true e) ∙ between-put_mid start (end - start) now part end
-                  (omega (arith, here)) part_long in
+            (now_span i true e) ∙ between-put_mid start (end - start) now part end
+            (omega (arith, here)) part_long in
             let earlier : under rows (take start before) i ≡ []
-                  = subst (λ (k : ℤ × ℤ). under rows (take start before) k ≡ []) same none_before in
+            = subst (λ (k : ℤ × ℤ). under rows (take start before) k ≡ []) same none_before in
             let kept : filter (pass i) (slice_range before start end) ≡ slice_range before start end
-                  = filter_all (pass i) (slice_range before start end)
-                  (each_also (λ p. is_index (index_of rows p) index ≡ true) (λ p. pass i p ≡ true)
-                  (λ p h. subst (λ (k : ℤ × ℤ). is_index (index_of rows p) k ≡ true) same h)
-                  (slice_range before start end) each) in
+            = filter_all (pass i) (slice_range before start end)
+            (each_also (λ p. is_index (index_of rows p) index ≡ true) (λ p. pass i p ≡ true)
+            (λ p h. subst (λ (k : ℤ × ℤ). is_index (index_of rows p) k ≡ true) same h)
+            (slice_range before start end) each) in
             let all_of : under rows (take end before) i ≡ mid_of start (end - start) now = whole i
-                  ∙ ap₂ (λ (xs ys : List ℕ). xs ++ ys) earlier kept ∙ sym same_run in
+            ∙ ap₂ (λ (xs ys : List ℕ). xs ++ ys) earlier kept ∙ sym same_run in
             ap (map value_at) now_is ∙ sorted_by_key value_cmp value_at value_order
-                (mid_of start (end - start) now) part permuted up
-                ∙ ap (λ (l : List ℕ). sorted_by value_cmp (map value_at l)) (sym all_of)
+            (mid_of start (end - start) now) part permuted up
+            ∙ ap (λ (l : List ℕ). sorted_by value_cmp (map value_at l)) (sym all_of)
         runs_more i false e =
             let s : ℕ = (span_under spans i).0 in
             let t : ℕ = (span_under spans i).1 in
             let early : t ≤ start = inv.ended i in
             let now_is : spanned more new i ≡ spanned spans now i
-                  = ap (λ (s : ℕ × ℕ). slice_range new s.0 s.1) (now_span i false e)
+            = ap (λ (s : ℕ × ℕ). slice_range new s.0 s.1) (now_span i false e)
             ∙ span_kept now new s t start early (take-put_mid_below start
-                (end - start) now part t early (omega (arith, here))) in
+            (end - start) now part t early (omega (arith, here))) in
             let none : filter (pass i) (slice_range before start end) ≡ []
-                  = filter_no (pass i) (slice_range before start end)
-                  (each_also (λ p. is_index (index_of rows p) index ≡ true) (λ p. pass i p ≡ false)
-                  (λ p h. ap (λ (k : ℤ × ℤ). is_index k i) (same_index (index_of rows p) index h)
-                  ∙ e) (slice_range before start end) each) in
+            = filter_no (pass i) (slice_range before start end)
+            (each_also (λ p. is_index (index_of rows p) index ≡ true) (λ p. pass i p ≡ false)
+            (λ p h. ap (λ (k : ℤ × ℤ). is_index k i) (same_index (index_of rows p) index h)
+            ∙ e) (slice_range before start end) each) in
             let all_of : under rows (take end before) i ≡ under rows (take start before) i = whole i
-                  ∙ ap (λ (ys : List ℕ). under rows (take start before) i ++ ys) none
-                  ∙ append-nil (under rows (take start before) i) in
+            ∙ ap (λ (ys : List ℕ). under rows (take start before) i ++ ys) none
+            ∙ append-nil (under rows (take start before) i) in
             ap (map value_at) now_is ∙ inv.in_runs i ∙ ap
-                (λ (l : List ℕ). sorted_by value_cmp (map value_at l)) (sym all_of)
+            (λ (l : List ℕ). sorted_by value_cmp (map value_at l)) (sym all_of)
 
         ended_more : (i : ℤ × ℤ) (b : Bool) → is_index index i ≡ b → (span_under more i).1 ≤ end
         ended_more i true e = let is : (span_under more i).1 ≡ end = ap (λ (s : ℕ × ℕ). s.1) (now_span i true e) in omega (arith, is)
         ended_more i false e =
             let is : (span_under more i).1 ≡ (span_under spans i).1
-                  = ap (λ (s : ℕ × ℕ). s.1) (now_span i false e) in
+            = ap (λ (s : ℕ × ℕ). s.1) (now_span i false e) in
             let early : (span_under spans i).1 ≤ start = inv.ended i in
             omega (arith, is, early, end_is)
 
@@ -222,17 +225,17 @@ module _ (element : Part) (rows : List (List Cell)) where
         next_is =
             let place : start + 1 + run ≡ end = omega (arith, end_is) in
             ap (λ (l : List ℕ). get_or l run 0) behind_is ∙ get_or-drop (start + 1) before run 0
-                ∙ ap (λ (n : ℕ). get_or before n 0) place
+            ∙ ap (λ (n : ℕ). get_or before n 0) place
 
         rest_kept : drop end new ≡ drop end before
         rest_kept =
             let all_to : start + (end - start) ≡ end = omega (arith, end_is) in
             let further : (l : List ℕ) → drop (end - start) (drop start l) ≡ drop end l
-                  = λ l. drop-drop (end - start) start l ∙ ap (λ (n : ℕ). drop n l) all_to in
+            = λ l. drop-drop (end - start) start l ∙ ap (λ (n : ℕ). drop n l) all_to in
             drop-put_mid start (end - start) now part end (omega (arith, all_to))
-                (omega (arith, here)) part_long
+            (omega (arith, here)) part_long
             ∙ sym (further now) ∙ ap (λ (l : List ℕ). drop (end - start) l) inv.rest
-                ∙ further before
+            ∙ further before
 
         -- one run more
         pub one_more : AreSortedTo element rows before new more end
@@ -246,5 +249,5 @@ module _ (element : Part) (rows : List (List Cell)) where
           fresh = λ sorted. next_fresh rows before sorted start run end index below end_is
               own_before run_all
               (λ further. ap (λ (p : ℕ). is_index (index_of rows p) index) (sym next_is)
-                  ∙ ends (omega (arith, further, rest_long, end_is)));
+              ∙ ends (omega (arith, further, rest_long, end_is)));
         }

@@ -18,7 +18,7 @@ pub same_index : (i j : ℤ × ℤ) → is_index i j ≡ true → i ≡ j
 same_index i j h =
     let parts = both (int_eq i.0 j.0) (int_eq i.1 j.1) h in
     ap₂ (λ (x y : ℤ). (x, y)) ((Decides-int_eq i.0 j.0).0 parts.0)
-        ((Decides-int_eq i.1 j.1).0 parts.1)
+    ((Decides-int_eq i.1 j.1).0 parts.1)
 
 pub index_itself : (i : ℤ × ℤ) → is_index i i ≡ true
 index_itself i = ap₂ (λ (a b : Bool). a && b) ((Decides-int_eq i.0 i.0).1 refl)
@@ -69,15 +69,15 @@ module _ (rows : List (List Cell)) (places : List ℕ) where
   pub run_each : (start n end : ℕ) (index : ℤ × ℤ) → start < length places → end ≡ start + 1 + n
       → index ≡ index_of rows (get_or places start 0)
       → All (λ p. is_index (index_of rows p) index ≡ true) (take n (drop (start + 1) places))
-          → Each (λ p. is_index (index_of rows p) index ≡ true) (slice_range places start end)
+      → Each (λ p. is_index (index_of rows p) index ≡ true) (slice_range places start end)
   run_each start n end index below e own more =
       let P : ℕ → Type 0 = λ p. is_index (index_of rows p) index ≡ true in
       let next : suc start ≡ start + 1 = omega arith in
       let many : end - start ≡ suc n = omega (arith, e) in
       let run : slice_range places start end ≡ get_or places start 0
-            ∷ take n (drop (start + 1) places) = ap₂ (λ (k : ℕ) (l : List ℕ). take k l) many
-            (drop-cons places start 0 below ∙ ap (λ (k : ℕ). get_or places start 0
-            ∷ drop k places) next) in
+      ∷ take n (drop (start + 1) places) = ap₂ (λ (k : ℕ) (l : List ℕ). take k l) many
+      (drop-cons places start 0 below ∙ ap (λ (k : ℕ). get_or places start 0
+      ∷ drop k places) next) in
       let first : P (get_or places start 0) = subst (λ (i : ℤ × ℤ). is_index i index ≡ true) own
-            (index_itself index) in
+      (index_itself index) in
       subst (Each P) (sym run) (first, recursion_from_All P (take n (drop (start + 1) places)) more)

@@ -7,6 +7,7 @@ ghost use Rattle.shred_types.specs.Places.{width};
 ghost use Rattle.answer_text.specs.Building.{rows_left, IsPartOf, AreFieldsOf, IsBagOf};
 
 use crate::groups::Groups;
+use crate::heading::Heading;
 use crate::part::Part;
 use nq_model::{Label, List, Memory, Ty, boxed};
 use rows::Rows;
@@ -103,7 +104,7 @@ fn parts_of(
     fields: &[(Label, Ty)],
     column: &mut usize,
     left: &mut List<Answer>,
-) -> Result<List<(Label, Part)>, Memory>
+) -> Result<List<(Heading, Part)>, Memory>
     ensures parts { IfOk result (λ parts. AreFieldsOf
         (field_types_of (fields_view fields.now)) (rows_left left.old) column.old parts) }
     ensures column { OnOk result (column.new
@@ -113,8 +114,8 @@ fn parts_of(
 {
     let mut parts = List::with_capacity(alloc, fields.len())?;
     for field in fields {
-        let label = field.0.copy(alloc)?;
-        parts.push((label, part_of(alloc, &field.1, column, left)?))?;
+        let heading = Heading::new(alloc, &field.0)?;
+        parts.push((heading, part_of(alloc, &field.1, column, left)?))?;
     }
     Ok(parts)
 }

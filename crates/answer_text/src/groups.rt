@@ -10,8 +10,8 @@ use nq_model::Memory;
 use rows::Rows;
 use std::alloc::Global;
 
-/// The rows of an answer by their outer index: under each index a run of places, in the order of the
-/// elements that the rows there are.
+/// The rows of an answer by their outer index: under each index a run of places, in the order of
+/// the elements that the rows there are.
 #[derive(Drop)]
 pub(crate) struct Groups {
     pub(crate) rows: Rows,

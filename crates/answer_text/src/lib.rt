@@ -4,6 +4,8 @@
 mod build;
 mod compare;
 mod groups;
+mod heading;
+mod numbered;
 mod order;
 mod part;
 mod read;

@@ -10,11 +10,12 @@ ghost use Rattle.answer_text.specs.Parts.{value_in};
 ghost use Rattle.answer_text.specs.Spans.{index_of, span_under};
 
 use crate::compare::compare;
+use crate::heading::Heading;
 use crate::part::Part;
 use crate::read::{index_at, int_at};
 use crate::runs::{Runs, behind, run_length};
 use crate::spans::Spans;
-use nq_model::{Label, List, Memory};
+use nq_model::{List, Memory};
 use row_order::{order, order_places};
 use rows::Rows;
 use std::alloc::Global;
@@ -47,7 +48,10 @@ fn push_columns(part: &Part, columns: &mut Vec<usize>) -> Result<bool, Memory> {
 }
 
 #[cycle(columns)]
-fn push_field_columns(fields: &[(Label, Part)], columns: &mut Vec<usize>) -> Result<bool, Memory> {
+fn push_field_columns(
+    fields: &[(Heading, Part)],
+    columns: &mut Vec<usize>,
+) -> Result<bool, Memory> {
     for field in fields {
         if !push_columns(&field.1, columns)? {
             return Ok(false);

@@ -38,8 +38,8 @@ impl Runs {
     }
 }
 
-// Whether two indexes are one.
-fn is_index(left: (i64, i64), right: (i64, i64)) -> bool
+/// Whether two indexes are one.
+pub(crate) fn is_index(left: (i64, i64), right: (i64, i64)) -> bool
     ensures { result ≡ is_index left right }
 {
     left.0 == right.0 && left.1 == right.1

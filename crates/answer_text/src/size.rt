@@ -1,8 +1,9 @@
 // How long texts are, so that one buffer is asked for once and does not move while it grows. Were a
-// size too small, as where many quotes are doubled or rows stand in several bags, the text would grow
-// all the same.
+// size too small, as where many quotes are doubled or rows stand in several bags, the text would
+// grow all the same.
+use crate::heading::Heading;
 use crate::part::Part;
-use nq_model::{CellRef, Label, Memory};
+use nq_model::{CellRef, Memory};
 use rows::Rows;
 use std::alloc::Global;
 
@@ -28,8 +29,8 @@ fn column_size(rows: &Rows, column: usize) -> usize {
     size
 }
 
-// How many bytes stand round the cells of each element, of which the columns are put at the end: `, `
-// behind it, labels, ` = `, `, `, parentheses and braces.
+// How many bytes stand round the cells of each element, of which the columns are put at the end:
+// `, ` behind it, labels, ` = `, `, `, parentheses and braces.
 #[cycle(size)]
 fn size_around(part: &Part, columns: &mut Vec<usize>) -> Result<usize, Memory> {
     match part {
@@ -43,17 +44,20 @@ fn size_around(part: &Part, columns: &mut Vec<usize>) -> Result<usize, Memory> {
 }
 
 #[cycle(size)]
-fn size_around_fields(fields: &[(Label, Part)], columns: &mut Vec<usize>) -> Result<usize, Memory> {
+fn size_around_fields(
+    fields: &[(Heading, Part)],
+    columns: &mut Vec<usize>,
+) -> Result<usize, Memory> {
     let mut size = 4usize;
     for field in fields {
-        let label = field.0.as_str().len().saturating_add(3);
         let value = size_around(&field.1, columns)?;
-        size = size.saturating_add(label).saturating_add(value);
+        size = size.saturating_add(field.0.len()).saturating_add(value);
     }
     Ok(size)
 }
 
-// How many bytes the elements that the rows are are written with, without what stands in their bags.
+// How many bytes the elements that the rows are are written with, without what stands in their
+// bags.
 fn elements_size(alloc: Global, element: &Part, rows: &Rows) -> Result<usize, Memory> {
     let mut columns = Vec::new(alloc);
     let around = size_around(element, &mut columns)?;
@@ -75,7 +79,7 @@ fn bags_size(alloc: Global, part: &Part) -> Result<usize, Memory> {
 }
 
 #[cycle(bags)]
-fn fields_size(alloc: Global, fields: &[(Label, Part)]) -> Result<usize, Memory> {
+fn fields_size(alloc: Global, fields: &[(Heading, Part)]) -> Result<usize, Memory> {
     let mut size = 0usize;
     for field in fields {
         size = size.saturating_add(bags_size(alloc, &field.1)?);

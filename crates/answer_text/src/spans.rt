@@ -1,37 +1,21 @@
 // Spans of places, each under an index.
-ghost use Rattle.std.specs.Prelude.{◌≡◌, ◌<◌, ◌≤◌, ℤ, IfOk, OnOk, IsTrue, IsFalse, length};
-ghost use Rattle.answer_text.specs.Spans.{number_place, place, span_under, HasOneMore, HasOneMoreHashed};
+ghost use Rattle.std.specs.Prelude.{◌≡◌, ◌<◌, ◌≤◌, ℤ, IfOk, OnOk, IsTrue, IsFalse};
+ghost use Rattle.std.specs.List.{All};
+ghost use Rattle.answer_text.specs.Spans.{place, span_under, AreEmpty};
+ghost use Rattle.answer_text.specs.Spans.{HasOneMore, HasOneMoreHashed};
 
-use crate::read::int_at;
+use crate::numbered::{Numbered, listed_counts, number_place};
 use indexmap::IndexMap;
 use nq_model::Memory;
 use rows::Rows;
 use std::alloc::Global;
 
-// How many numbers there may be for each row, at most, where spans are listed by number.
-const NUMBERS_PER_ROW: usize = 4;
-
-/// Spans under indexes: of each, where it begins and where it ends. Those under one tag are listed by
-/// number, as far as the list goes; all others stand in a hash table.
+/// Spans under indexes: of each, where it begins and where it ends. They are listed by tag and then
+/// by number, as far as the lists go; all others stand in a hash table.
 #[derive(Drop)]
 pub(crate) struct Spans {
-    tag: i64,
-    listed: Vec<(u32, u32)>,
+    listed: Vec<Numbered>,
     hashed: IndexMap<(i64, i64), (u32, u32)>,
-}
-
-// How many numbers to list, from 0: all up to the greatest, or none if these would be too many for so
-// many rows.
-fn listed_count(rows: &Rows) -> usize {
-    let mut last = 0i64;
-    for row in 0..rows.len() {
-        last = last.max(int_at(rows, row, 1));
-    }
-    let count = last.unsigned_abs() as usize;
-    if count / NUMBERS_PER_ROW > rows.len() {
-        return 0;
-    }
-    count.saturating_add(1)
 }
 
 // Puts a span under an index into the hash table.
@@ -46,41 +30,38 @@ fn hash_span(
     Ok(())
 }
 
+// Empty spans under so many numbers of each tag.
+#[tactic(auto, using(crate::proofs::Listing::listed_more))]
+fn empty_lists(alloc: Global, counts: &[usize]) -> Result<Vec<Numbered>, Memory>
+    ensures { IfOk result (λ listed. All AreEmpty listed.items) }
+{
+    let mut listed = Vec::with_capacity(alloc, counts.len())?;
+    for count in counts {
+        listed.push(Numbered::empty(alloc, *count)?)?;
+    }
+    Ok(listed)
+}
+
 impl Spans {
     /// No spans, with room for those of the rows.
     pub(crate) fn for_rows(alloc: Global, rows: &Rows) -> Result<Spans, Memory>
         ensures { IfOk result (λ spans. (i : ℤ × ℤ) → span_under spans i ≡ (0, 0)) }
     {
-        let listed = vec![in alloc; (0, 0); listed_count(rows)]?;
+        let counts = listed_counts(alloc, rows)?;
+        let listed = empty_lists(alloc, counts.as_slice())?;
         Ok(Spans {
-            tag: int_at(rows, 0, 0),
             listed,
             hashed: IndexMap::new(alloc),
         })
     }
 
-    // Where the span under a number is listed, if it is.
-    fn number_place(&self, number: i64) -> Option<usize>
-        ensures { result ≡ number_place (length self.now.listed.items) number }
+    // Where the span under an index is listed, if it is: its tag and its number.
+    fn place(&self, index: (i64, i64)) -> Option<(usize, usize)>
+        ensures { result ≡ place self.now.listed.items index }
     {
-        if number < 0 {
-            return None;
-        }
-        let at = number.unsigned_abs() as usize;
-        if at >= self.listed.len() {
-            return None;
-        }
-        Some(at)
-    }
-
-    // Where the span under an index is listed, if it is.
-    fn place(&self, index: (i64, i64)) -> Option<usize>
-        ensures { result ≡ place self.now.tag (length self.now.listed.items) index }
-    {
-        if index.0 != self.tag {
-            return None;
-        }
-        self.number_place(index.1)
+        let tag = number_place(self.listed.len(), index.0)?;
+        let number = number_place(self.listed[tag].len(), index.1)?;
+        Some((tag, number))
     }
 
     /// The span under an index, and an empty one where there is none.
@@ -89,7 +70,7 @@ impl Spans {
         ensures { result ≡ span_under self.now index }
     {
         match self.place(index) {
-            Some(at) => self.listed[at],
+            Some((tag, number)) => self.listed[tag].get(number),
             None => match self.hashed.get(&index) {
                 Some(span) => *span,
                 None => (0, 0),
@@ -99,8 +80,10 @@ impl Spans {
 
     /// Whether the span under an index holds any place.
     pub(crate) fn has(&self, index: (i64, i64)) -> bool
-        ensures some { IsTrue result → (span_under self.now index).0 < (span_under self.now index).1 }
-        ensures none { IsFalse result → (span_under self.now index).1 ≤ (span_under self.now index).0 }
+        ensures some { IsTrue result
+            → (span_under self.now index).0 < (span_under self.now index).1 }
+        ensures none { IsFalse result
+            → (span_under self.now index).1 ≤ (span_under self.now index).0 }
     {
         let (start, end) = self.get(index);
         start < end
@@ -112,7 +95,7 @@ impl Spans {
         ensures { OnOk result (HasOneMore self.old self.new index span) }
     {
         match self.place(index) {
-            Some(at) => self.listed[at] = span,
+            Some((tag, number)) => self.listed[tag].put(number, span),
             None => hash_span(&mut self.hashed, index, span)?,
         }
         Ok(())

@@ -5,10 +5,11 @@ ghost use Rattle.nq_model.specs.Values.{rec};
 ghost use Rattle.rows.specs.Places.{row_at};
 ghost use Rattle.answer_text.specs.Parts.{value_in, fields_in, bag_in};
 
+use crate::heading::Heading;
 use crate::part::Part;
 use crate::read::{cell_at, index_at};
 use canon::{write_cell, write_separator};
-use nq_model::{Label, Memory};
+use nq_model::Memory;
 use rows::Rows;
 
 // The text of the value of a part in a row.
@@ -33,7 +34,7 @@ fn write_part(text: &mut String, part: &Part, rows: &Rows, row: usize) -> Result
 #[tactic(auto, using(crate::proofs::PartValues::part_values))]
 fn write_fields(
     text: &mut String,
-    fields: &[(Label, Part)],
+    fields: &[(Heading, Part)],
     rows: &Rows,
     row: usize,
 ) -> Result<(), Memory>
@@ -41,10 +42,8 @@ fn write_fields(
         ≡ string_bytes text.old ++ written (rec (fields_in fields.now (row_at rows.now row)))) }
 {
     text.push_str("(")?;
-    for (i, (label, part)) in fields.iter().enumerate() {
-        write_separator(text, i)?;
-        text.push_str(label.as_str())?;
-        text.push_str(" = ")?;
+    for (i, (heading, part)) in fields.iter().enumerate() {
+        heading.write(text, i)?;
         write_part(text, part, rows, row)?;
     }
     text.push_str(")")?;

@@ -9,5 +9,5 @@ loop-place-preserved c =
     let next : suc place ≡ place + 1 = omega arith in
     let same : place ≡ 0 + place = omega arith in
     c.in_ok-push.ensures.items ∙ ap (λ (l : List ℕ). l ++ place ∷ []) c.loop-place.invariant
-        ∙ ap (λ (m : ℕ). count_from 0 place ++ m ∷ []) same
+    ∙ ap (λ (m : ℕ). count_from 0 place ++ m ∷ []) same
     ∙ sym (count_next 0 place) ∙ ap (count_from 0) next

@@ -20,15 +20,15 @@ returns c =
     let element = c.args.element.now in
     let before : List ℕ = c.sort_unstable_by.new.self.items in
     let sorted : IsSortedByKey (index_of rows) index_cmp before
-          = c.sort_unstable_by.ensures.sorted _ (ranks_by index_total (index_of rows))
-          (always_returns_same _ _ _ (λ a r f h. (search rules, search rules))) in
+    = c.sort_unstable_by.ensures.sorted _ (ranks_by index_total (index_of rows))
+    (always_returns_same _ _ _ (λ a r f h. (search rules, search rules))) in
     let permuted : IsPermutation (count_from 0 (length rows)) before
-          = IsPermutation-trans _ _ _ c.in_ok-places.ensures.places
-          c.sort_unstable_by.ensures.permutation in
+    = IsPermutation-trans _ _ _ c.in_ok-places.ensures.places
+    c.sort_unstable_by.ensures.permutation in
     let whole = is_whole c.in_ok-sort_listed_runs.field-0
-          (λ parted. c.in_ok-sort_listed_runs.ensures.parted parted sorted) in
+    (λ parted. c.in_ok-sort_listed_runs.ensures.parted parted sorted) in
     runs_of_all element rows (count_from 0 (length rows)) before c.from_vec-places.result
-        c.sort_listed_runs.new.spans permuted
+    c.sort_listed_runs.new.spans permuted
     (runs_moved element rows before before c.sort_listed_runs.new.places.items
-        c.from_vec-places.result c.sort_listed_runs.new.spans refl c.from_vec-places.ensures
-        (c.in_ok-sort_listed_runs.ensures.whole whole))
+    c.from_vec-places.result c.sort_listed_runs.new.spans refl c.from_vec-places.ensures
+    (c.in_ok-sort_listed_runs.ensures.whole whole))

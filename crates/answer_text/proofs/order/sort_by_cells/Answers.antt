@@ -1,5 +1,5 @@
-use Rattle.std.proofs.Common.{◌∙◌, ap, length, sym, subst, List, ℕ, IsPermutation}
-use Rattle.std.proofs.lemmas.List.Sorted.{IsPermutation-refl, length_permutation}
+use Rattle.std.proofs.Common.{◌∙◌, ap, length, sym}
+use Rattle.std.proofs.lemmas.List.Sorted.{length_permutation}
 use Rattle.answer_text.proofs.order.sort_by_cells.Goals as goal
 
 pub copy_from_slice-requires : goal.copy_from_slice-requires

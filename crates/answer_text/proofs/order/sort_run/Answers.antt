@@ -15,4 +15,4 @@ pub returns-clause-sorted : goal.returns-clause-sorted
 returns-clause-sorted c =
     let key : ℕ → Nested = λ place. value_in c.args.element.now (row_at c.args.rows.now place) in
     c.sort_unstable_by.ensures.sorted _ (ranks_by value_order.total key)
-        (always_returns_same _ _ _ (λ a r f h. (search rules, search rules)))
+    (always_returns_same _ _ _ (λ a r f h. (search rules, search rules)))

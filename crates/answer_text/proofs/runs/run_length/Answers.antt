@@ -9,4 +9,4 @@ loop-at-preserved c =
     let P : ℕ → Type 0 = λ place. is_index (index_of c.args.rows.now place) c.args.index ≡ true in
     All-more P c.args.places.now c.loop-at.at 0 c.loop-at-test.true c.loop-at.invariant
     (ap (λ (k : ℤ × ℤ). is_index k c.args.index) (sym c.index_at.ensures) ∙ sym c.is_index.ensures
-        ∙ c.if-not-is_index.false)
+    ∙ c.if-not-is_index.false)
