@@ -11,8 +11,11 @@ pub mod Editions
 pub mod Programs
 pub mod Verdicts
 pub mod Needs
+pub mod Alike
 pub mod Joining
 pub mod Stepping
 pub mod TypeStepping
 pub mod Parsing
+pub mod OpenTexts
+pub mod FrontSteps
 pub mod Standing

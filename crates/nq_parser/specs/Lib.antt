@@ -2,12 +2,14 @@ pub mod Editions
 pub mod Forms
 pub mod Machine
 pub mod Needs
+pub mod Openness
 pub mod Parsing
 pub mod Reading
 pub mod Runs
 pub mod Settling
 pub mod Stacks
 pub mod States
+pub mod TokenKinds
 pub mod TypeSettling
 pub mod TypeStacks
 pub mod Words

@@ -1,6 +1,7 @@
 // The editions of the language, and what stands before a program of the second.
 ghost use Rattle.std.specs.Prelude.{◌≡◌, map};
-ghost use Rattle.nq_parser.specs.Editions.{IsBehind, is_nq, is_semicolon, is_two};
+ghost use Rattle.nq_model.specs.QueryTexts.{edition_of};
+ghost use Rattle.nq_parser.specs.Editions.{IsBehind, edition_view, is_nq, is_semicolon, is_two};
 ghost use Rattle.query_syntax.specs.Symbols.{token_view};
 
 use query_syntax::{Symbol, Token};
@@ -10,6 +11,16 @@ use query_syntax::{Symbol, Token};
 pub enum Edition {
     First,
     Second,
+}
+
+/// The edition in which a text with these tokens is read: the second behind `nq 2;`.
+pub fn edition_of(tokens: &[Token<'_>]) -> Edition
+    ensures { edition_view result ≡ edition_of (map token_view tokens.now) }
+{
+    match behind_header(tokens) {
+        None => Edition::First,
+        Some(_) => Edition::Second,
+    }
 }
 
 /// The tokens behind a header, with the place of the header; none where there is no header.
@@ -28,8 +39,8 @@ pub fn behind_header<'a, 't>(tokens: &'a [Token<'t>]) -> Option<(u64, &'a [Token
     }
 }
 
-// Whether the token is the word `nq`.
-fn is_nq(token: Token<'_>) -> bool
+/// Whether the token is the word `nq`.
+pub fn is_nq(token: Token<'_>) -> bool
     ensures { result ≡ is_nq (token_view token.entry) }
 {
     match token.symbol {
@@ -38,8 +49,8 @@ fn is_nq(token: Token<'_>) -> bool
     }
 }
 
-// Whether the token is the number spelled `2`.
-fn is_two(token: Token<'_>) -> bool
+/// Whether the token is the number spelled `2`.
+pub fn is_two(token: Token<'_>) -> bool
     ensures { result ≡ is_two (token_view token.entry) }
 {
     match token.symbol {

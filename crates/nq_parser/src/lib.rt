@@ -16,6 +16,7 @@ mod inside;
 mod join;
 mod laws;
 mod levels;
+mod openness;
 mod part;
 mod query;
 mod read;
@@ -31,6 +32,8 @@ mod type_stack;
 mod wants;
 mod words;
 
+pub use edition::{Edition, edition_of};
 pub use laws::query_laws;
+pub use openness::{is_open, open_front, open_laws};
 pub use query::parse;
 pub use query_syntax::SyntaxFault;
