@@ -4,6 +4,8 @@
 #[cfg(test)]
 mod excerpts;
 #[cfg(test)]
+mod expected;
+#[cfg(test)]
 mod places;
 #[cfg(test)]
 mod rules;
