@@ -1,6 +1,7 @@
 -- What a server is asked for a command, and what is written of its answers.
-use Rattle.std.specs.Prelude.{◌≡◌, ℕ, List, [], ◌∷◌, map}
+use Rattle.std.specs.Prelude.{◌≡◌, ⊤, ℕ, List, [], ◌∷◌, map}
 use Rattle.nq_model.specs.Canonical.{canonical, canonical_text}
+use Rattle.nq_model.specs.Numberings.{count_from}
 use Rattle.nq_model.specs.Tables.{types_of}
 use Rattle.nq_model.specs.Types.{TypeTree, type_tree, bag}
 use Rattle.nq_model.specs.Values.{Nested}
@@ -8,7 +9,8 @@ use Rattle.nq_model.specs.declared.table.Cell.{Cell}
 use Rattle.nq_model.specs.declared.table.ColumnType.{ColumnType}
 use Rattle.nq_ir.specs.Meanings.{EachBoth}
 use Rattle.nq_ir.specs.NormalForms.{element_type}
-use Rattle.nq_ir.specs.Parts.{element_types}
+use Rattle.nq_ir.specs.Parts.{bags, element_types}
+use Rattle.natural_keys.specs.declared.index.KeyIndex.{KeyIndex}
 use Rattle.shred_types.specs.Columns.{answer_columns}
 use Rattle.nq_json.specs.Json.{json_text}
 use Rattle.nq_json.specs.Rows.{json_rows_text}
@@ -16,7 +18,8 @@ use Rattle.sql_profile.specs.Texts.{IsAskable}
 use Rattle.sql_profile.specs.Tokens.{First}
 use Rattle.sql_profile.specs.declared.server.Loaded.{Loaded}
 use Rattle.stitcher.specs.FlatNumbers.{flat_numbers}
-use Rattle.stitcher.specs.Schemes.{AnswerRows, stitched}
+use Rattle.stitcher.specs.Schemes.{AnswerRows, Scheme, stitched}
+use Rattle.nq_execute.specs.Keys.{keys_scheme}
 use Rattle.nq_execute.specs.Loading.{CanLoad}
 use Rattle.nq_execute.specs.Summaries.{summary_of}
 use Rattle.canon.specs.RowTexts.{rows_text, sorted_rows}
@@ -30,11 +33,14 @@ use Rattle.nq_execute.specs.declared.plan.Writing.{Writing as Writings}
 use Rattle.nq_execute.specs.declared.plan.Writing.TheVariants as way
 use Rattle.nq_execute.specs.declared.plan.Plan.{Plan as Asked}
 
--- how the rows of answers name the bags that they stand in and hold: by tag and number
+-- how the rows of answers name the bags that they stand in and hold: by tag and number, or by tag
+-- and keys as a scheme has them
 pub data Indexes : Type 0 where
   numbers : Indexes
+  keys : Scheme KeyIndex → Indexes
 
--- what is written of a value: its canonical text, its summary, or the JSON text of its canonical form
+-- what is written of a value: its canonical text, its summary, or the JSON text of its canonical
+-- form
 pub data Writing : Type 0 where
   text : Writing
   summary : Writing
@@ -61,6 +67,7 @@ pub record Plan : Type 0 where
 
 abbrev pub indexes_view : IndexKinds → Indexes
 indexes_view index.Numbers = numbers
+indexes_view (index.Keys own) = keys (keys_scheme own)
 
 abbrev pub writing_view : Writings → Writing
 writing_view way.Text = text
@@ -89,10 +96,17 @@ plan_view asked = record {
 abbrev pub value_by : Indexes → TypeTree → List AnswerRows → Nested
 value_by numbers type answers =
     stitched (flat_numbers (element_types type)) (element_type type) answers
+value_by (keys scheme) type answers = stitched scheme (element_type type) answers
 
--- the columns of the answers
+-- the columns of the answers, one to each path of the type
 abbrev pub columns_by : Indexes → TypeTree → List (List ColumnType)
 columns_by numbers type = map answer_columns (element_types type)
+columns_by (keys scheme) type = map scheme.columns (count_from 0 (bags type))
+
+-- the indexes are those of the type
+abbrev pub AreOfType : TypeTree → Indexes → Type 0
+AreOfType type numbers = ⊤
+AreOfType type (keys scheme) = scheme.elements ≡ element_types type
 
 -- what is written of a value of a type
 abbrev pub text_by : Writing → TypeTree → Nested → List ℕ
@@ -128,6 +142,7 @@ pub record AsksFor (held : List Loaded) (types : List ColumnType) (text : List �
 pub record ArePathsOf (type : TypeTree) (indexes : Indexes)
     (columns : List (List ColumnType)) : Type 0 where
   pub of_bag : type ≡ bag (element_type type)
+  pub of_type : AreOfType type indexes
   pub at_paths : columns ≡ columns_by indexes type
 
 -- there is one text

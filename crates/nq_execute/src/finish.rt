@@ -4,14 +4,17 @@ ghost use Rattle.nq_model.specs.Cells.{RowFits};
 ghost use Rattle.nq_model.specs.Types.{type_tree, bag};
 ghost use Rattle.nq_model.specs.Values.{nested};
 ghost use Rattle.nq_ir.specs.NormalForms.{element_type};
+ghost use Rattle.nq_ir.specs.Parts.{element_types};
 ghost use Rattle.stitcher.specs.Stitching.{rows_of};
-ghost use Rattle.nq_execute.specs.Plans.{CanFinish, columns_by, finish_view, finished, indexes_view, row_text_by, row_writing_view, text_by, value_by, value_text, writing_view};
+ghost use Rattle.nq_execute.specs.Keys.{keys_scheme};
+ghost use Rattle.nq_execute.specs.Plans.{AreOfType, CanFinish, columns_by, finish_view, finished, indexes_view, keys as by_keys, numbers as by_numbers, row_text_by, row_writing_view, text_by, value_by, value_text, writing_view};
 ghost use Rattle.nq_execute.specs.Serving.{Fit};
 
 use crate::plan::{Finish, Indexes, RowWriting, Writing};
 use crate::summary::summarise;
 use answer_text::answer_text;
 use canon::{row_places, sort_deep, write, write_row_lines};
+use natural_keys::NaturalKeys;
 use nq_json::{write_json, write_json_rows};
 use nq_model::{ColumnType, List, Memory, Ty, Value};
 use rows::Rows;
@@ -19,24 +22,33 @@ use sql_profile::Answer;
 use std::alloc::Global;
 use stitcher::{FlatNumbers, stitch};
 
-// The value of a bag type that answers, one for each path of the type, stitch to.
-fn value_by(
+// The value of a bag type to which answers, one for each path of the type, stitch by tag and
+// number.
+fn value_by_numbers(alloc: Global, of: &Ty, answers: List<Answer>) -> Result<Value, Memory>
+    requires bag { type_tree of.now ≡ bag (element_type (type_tree of.now)) }
+    requires fit { Fit (columns_by by_numbers (type_tree of.now)) answers }
+    ensures { IfOk result (λ value.
+        nested value ≡ value_by by_numbers (type_tree of.now) (rows_of answers)) }
+{
+    let scheme = FlatNumbers::new(alloc, of)?;
+    stitch(alloc, &scheme, of, &answers)
+}
+
+// The value of a bag type to which answers, one for each path of the type, stitch by keys.
+fn value_by_keys(
     alloc: Global,
     of: &Ty,
-    indexes: &Indexes,
+    keys: &NaturalKeys,
     answers: List<Answer>,
 ) -> Result<Value, Memory>
     requires bag { type_tree of.now ≡ bag (element_type (type_tree of.now)) }
-    requires fit { Fit (columns_by (indexes_view indexes.now) (type_tree of.now)) answers }
-    ensures { IfOk result (λ value.
-        nested value ≡ value_by (indexes_view indexes.now) (type_tree of.now) (rows_of answers)) }
+    requires own { (keys_scheme keys.now).elements ≡ element_types (type_tree of.now) }
+    requires fit { Fit (columns_by (by_keys (keys_scheme keys.now)) (type_tree of.now))
+        answers }
+    ensures { IfOk result (λ value. nested value
+        ≡ value_by (by_keys (keys_scheme keys.now)) (type_tree of.now) (rows_of answers)) }
 {
-    match indexes {
-        Indexes::Numbers => {
-            let scheme = FlatNumbers::new(alloc, of)?;
-            stitch(alloc, &scheme, of, &answers)
-        }
-    }
+    stitch(alloc, keys, of, &answers)
 }
 
 // What is written of a value.
@@ -57,27 +69,50 @@ fn text_by(alloc: Global, of: &Ty, writing: &Writing, value: Value) -> Result<Li
     }
 }
 
-// What is written of the value, which is built.
+// What is written of the value by tag and number. Its canonical text is written from the answers,
+// and no value is built.
 #[tactic(auto, unfolding(crate::specs::Plans::value_text))]
-fn stitched_text(
+fn numbered_text(
     alloc: Global,
     of: &Ty,
-    indexes: &Indexes,
     writing: &Writing,
     answers: List<Answer>,
 ) -> Result<List<u8>, Memory>
     requires bag { type_tree of.now ≡ bag (element_type (type_tree of.now)) }
-    requires fit { Fit (columns_by (indexes_view indexes.now) (type_tree of.now)) answers }
+    requires fit { Fit (columns_by by_numbers (type_tree of.now)) answers }
     ensures { IfOk result (λ text. text ≡ value_text (type_tree of.now)
-        (indexes_view indexes.now) (writing_view writing.now) (rows_of answers)) }
+        by_numbers (writing_view writing.now) (rows_of answers)) }
 {
-    let value = value_by(alloc, of, indexes, answers)?;
+    match writing {
+        Writing::Text => answer_text(alloc, of, answers),
+        Writing::Summary | Writing::Json => {
+            let value = value_by_numbers(alloc, of, answers)?;
+            text_by(alloc, of, writing, value)
+        }
+    }
+}
+
+// What is written of the value by keys.
+#[tactic(auto, unfolding(crate::specs::Plans::value_text))]
+fn keyed_text(
+    alloc: Global,
+    of: &Ty,
+    keys: &NaturalKeys,
+    writing: &Writing,
+    answers: List<Answer>,
+) -> Result<List<u8>, Memory>
+    requires bag { type_tree of.now ≡ bag (element_type (type_tree of.now)) }
+    requires own { (keys_scheme keys.now).elements ≡ element_types (type_tree of.now) }
+    requires fit { Fit (columns_by (by_keys (keys_scheme keys.now)) (type_tree of.now))
+        answers }
+    ensures { IfOk result (λ text. text ≡ value_text (type_tree of.now)
+        (by_keys (keys_scheme keys.now)) (writing_view writing.now) (rows_of answers)) }
+{
+    let value = value_by_keys(alloc, of, keys, answers)?;
     text_by(alloc, of, writing, value)
 }
 
-// What is written of the value. Its canonical text is written from the answers, and no value is
-// built.
-#[tactic(auto, unfolding(crate::specs::Plans::value_text))]
+// What is written of the value.
 fn value_text(
     alloc: Global,
     of: &Ty,
@@ -86,15 +121,14 @@ fn value_text(
     answers: List<Answer>,
 ) -> Result<List<u8>, Memory>
     requires bag { type_tree of.now ≡ bag (element_type (type_tree of.now)) }
+    requires own { AreOfType (type_tree of.now) (indexes_view indexes.now) }
     requires fit { Fit (columns_by (indexes_view indexes.now) (type_tree of.now)) answers }
     ensures { IfOk result (λ text. text ≡ value_text (type_tree of.now)
         (indexes_view indexes.now) (writing_view writing.now) (rows_of answers)) }
 {
-    match (indexes, writing) {
-        (Indexes::Numbers, Writing::Text) => answer_text(alloc, of, answers),
-        (Indexes::Numbers, Writing::Summary | Writing::Json) => {
-            stitched_text(alloc, of, indexes, writing, answers)
-        }
+    match indexes {
+        Indexes::Numbers => numbered_text(alloc, of, writing, answers),
+        Indexes::Keys(keys) => keyed_text(alloc, of, keys, writing, answers),
     }
 }
 

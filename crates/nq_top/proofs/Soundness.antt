@@ -194,6 +194,7 @@ module _ (schema : Schema) (term : PlacedTerm) (type : TypeTree) (texts : List (
   at_paths : ArePathsOf type Indexes.numbers columns
   at_paths = record {
     of_bag = sym of_bag;
+    of_type = tt;
     at_paths = at_bag ∙ columns_are element (subst (λ (a : TypeTree). IsOrdered a) (sym of_bag) ordered) ∙ ap (λ (a : TypeTree). map answer_columns (element_types a)) of_bag;
   }
 

@@ -60,6 +60,7 @@ module _ (schema : Schema) (query : TypedTerm) (writing : Writing) (draft : Draf
   at_paths : ArePathsOf query.type Indexes.numbers (map (columns_at query.type) (paths query.type))
   at_paths = record {
     of_bag = sym of_bag;
+    of_type = tt;
     at_paths =
         ap (λ (a : TypeTree). map (columns_at a) (paths a)) (sym of_bag)
         ∙ columns_are (element_type query.type) (subst (λ (a : TypeTree). IsOrdered a) (sym of_bag) ordered)
