@@ -20,6 +20,7 @@ pub mod Pieces
 pub mod Keeping
 pub mod Levels
 pub mod Agreeing
+pub mod Finding
 pub mod RulingOut
 pub mod Skipping
 pub mod Chaining

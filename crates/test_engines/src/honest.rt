@@ -17,7 +17,7 @@ struct Case {
     answers: [&'static str; 2],
 }
 
-const CASES: [Case; 31] = [
+const CASES: [Case; 35] = [
     // Ties.
     Case {
         text: r#"SELECT "x"."b" AS "b", ROW_NUMBER() OVER (ORDER BY "x"."a") AS "n" FROM "t" AS "x""#,
@@ -90,6 +90,28 @@ const CASES: [Case; 31] = [
     Case {
         text: r#"SELECT "x"."b" AS "b" FROM "t" AS "x", "t" AS "y" WHERE (("x"."a" = "y"."a") AND ("x"."b" = "y"."b"))"#,
         answers: ["1 ;2 ;3 ;", "3 ;2 ;1 ;"],
+    },
+    // Keys of three types: each row meets itself alone.
+    Case {
+        text: r#"WITH "w" AS (SELECT 'one' AS "k", ("x"."a" = 5) AS "f", "x"."b" AS "b" FROM "t" AS "x" UNION ALL SELECT 'two' AS "k", ("x"."a" = 6) AS "f", "x"."b" AS "b" FROM "t" AS "x") SELECT "u"."b" AS "b", "v"."b" AS "c" FROM "w" AS "u", "w" AS "v" WHERE ((("u"."f" = "v"."f") AND ("u"."k" = "v"."k")) AND ("v"."b" = "u"."b"))"#,
+        answers: [
+            "1 1 ;2 2 ;3 3 ;1 1 ;2 2 ;3 3 ;",
+            "1 1 ;2 2 ;3 3 ;1 1 ;2 2 ;3 3 ;",
+        ],
+    },
+    // A sum as the key of the second source, and one that the first source gives, of a list with equal cells.
+    Case {
+        text: r#"SELECT "x"."b" AS "b", "y"."b" AS "c" FROM "t" AS "x", "t" AS "y" WHERE ("x"."a" = ("y"."b" + 4))"#,
+        answers: ["1 1 ;2 2 ;3 1 ;", "3 1 ;2 2 ;1 1 ;"],
+    },
+    Case {
+        text: r#"WITH "w" AS (SELECT "x"."a" AS "a", "x"."b" AS "b" FROM "t" AS "x") SELECT "x"."b" AS "b", "u"."b" AS "c" FROM "t" AS "x", "w" AS "u" WHERE ("u"."a" = ("x"."a" + 0))"#,
+        answers: ["1 1 ;1 3 ;2 2 ;3 1 ;3 3 ;", "3 1 ;3 3 ;2 2 ;1 1 ;1 3 ;"],
+    },
+    // Two keys, which no row has together.
+    Case {
+        text: r#"SELECT "x"."b" AS "b" FROM "t" AS "x", "t" AS "y" WHERE (("x"."a" = "y"."a") AND (("x"."b" + 1) = "y"."b"))"#,
+        answers: ["", ""],
     },
     // A key from outside, which some rows match.
     Case {

@@ -17,6 +17,16 @@ const HALF: usize = COUNT / 2;
 const JOINED: &str =
     r#"SELECT "x"."a" AS "a" FROM "t" AS "x", "t" AS "y" WHERE ("x"."a" = "y"."a")"#;
 
+// The same by two equalities, of which the first holds of all rows, and by a sum on either side.
+const JOINED_BY_BOTH: &str =
+    r#"SELECT "x"."a" AS "a" FROM "t" AS "x", "t" AS "y" WHERE (("x"."b" = "y"."b") AND ("x"."a" = "y"."a"))"#;
+
+const JOINED_BY_SUM: &str =
+    r#"SELECT "x"."a" AS "a" FROM "t" AS "x", "t" AS "y" WHERE ("y"."a" = ("x"."a" + 0))"#;
+
+const JOINED_BY_OWN_SUM: &str =
+    r#"SELECT "x"."a" AS "a" FROM "t" AS "x", "t" AS "y" WHERE ("x"."a" = ("y"."a" + 0))"#;
+
 // The rows that meet none of the other table.
 const ALONE: &str =
     r#"SELECT "x"."a" AS "a" FROM "t" AS "x" WHERE (NOT EXISTS (SELECT 1 AS "o" FROM "e" AS "y" WHERE ("y"."a" = "x"."a")))"#;
@@ -103,6 +113,22 @@ fn joins_and_not_exists(rt: HostRuntime) -> Result<(), Fail> {
     assert!(&rt; rise(&joined.rows, COUNT, 0, 1));
     let alone = ask(alloc, &mut server, &schema, ALONE)?;
     assert!(&rt; rise(&alone.rows, HALF, 1, 2));
+    Ok(())
+}
+
+#[test]
+fn all_equalities_as_keys(rt: HostRuntime) -> Result<(), Fail> {
+    let alloc = rt.alloc();
+    let schema = schema(alloc)?;
+    let every = pairs(alloc, HALF, 1)?;
+    let mut server: Box<dyn SqlServer> = Box::new(alloc, FastServer::new(alloc))?;
+    load_both(alloc, &mut server, every.as_slice(), &[])?;
+    let joined = ask(alloc, &mut server, &schema, JOINED_BY_BOTH)?;
+    assert!(&rt; rise(&joined.rows, HALF, 0, 1));
+    let joined = ask(alloc, &mut server, &schema, JOINED_BY_SUM)?;
+    assert!(&rt; rise(&joined.rows, HALF, 0, 1));
+    let joined = ask(alloc, &mut server, &schema, JOINED_BY_OWN_SUM)?;
+    assert!(&rt; rise(&joined.rows, HALF, 0, 1));
     Ok(())
 }
 
