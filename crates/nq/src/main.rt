@@ -56,9 +56,13 @@ fn main(rt: HostRuntime) -> ExitCode {
 #[cfg(test)]
 mod answer_tests;
 #[cfg(test)]
+mod drop_tests;
+#[cfg(test)]
 mod example_tests;
 #[cfg(test)]
 mod generated_tests;
+#[cfg(test)]
+mod hostile_tests;
 #[cfg(test)]
 mod json_tests;
 #[cfg(test)]

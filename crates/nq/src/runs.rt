@@ -12,6 +12,9 @@ use std::alloc::Global;
 use std::process::Abort;
 use std::test::Fail;
 
+// The room of notes that no run of a test fills.
+const NOTES: u64 = 200;
+
 /// The words of a run and the room of its output; and the status, the output and the note that are
 /// wanted.
 #[derive(Clone, Copy)]
@@ -72,27 +75,34 @@ fn words_of(alloc: Global, listed: &[&str]) -> Result<Vec<String>, Fail> {
     Ok(words)
 }
 
-// What came of a run.
+/// What came of a run.
 #[derive(Drop)]
-struct Ran {
-    status: u8,
-    out: HeldSink,
-    notes: HeldSink,
+pub struct Ran {
+    pub status: u8,
+    pub out: HeldSink,
+    pub notes: HeldSink,
 }
 
-// Runs the program over these inputs and a server that holds no table.
-fn run_over(
+/// How many bytes the output and the notes of a run hold.
+#[derive(Clone, Copy)]
+pub struct Room {
+    pub out: u64,
+    pub notes: u64,
+}
+
+/// Runs the program over these inputs and a server that holds no table.
+pub fn run_over(
     alloc: Global,
     server: Box<dyn SqlServer>,
     mut inputs: HeldInputs,
     words: &[&str],
-    room: u64,
+    room: Room,
 ) -> Result<Ran, Fail>
     requires { loaded server ≡ [] }
 {
     let words = words_of(alloc, words)?;
-    let mut out = HeldSink::new(alloc, room)?;
-    let mut notes = HeldSink::new(alloc, 200)?;
+    let mut out = HeldSink::new(alloc, room.out)?;
+    let mut notes = HeldSink::new(alloc, room.notes)?;
     let status = nq_main(
         alloc,
         words.as_slice(),
@@ -160,7 +170,11 @@ pub fn check_run_over(
 ) -> Result<(), Fail>
     requires { loaded server ≡ [] }
 {
-    let ran = run_over(alloc, server, inputs, wanted.words, wanted.room)?;
+    let room = Room {
+        out: wanted.room,
+        notes: NOTES,
+    };
+    let ran = run_over(alloc, server, inputs, wanted.words, room)?;
     compare(rt, &ran, wanted);
     Ok(())
 }
@@ -175,6 +189,10 @@ pub fn written(
     room: u64,
 ) -> Result<HeldSink, Fail> {
     let server = server_of(alloc, Engine::Plain)?;
+    let room = Room {
+        out: room,
+        notes: NOTES,
+    };
     let Ran { status, out, notes } = run_over(alloc, server, inputs, words, room)?;
     assert_eq!(rt; status, 0);
     assert_eq!(rt; notes.bytes().len(), 0);
@@ -193,7 +211,7 @@ pub fn check_run_lent(
 {
     let words = words_of(alloc, wanted.words)?;
     let mut out = HeldSink::new(alloc, wanted.room)?;
-    let mut notes = HeldSink::new(alloc, 200)?;
+    let mut notes = HeldSink::new(alloc, NOTES)?;
     let status = nq_lent(
         alloc,
         words.as_slice(),
