@@ -1,0 +1,12 @@
+pub mod Marks
+pub mod NumberedTypes
+pub mod Covers
+pub mod TypedForms
+pub mod Lookups
+pub mod Sameness
+pub mod Telling
+pub mod Whole
+pub mod Views
+pub mod Sorts
+pub mod Steps
+pub mod Texts

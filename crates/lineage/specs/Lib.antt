@@ -1,0 +1,7 @@
+pub mod TracedTrees
+pub mod Places
+pub mod TraceForms
+pub mod ListedTables
+pub mod Decoding
+pub mod TracedTexts
+pub mod Laws
