@@ -15,11 +15,13 @@ pub data Showing : Type 0 where
   script : Database → List ℕ → Showing
 
 -- What is done with a query that is accepted. Its value over the table texts of a folder is
--- written, or written as JSON, or that over the JSON tables of a folder; or the value of answers of
--- a folder, made elsewhere, is written, or written as JSON; or that it is accepted; or its type; or
--- its normal form; or the paths of its type; or the SQL texts that shred it are shown in a way.
+-- written, or written by texts that name bags by keys, or written as JSON, or that over the JSON
+-- tables of a folder; or the value of answers of a folder, made elsewhere, is written, or written
+-- as JSON; or that it is accepted; or its type; or its normal form; or the paths of its type; or
+-- the SQL texts that name bags by keys are shown; or those that shred it, in a way.
 pub data Aim : Type 0 where
   run : List ℕ → Aim
+  run_natural : List ℕ → Aim
   run_json : List ℕ → Aim
   run_json_tables : List ℕ → Aim
   stitch : List ℕ → Aim
@@ -28,6 +30,7 @@ pub data Aim : Type 0 where
   show_types : Aim
   show_normal : Aim
   show_paths : Aim
+  show_natural : Aim
   show_texts : Showing → Aim
 
 -- a text on the program is written; or a query is put to an aim: the names of a schema and of the
@@ -75,11 +78,12 @@ shown what =
     cond (bytes_eq what (codes "types")) (Some show_types)
     (cond (bytes_eq what (codes "normal")) (Some show_normal)
     (cond (bytes_eq what (codes "paths")) (Some show_paths)
+    (cond (bytes_eq what (codes "natural")) (Some show_natural)
     (cond (bytes_eq what (codes "sql")) (Some (show_texts Showing.frames))
-    (cond (bytes_eq what (codes "json")) (Some (show_texts Showing.json)) None))))
+    (cond (bytes_eq what (codes "json")) (Some (show_texts Showing.json)) None)))))
 
--- what `show` makes of `load` and DATABASE SCHEMA; or of `types`, `normal`, `paths`, `sql` or
--- `json` and SCHEMA QUERY
+-- what `show` makes of `load` and DATABASE SCHEMA; or of `types`, `normal`, `paths`, `natural`,
+-- `sql` or `json` and SCHEMA QUERY
 abbrev pub of_show : List ℕ → List ℕ → List ℕ → Option Command
 of_show what second third =
     cond (bytes_eq what (codes "load"))
@@ -102,10 +106,17 @@ as_json word schema text folder =
     (cond (bytes_eq word (codes "answer")) (Some (answer arrays schema text folder))
     (cond (bytes_eq word (codes "stitch")) (Some (of_query (stitch_json folder) schema text)) None))
 
--- `run json SCHEMA QUERY DIR`, `answer json SCHEMA SQLFILE DIR` or `stitch json SCHEMA QUERY DIR`
+-- what `natural` makes of `run` with its three names
+abbrev pub as_natural : List ℕ → List ℕ → List ℕ → List ℕ → Option Command
+as_natural word schema query folder =
+    cond (bytes_eq word (codes "run")) (Some (of_query (run_natural folder) schema query)) None
+
+-- `run json SCHEMA QUERY DIR`, `answer json SCHEMA SQLFILE DIR` or `stitch json SCHEMA QUERY DIR`;
+-- or `run natural SCHEMA QUERY DIR`
 abbrev pub five_words : List ℕ → List ℕ → List ℕ → List ℕ → List ℕ → Option Command
 five_words word form schema text folder =
-    cond (bytes_eq form (codes "json")) (as_json word schema text folder) None
+    cond (bytes_eq form (codes "json")) (as_json word schema text folder)
+    (cond (bytes_eq form (codes "natural")) (as_natural word schema text folder) None)
 
 -- what `tables` makes of `run json` with its three names
 abbrev pub over_tables : List ℕ → List ℕ → List ℕ → List ℕ → List ℕ → Option Command
@@ -141,6 +152,7 @@ command_of _ = None
 -- whether a server is asked
 abbrev pub aim_asks : Aim → Bool
 aim_asks (run folder) = true
+aim_asks (run_natural folder) = true
 aim_asks (run_json folder) = true
 aim_asks (run_json_tables folder) = true
 aim_asks (stitch folder) = false
@@ -149,6 +161,7 @@ aim_asks check = false
 aim_asks show_types = false
 aim_asks show_normal = false
 aim_asks show_paths = false
+aim_asks show_natural = false
 aim_asks (show_texts showing) = false
 
 abbrev pub asks_server : Option Command → Bool

@@ -7,6 +7,7 @@ help_text =
     codes "nq answers typed queries over flat tables.\n"
     ++ (codes "\n"
     ++ (codes "nq run SCHEMA QUERY DIR              writes the value of the query\n"
+    ++ (codes "nq run natural SCHEMA QUERY DIR      writes it by SQL texts that name bags by keys\n"
     ++ (codes "nq run json SCHEMA QUERY DIR         writes the value of the query as JSON\n"
     ++ (codes "nq run json tables SCHEMA QUERY DIR  writes it as JSON over JSON tables\n"
     ++ (codes "nq answer SCHEMA SQLFILE DIR         writes the rows of the SQL text\n"
@@ -19,6 +20,7 @@ help_text =
     ++ (codes "nq show normal SCHEMA QUERY          writes the normal form of the query\n"
     ++ (codes "nq show paths SCHEMA QUERY           writes a line for each bag of the type\n"
     ++ (codes "nq show sql SCHEMA QUERY             writes an SQL text for each bag of the type\n"
+    ++ (codes "nq show natural SCHEMA QUERY         writes the SQL texts that name bags by keys\n"
     ++ (codes "nq show json SCHEMA QUERY            writes the SQL texts and the types as JSON\n"
     ++ (codes "nq show load DATABASE SCHEMA         writes a script that loads the tables\n"
     ++ (codes "nq show script DATABASE SCHEMA QUERY DIR\n"
@@ -29,7 +31,7 @@ help_text =
     ++ (codes "SCHEMA, QUERY and SQLFILE are files. The table t is the file DIR/t.csv, and as a\n"
     ++ (codes "JSON table DIR/t.json. The answer to the SQL text K is the file DIR/K.csv.\n"
     ++ (codes "DATABASE is postgres or sqlite.\n"
-    ++ codes "README.md explains the statuses, under Commands.\n"))))))))))))))))))))))))
+    ++ codes "README.md explains the statuses, under Commands.\n"))))))))))))))))))))))))))
 
 -- the name and the version of the program
 unfoldable pub version_text : List ℕ

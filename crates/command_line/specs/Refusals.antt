@@ -28,6 +28,7 @@ refused_status (refused.TooLong name limit) = 10
 refused_status (refused.Schema fault) = 3
 refused_status (refused.Query fault) = 4
 refused_status (refused.IllTyped rule place) = 5
+refused_status (refused.NoKey table) = 14
 refused_status (refused.Table name fault) = 6
 refused_status (refused.Sql fault) = 12
 refused_status (refused.IllScoped rule place) = 12
@@ -134,6 +135,10 @@ table_line name fault = codes "nq: table " ++ (name ++ fault)
 abbrev pub answer_line : List ℕ → List ℕ → List ℕ
 answer_line digits fault = codes "nq: answer " ++ (digits ++ fault)
 
+-- of a table that has no key
+abbrev pub no_key_note : List ℕ → List ℕ
+no_key_note table = codes "nq: no key: table " ++ (table ++ codes "\n")
+
 -- of a fault of a table text; want of memory is none
 abbrev pub table_note : List ℕ → TableFault → List ℕ
 table_note name table.Memory = memory_note
@@ -190,6 +195,7 @@ refused_note (refused.TooLong name limit) =
 refused_note (refused.Schema fault) = schema_note fault
 refused_note (refused.Query fault) = query_note fault
 refused_note (refused.IllTyped rule place) = type_note rule place
+refused_note (refused.NoKey table) = no_key_note table
 refused_note (refused.Table name fault) = table_note name fault
 refused_note (refused.Sql fault) = sql_note fault
 refused_note (refused.IllScoped rule place) = scope_note rule place

@@ -1,6 +1,6 @@
 -- The words of a command as the program has them.
 use Rattle.std.specs.Prelude.{⊤}
-use Rattle.command_line.specs.Commands.{Showing, Aim, run, run_json, run_json_tables, stitch, stitch_json, check, show_types, show_normal, show_paths, show_texts, Command, help, version, of_query, answer, generated, show_load}
+use Rattle.command_line.specs.Commands.{Showing, Aim, run, run_natural, run_json, run_json_tables, stitch, stitch_json, check, show_types, show_normal, show_paths, show_natural, show_texts, Command, help, version, of_query, answer, generated, show_load}
 use Rattle.generated_inputs.specs.Sizes.{IsSize}
 use Rattle.command_line.specs.declared.words.Aim.{Aim as Aims}
 use Rattle.command_line.specs.declared.words.Aim.TheVariants as aim
@@ -17,6 +17,7 @@ showing_view (shown.Script database folder) = Showing.script database folder.now
 
 abbrev pub aim_view : Aims → Aim
 aim_view (aim.Run folder) = run folder.now
+aim_view (aim.RunNatural folder) = run_natural folder.now
 aim_view (aim.RunJson folder) = run_json folder.now
 aim_view (aim.RunJsonTables folder) = run_json_tables folder.now
 aim_view (aim.Stitch folder) = stitch folder.now
@@ -25,6 +26,7 @@ aim_view aim.Check = check
 aim_view aim.ShowTypes = show_types
 aim_view aim.ShowNormal = show_normal
 aim_view aim.ShowPaths = show_paths
+aim_view aim.ShowNatural = show_natural
 aim_view (aim.ShowTexts showing) = show_texts (showing_view showing)
 
 abbrev pub command_view : Words → Command

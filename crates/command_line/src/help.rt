@@ -15,6 +15,7 @@ pub fn help_text(alloc: Global) -> Result<List<u8>, Memory>
         b"nq answers typed queries over flat tables.
 
 nq run SCHEMA QUERY DIR              writes the value of the query
+nq run natural SCHEMA QUERY DIR      writes it by SQL texts that name bags by keys
 nq run json SCHEMA QUERY DIR         writes the value of the query as JSON
 nq run json tables SCHEMA QUERY DIR  writes it as JSON over JSON tables
 nq answer SCHEMA SQLFILE DIR         writes the rows of the SQL text
@@ -27,6 +28,7 @@ nq show types SCHEMA QUERY           writes the type of the query
 nq show normal SCHEMA QUERY          writes the normal form of the query
 nq show paths SCHEMA QUERY           writes a line for each bag of the type
 nq show sql SCHEMA QUERY             writes an SQL text for each bag of the type
+nq show natural SCHEMA QUERY         writes the SQL texts that name bags by keys
 nq show json SCHEMA QUERY            writes the SQL texts and the types as JSON
 nq show load DATABASE SCHEMA         writes a script that loads the tables
 nq show script DATABASE SCHEMA QUERY DIR

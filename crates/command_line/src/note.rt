@@ -1,7 +1,7 @@
 // The note line of an answer, put in pieces, which takes no memory.
 ghost use Rattle.std.specs.Prelude.{◌++◌, decimal};
 ghost use Rattle.nq_edge.specs.Lines.{PutsLine};
-ghost use Rattle.command_line.specs.Refusals.{fault_note, schema_note, query_note, sql_note, rule_note, at_row, at_both, table_note, json_table_note, answer_note, link_note, refused_note, input_note, server_note, note_of};
+ghost use Rattle.command_line.specs.Refusals.{fault_note, no_key_note, schema_note, query_note, sql_note, rule_note, at_row, at_both, table_note, json_table_note, answer_note, link_note, refused_note, input_note, server_note, note_of};
 ghost use Rattle.command_line.specs.Noting.{Notes};
 
 use crate::refusal::{InputRefusal, Refusal, Refused};
@@ -369,6 +369,15 @@ fn put_links<N: Sink>(notes: &mut N, fault: &LinkFault)
     }
 }
 
+// Puts that a table has no key.
+fn put_no_key<N: Sink>(notes: &mut N, table: &[u8])
+    ensures { PutsLine (N.written notes.old) (N.written notes.new) (N.faults notes.old)
+        (N.faults notes.new)
+        (no_key_note table.now) }
+{
+    put_three(notes, b"nq: no key: table ", table, b"\n");
+}
+
 // Puts what the words and the inputs are refused for.
 fn put_refused<N: Sink>(notes: &mut N, refused: &Refused)
     ensures { PutsLine (N.written notes.old) (N.written notes.new) (N.faults notes.old)
@@ -384,6 +393,7 @@ fn put_refused<N: Sink>(notes: &mut N, refused: &Refused)
         Refused::IllTyped { rule, place } => {
             put_rule(notes, b"nq: ill typed: rule ", *rule, *place);
         }
+        Refused::NoKey(table) => put_no_key(notes, table.as_str().as_bytes()),
         Refused::Table(name, fault) => put_table(notes, name.as_str().as_bytes(), fault),
         Refused::Sql(fault) => put_sql(notes, fault),
         Refused::IllScoped { rule, place } => {

@@ -20,6 +20,8 @@ pub enum Refused {
     Query(SyntaxFault),
     /// The query breaks this typing rule at this place, first in the order of judging.
     IllTyped { rule: u8, place: u64 },
+    /// The rows of the table of this name would name bags, and it has no key.
+    NoKey(Label),
     /// The text of the table of this name is refused.
     Table(Label, TableFault),
     /// The bytes of the SQL text spell none.

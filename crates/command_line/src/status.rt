@@ -16,6 +16,7 @@ fn refused_status(refused: &Refused) -> u8
         Refused::IllTyped { .. } => 5,
         Refused::Table(..) => 6,
         Refused::Sql(_) | Refused::IllScoped { .. } => 12,
+        Refused::NoKey(_) => 14,
         Refused::Answer(..) | Refused::Links(_) => 15,
         Refused::JsonTable(..) => 16,
     }

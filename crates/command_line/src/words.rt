@@ -1,6 +1,6 @@
 // The words of the command line.
 ghost use Rattle.std.specs.Prelude.{◌≡◌, IfSome, map, option_map, string_bytes};
-ghost use Rattle.command_line.specs.Commands.{one_word, two_words, three_words, database_of, shown, of_show, four_words, as_json, five_words, over_tables, as_script, six_words, command_of};
+ghost use Rattle.command_line.specs.Commands.{one_word, two_words, three_words, database_of, shown, of_show, four_words, as_json, as_natural, five_words, over_tables, as_script, six_words, command_of};
 ghost use Rattle.command_line.specs.Words.{HasSize, aim_view, command_view};
 
 use database_scripts::Database;
@@ -23,6 +23,9 @@ pub enum Showing<'a> {
 pub enum Aim<'a> {
     /// Its value is written, over the table texts of the folder of this name.
     Run(&'a str),
+    /// Its value is written, over the table texts of the folder of this name, by SQL texts that name
+    /// bags by keys.
+    RunNatural(&'a str),
     /// Its value is written as JSON, over the table texts of the folder of this name.
     RunJson(&'a str),
     /// Its value is written as JSON, over the JSON tables of the folder of this name.
@@ -39,6 +42,8 @@ pub enum Aim<'a> {
     ShowNormal,
     /// The paths of its type are written.
     ShowPaths,
+    /// The SQL texts that name bags by keys are shown, each in a frame.
+    ShowNatural,
     /// The SQL texts that shred it are shown in a way.
     ShowTexts(Showing<'a>),
 }
@@ -122,6 +127,8 @@ fn shown<'a>(what: &str) -> Option<Aim<'a>>
         Some(Aim::ShowNormal)
     } else if what == "paths" {
         Some(Aim::ShowPaths)
+    } else if what == "natural" {
+        Some(Aim::ShowNatural)
     } else if what == "sql" {
         Some(Aim::ShowTexts(Showing::Frames))
     } else if what == "json" {
@@ -190,6 +197,24 @@ fn as_json<'a>(word: &str, schema: &'a str, text: &'a str, folder: &'a str) -> O
     }
 }
 
+// What `natural` makes of a word with its three names.
+fn as_natural<'a>(
+    word: &str,
+    schema: &'a str,
+    query: &'a str,
+    folder: &'a str,
+) -> Option<Command<'a>>
+    ensures is { option_map command_view result
+        ≡ as_natural word.now schema.now query.now folder.now }
+    ensures sized { IfSome result HasSize }
+{
+    if word == "run" {
+        Some(Command::OfQuery(Aim::RunNatural(folder), schema, query))
+    } else {
+        None
+    }
+}
+
 // The command of five words.
 fn five_words<'a>(
     word: &str,
@@ -204,6 +229,8 @@ fn five_words<'a>(
 {
     if form == "json" {
         as_json(word, schema, text, folder)
+    } else if form == "natural" {
+        as_natural(word, schema, text, folder)
     } else {
         None
     }

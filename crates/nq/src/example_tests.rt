@@ -306,6 +306,13 @@ x,Bo,Oslo
 const SHOP_REFUSED_EQUALS: &str = r#"for (c <- table customers) where (c.city = 'Oslo') [c.name]
 "#;
 
+const SHOP_REFUSED_KEYLESS: &str = r#"# The shop, where no table has a key.
+table customers (id: int, name: text, city: text);
+table orders (id: int, customer: int, day: text, paid: bool);
+table lines (order: int, product: text, pieces: int);
+table products (name: text, kind: text, price: int);
+"#;
+
 const SHOP_REFUSED_LABEL: &str = r#"for (c <- table customers) [c.nam]
 "#;
 
@@ -359,7 +366,7 @@ for (kind <- kinds)
 "#;
 
 // The runs in examples/shop.
-const SHOP: [Wanted; 18] = [
+const SHOP: [Wanted; 19] = [
     Wanted {
         words: &["run", "shop", "baskets", "data"],
         room: 2000,
@@ -505,6 +512,14 @@ const SHOP: [Wanted; 18] = [
         note: r#"nq: sql refused: Unexpected at 7
 "#,
     },
+    Wanted {
+        words: &["run", "natural", "refused/keyless", "orders", "data"],
+        room: 2000,
+        status: 14,
+        out: "",
+        note: r#"nq: no key: table customers
+"#,
+    },
 ];
 
 // The files of examples/shop.
@@ -551,6 +566,12 @@ fn files_of_shop(alloc: Global) -> Result<HeldInputs, Fail> {
         &mut files,
         "refused/equals",
         SHOP_REFUSED_EQUALS.as_bytes(),
+    )?;
+    put(
+        alloc,
+        &mut files,
+        "refused/keyless",
+        SHOP_REFUSED_KEYLESS.as_bytes(),
     )?;
     put(
         alloc,

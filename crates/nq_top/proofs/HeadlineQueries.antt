@@ -7,13 +7,15 @@ use Rattle.nq_model.specs.SchemaTexts as schemas
 use Rattle.nq_model.specs.Terms.{PlacedTerm, bare}
 use Rattle.nq_model.specs.Types.{TypeTree, bag}
 use Rattle.nq_model.specs.Typing.{IsAccepted}
+use Rattle.nq_model.proofs.Unfolding.{reached_once}
 use Rattle.nq_model.specs.declared.table.Schema.{Schema}
 use Rattle.nq_model.specs.declared.table.TableShape.{TableShape}
 use Rattle.nq_model.proofs.Judging.{accepted_judged, judged_accepted}
 use Rattle.nq_edge.specs.Edge.{Files, bytes_at, IsLonger}
 use Rattle.sql_profile.specs.Servers.{held_of}
 use Rattle.sql_profile.specs.declared.server.Loaded.{Loaded}
-use Rattle.nq_ir.specs.NormalForms.{element_type}
+use Rattle.nq_ir.specs.NormalForms.{element_type, normal_form}
+use Rattle.natural_index.specs.Naming.{no_key}
 use Rattle.nq_parser.specs.Parsing.{Parsed}
 use Rattle.query_syntax.specs.declared.fault.SyntaxFault.{SyntaxFault}
 use Rattle.query_syntax.specs.declared.fault.SyntaxFault.TheVariants as syntax
@@ -25,14 +27,16 @@ use Rattle.table_reader.specs.Faults.{HasFault as HasTableFault}
 use Rattle.table_reader.specs.Records.{records_of}
 use Rattle.table_reader.specs.declared.TableFault.{TableFault}
 use Rattle.command_line.specs.declared.refusal.Refused.{Refused}
-use Rattle.command_line.specs.declared.refusal.Refused.TheVariants.{TooLong, Schema as SchemaRefused, Query as QueryRefused, IllTyped, Table as TableRefused, Sql, IllScoped, JsonTable, Answer, Links}
-use Rattle.command_line.specs.Commands.{Aim, run, of_query}
-use Rattle.nq_top.specs.Headline.{Names, HeldWithin, GivenSchema, GivenQuery, Accepted, GivenTables, GivenRun, NextTable, LooksFor, AreRefused}
-use Rattle.nq_top.specs.Judging.{Judgement, Verdict, missing, refused, planned, after, fetched_then, read_then, text_then, query_then, aim_judged, tables_judged, command_judged}
+use Rattle.command_line.specs.declared.refusal.Refused.TheVariants.{TooLong, Schema as SchemaRefused, Query as QueryRefused, IllTyped, NoKey, Table as TableRefused, Sql, IllScoped, JsonTable, Answer, Links}
+use Rattle.command_line.specs.Commands.{Showing, Aim, run, run_natural, show_natural, show_texts, of_query}
+use Rattle.nq_top.specs.Headline.{Naming, numbers, keys, Names, HeldWithin, GivenSchema, GivenQuery, Accepted, Keyless, HasKeys, LacksKey, GivenKeys, GivenTables, GivenRun, NextTable, LooksFor, AreRefused}
+use Rattle.nq_top.specs.Judging.{Judgement, Verdict, missing, refused, keyed, planned, at_once, after, fetched_then, read_then, text_then, query_then, draft_judged, aim_judged, tables_judged, command_judged}
 use Rattle.nq_top.specs.Limits.{text_limit, tables_limit, depth_limit}
 use Rattle.nq_top.specs.Lines.{file_of}
-use Rattle.nq_top.specs.Plans.{Draft, drafted, query_draft, query_question}
-use Rattle.nq_top.specs.Reading.{Reading, ReadsQuery, TypedTerm, refused_as, schema_read, term_read, type_read, typed_as, typed_over, query_read, ill_typed, rows_read}
+use Rattle.nq_top.specs.Natural.{Natural, keyed_as, natural_draft, natural_of, natural_read}
+use Rattle.nq_top.specs.Plans.{Draft, drafted, query_draft, query_question, question_to}
+use Rattle.nq_top.specs.Reading.{PlainReading, Reading, ReadsQuery, TypedTerm, refused_as, schema_read, term_read, type_read, typed_as, typed_over, query_read, ill_typed, rows_read}
+use Rattle.nq_top.specs.Shown.{shown_form}
 use Rattle.nq_top.specs.declared.tables.TableTexts.TheVariants.{Csv}
 use Rattle.nq_top.proofs.Steps.{read_next}
 use Rattle.nq_top.proofs.QueryReadings.{fault_of, says_term, says_fault}
@@ -150,6 +154,20 @@ module _ {A : Type 0} (files : Files) (name : List ℕ) (read : List ℕ → Res
 
 -- 2. what the inputs come to
 
+-- the aim of a query that is run, by texts that name bags in a way; and the draft of those texts
+abbrev pub run_as : Naming → List ℕ → Aim
+run_as numbers folder = run folder
+run_as keys folder = run_natural folder
+
+abbrev pub draft_as : Naming → PlainReading → Schema → TypedTerm → Draft
+draft_as numbers plain schema query = query_draft plain schema query.term query.type
+draft_as keys plain schema query = natural_draft (natural_of schema query (shown_form plain schema query.term query.type))
+
+-- what lacks a key does so where keys name bags
+lacks_keys : (n : Naming) (Lacks : Option (List ℕ) → Type 0) (table : List ℕ) → LacksKey n Lacks table → (n ≡ keys) × Lacks (Some table)
+lacks_keys numbers Lacks table lacks = absurd lacks
+lacks_keys keys Lacks table lacks = (refl, lacks)
+
 -- what comes of a command that puts the query to an aim
 abbrev pub whole : Reading → Files → Names → Aim → Judgement
 whole reading files names aim = command_judged reading files (of_query aim names.schema names.query)
@@ -177,31 +195,67 @@ module _ (reading : Reading) (files : Files) (names : Names) (aim : Aim) where
       (text_given files names.query (λ text. query_read reading.queries schema text) (aimed schema) given.text given.held (typed accepted)
       (query_given reading schema given.text given.query (bag accepted.element) given.spells accepted.typed))
 
-  -- the folder is that of a query that is run
-  abbrev pub RunsFolder : Type 0
-  RunsFolder = (folder : List ℕ) → names.folder ≡ Some folder → aim ≡ run folder
+  -- the aim is that of the names: a query is run over the folder that they give, by texts that name bags as they say; and
+  -- where those name them by keys, the tables need keys
+  pub record IsAimed : Type 0 where
+    pub runs : (folder : List ℕ) → names.folder ≡ Some folder → aim ≡ run_as names.naming folder
+    pub asks_keys : names.naming ≡ keys → (schema : Schema) (query : TypedTerm)
+        → (next : Natural → Judgement) × (aimed schema query ≡ read_then (natural_read reading.plain schema query) next)
+
+  -- the table that lacks a key, in the normal form that is shown
+  pub shown_lacks : (accepted : Accepted files names) (table : Option (List ℕ)) → Keyless files names accepted table
+      → no_key accepted.given.over.schema.tables (shown_form reading.plain accepted.given.over.schema accepted.given.query (bag accepted.element)) ≡ table
+  shown_lacks accepted table lacks =
+      let over : Schema = accepted.given.over.schema in
+      let once = reached_once (reading.plain.right over accepted.given.query (bag accepted.element) accepted.typed) lacks.unfolds in
+      ap (λ (t : PlacedTerm). no_key over.tables (normal_form over.tables accepted.element (bare t))) once ∙ lacks.is
+
+  -- the texts by keys of a query whose tables have the keys that it needs
+  abbrev pub keyed_of : Accepted files names → Natural
+  keyed_of accepted = natural_of accepted.given.over.schema (typed accepted) (shown_form reading.plain accepted.given.over.schema accepted.given.query (bag accepted.element))
+
+  pub natural_given : (accepted : Accepted files names) → Keyless files names accepted None
+      → natural_read reading.plain accepted.given.over.schema (typed accepted) ≡ Ok (keyed_of accepted)
+  unfolding natural_read
+  natural_given accepted has = ap (keyed_as (keyed_of accepted)) (shown_lacks accepted None has)
+
+  natural_lacks : (accepted : Accepted files names) (table : List ℕ) → Keyless files names accepted (Some table)
+      → natural_read reading.plain accepted.given.over.schema (typed accepted) ≡ Err (NoKey table)
+  unfolding natural_read
+  natural_lacks accepted table lacks = ap (keyed_as (keyed_of accepted)) (shown_lacks accepted (Some table) lacks)
 
   -- what is asked of a query that is run
   abbrev pub run_draft : Accepted files names → Draft
-  run_draft accepted = query_draft reading.plain accepted.given.over.schema accepted.given.query (bag accepted.element)
+  run_draft accepted = draft_as names.naming reading.plain accepted.given.over.schema (typed accepted)
 
   abbrev run_verdict : Accepted files names → List Loaded → Verdict
   run_verdict accepted tables = planned (drafted (run_draft accepted) tables) (query_question (typed accepted))
 
-  run_aim : (accepted : Accepted files names) (folder : List ℕ) → aim ≡ run folder
-      → (whole reading files names aim).verdict ≡ (tables_judged files Csv folder accepted.given.over.schema.tables tables_limit [] (run_verdict accepted)).verdict
+  -- a run by texts that name bags in a way
+  runs_as : (n : Naming) (accepted : Accepted files names) (folder : List ℕ) → HasKeys n (Keyless files names accepted)
+      → (aim_judged reading.plain files (run_as n folder) accepted.given.over.schema (typed accepted)).verdict
+      ≡ (tables_judged files Csv folder accepted.given.over.schema.tables tables_limit []
+      (λ tables. planned (drafted (draft_as n reading.plain accepted.given.over.schema (typed accepted)) tables) (query_question (typed accepted)))).verdict
   unfolding aim_judged
-  run_aim accepted folder is =
+  runs_as numbers accepted folder has = refl
+  runs_as keys accepted folder has =
+      let next : Natural → Judgement = λ natural. draft_judged files Csv folder accepted.given.over.schema (natural_draft natural) (λ tables. query_question (typed accepted)) in
+      ap (λ (given : Result Natural Refused). (read_then given next).verdict) (natural_given accepted has)
+
+  run_aim : (accepted : Accepted files names) (folder : List ℕ) → HasKeys names.naming (Keyless files names accepted) → aim ≡ run_as names.naming folder
+      → (whole reading files names aim).verdict ≡ (tables_judged files Csv folder accepted.given.over.schema.tables tables_limit [] (run_verdict accepted)).verdict
+  run_aim accepted folder has is =
       ap (λ (j : Judgement). j.verdict) (after_type accepted)
       ∙ ap (λ (a : Aim). (aim_judged reading.plain files a accepted.given.over.schema (typed accepted)).verdict) is
+      ∙ runs_as names.naming accepted folder has
 
   -- the plan of a query that is run
-  pub run_planned : RunsFolder → (accepted : Accepted files names) (folder : List ℕ) → names.folder ≡ Some folder → (tables : GivenTables files folder tables_limit accepted.given.over.schema.tables)
+  pub run_planned : IsAimed → (folder : List ℕ) (given : GivenRun files names folder) → names.folder ≡ Some folder
       → (whole reading files names aim).verdict
-      ≡ planned (drafted (run_draft accepted) (held_of accepted.given.over.schema.tables tables.rows)) (query_question (typed accepted))
-  run_planned runs accepted folder is_run tables =
-      run_aim accepted folder (runs folder is_run)
-      ∙ tables_given files folder (run_verdict accepted) accepted.given.over.schema.tables tables_limit [] tables.texts tables.rows tables.held tables.within tables.given
+      ≡ planned (drafted (run_draft given.accepted) (held_of given.accepted.given.over.schema.tables given.tables.rows)) (query_question (typed given.accepted))
+  run_planned aims folder given is_run =
+      run_aim given.accepted folder given.keyed (aims.runs folder is_run)
+      ∙ tables_given files folder (run_verdict given.accepted) given.accepted.given.over.schema.tables tables_limit [] given.tables.texts given.tables.rows given.tables.held given.tables.within given.tables.given
 
   -- a table that is looked for
   record LooksForTable (shape : TableShape) (name : List ℕ) (limit : ℕ) : Type 0 where
@@ -211,8 +265,8 @@ module _ (reading : Reading) (files : Files) (names : Names) (aim : Aim) where
     next : List Loaded → Verdict
     comes : (whole reading files names aim).verdict ≡ (fetched_then files name limit (table_next files folder shape behind limit done next)).verdict
 
-  table_looked : RunsFolder → (shape : TableShape) (name : List ℕ) (limit : ℕ) → NextTable files names shape name limit → LooksForTable shape name limit
-  table_looked runs shape name limit table =
+  table_looked : IsAimed → (shape : TableShape) (name : List ℕ) (limit : ℕ) → NextTable files names shape name limit → LooksForTable shape name limit
+  table_looked aims shape name limit table =
       let next : List Loaded → Verdict = run_verdict table.accepted in
       let done = held_of table.before table.given.rows in
       record {
@@ -221,59 +275,98 @@ module _ (reading : Reading) (files : Files) (names : Names) (aim : Aim) where
         done = done;
         next = next;
         comes =
-            run_aim table.accepted table.folder (runs table.folder table.is_run)
+            run_aim table.accepted table.folder table.keyed (aims.runs table.folder table.is_run)
             ∙ ap (λ (shapes : List TableShape). (tables_judged files Csv table.folder shapes tables_limit [] next).verdict) table.tables
             ∙ tables_reach files table.folder next table.before shape table.after tables_limit [] table.given.texts table.given.rows table.given.held table.given.within table.given.given
             ∙ ap₂ (λ (n : List ℕ) l. (fetched_then files n l (table_next files table.folder shape table.after l done next)).verdict) (sym table.named) (sym table.left);
       }
 
   -- a text that is looked for is fetched
-  looked_for : RunsFolder → (name : List ℕ) (limit : ℕ) → LooksFor files names name limit → (next : List ℕ → Judgement) × ((whole reading files names aim).verdict ≡ (fetched_then files name limit next).verdict)
-  looked_for runs name limit (inl (named, most)) =
+  looked_for : IsAimed → (name : List ℕ) (limit : ℕ) → LooksFor files names name limit → (next : List ℕ → Judgement) × ((whole reading files names aim).verdict ≡ (fetched_then files name limit next).verdict)
+  looked_for aims name limit (inl (named, most)) =
       let next : List ℕ → Judgement = λ text. read_then (schema_read reading.schemas text) (λ found. query_then reading files found names.query (aimed found)) in
       (next, ap₂ (λ (n : List ℕ) l. (fetched_then files n l next).verdict) (sym named) (sym most))
-  looked_for runs name limit (inr (inl (given, named, most))) =
+  looked_for aims name limit (inr (inl (given, named, most))) =
       let next : List ℕ → Judgement = λ text. read_then (query_read reading.queries given.schema text) (aimed given.schema) in
       (next, ap (λ (j : Judgement). j.verdict) (after_schema given) ∙ ap₂ (λ (n : List ℕ) l. (fetched_then files n l next).verdict) (sym named) (sym most))
-  looked_for runs name limit (inr (inr (shape, table))) =
-      let looks = table_looked runs shape name limit table in
+  looked_for aims name limit (inr (inr (shape, table))) =
+      let looks = table_looked aims shape name limit table in
       (table_next files looks.folder shape looks.behind limit looks.done looks.next, looks.comes)
 
-  pub is_missing : RunsFolder → (name : List ℕ) (limit : ℕ) → LooksFor files names name limit → bytes_at files name ≡ None → (whole reading files names aim).verdict ≡ missing name
-  is_missing runs name limit looks absent =
-      let found = looked_for runs name limit looks in
+  pub is_missing : IsAimed → (name : List ℕ) (limit : ℕ) → LooksFor files names name limit → bytes_at files name ≡ None → (whole reading files names aim).verdict ≡ missing name
+  is_missing aims name limit looks absent =
+      let found = looked_for aims name limit looks in
       found.1 ∙ missing_text files name limit found.0 absent
 
-  table_faulty : RunsFolder → (shape : TableShape) (table name : List ℕ) (limit : ℕ) (text : List ℕ) (fault : TableFault) → table ≡ shape.name → NextTable files names shape name limit
+  table_faulty : IsAimed → (shape : TableShape) (table name : List ℕ) (limit : ℕ) (text : List ℕ) (fault : TableFault) → table ≡ shape.name → NextTable files names shape name limit
       → HeldWithin files name limit text → HasTableFault shape (records_of text) fault → (whole reading files names aim).verdict ≡ refused (TableRefused table fault)
-  table_faulty runs shape table name limit text fault named looks held has =
-      let found = table_looked runs shape name limit looks in
+  table_faulty aims shape table name limit text fault named looks held has =
+      let found = table_looked aims shape name limit looks in
       found.comes
       ∙ ap (λ (j : Judgement). j.verdict) (held_next files name limit (table_next files found.folder shape found.behind limit found.done found.next) text held)
       ∙ read_stops (rows_read Csv shape text) (TableRefused shape.name fault) _ (rows_faulty shape text fault has)
       ∙ ap (λ (n : List ℕ). refused (TableRefused n fault)) (sym named)
 
-  pub is_refused : RunsFolder → (why : Refused) → AreRefused files names why → (whole reading files names aim).verdict ≡ refused why
-  is_refused runs (TooLong name limit) (looks, longer) =
-      let found = looked_for runs name limit looks in
+  pub is_refused : IsAimed → (why : Refused) → AreRefused files names why → (whole reading files names aim).verdict ≡ refused why
+  is_refused aims (TooLong name limit) (looks, longer) =
+      let found = looked_for aims name limit looks in
       found.1 ∙ long_text files name limit found.0 longer
-  is_refused runs (SchemaRefused fault) (certain, (text, held, cause)) =
+  is_refused aims (SchemaRefused fault) (certain, (text, held, cause)) =
       text_refused files names.schema (λ given. schema_read reading.schemas given) (λ found. query_then reading files found names.query (aimed found)) text held
       (SchemaRefused fault) (schema_faults reading text fault certain cause)
-  is_refused runs (QueryRefused fault) (certain, given, (text, held, parsed)) =
+  is_refused aims (QueryRefused fault) (certain, given, (text, held, parsed)) =
       ap (λ (j : Judgement). j.verdict) (after_schema given)
       ∙ text_refused files names.query (λ found. query_read reading.queries given.schema found) (aimed given.schema) text held
       (QueryRefused fault) (query_faults reading given.schema text fault certain parsed)
-  is_refused runs (IllTyped rule place) (given, is) =
+  is_refused aims (IllTyped rule place) (given, is) =
       ap (λ (j : Judgement). j.verdict) (after_schema given.over)
       ∙ text_refused files names.query (λ found. query_read reading.queries given.over.schema found) (aimed given.over.schema) given.text given.held
       (IllTyped rule place) (query_ill_typed reading given.over.schema given.text given.query rule place given.spells is)
-  is_refused runs (TableRefused table fault) (shape, named, name, limit, looks, (text, held, has)) = table_faulty runs shape table name limit text fault named looks held has
-  is_refused runs (Sql fault) never = absurd never
-  is_refused runs (IllScoped rule place) never = absurd never
-  is_refused runs (JsonTable name fault) never = absurd never
-  is_refused runs (Answer number fault) never = absurd never
-  is_refused runs (Links fault) never = absurd never
+  is_refused aims (NoKey table) (accepted, lacks) =
+      let found = lacks_keys names.naming (Keyless files names accepted) table lacks in
+      let asks = aims.asks_keys found.0 accepted.given.over.schema (typed accepted) in
+      ap (λ (j : Judgement). j.verdict) (after_type accepted)
+      ∙ ap (λ (j : Judgement). j.verdict) asks.1
+      ∙ read_stops (natural_read reading.plain accepted.given.over.schema (typed accepted)) (NoKey table) asks.0 (natural_lacks accepted table found.1)
+  is_refused aims (TableRefused table fault) (shape, named, name, limit, looks, (text, held, has)) = table_faulty aims shape table name limit text fault named looks held has
+  is_refused aims (Sql fault) never = absurd never
+  is_refused aims (IllScoped rule place) never = absurd never
+  is_refused aims (JsonTable name fault) never = absurd never
+  is_refused aims (Answer number fault) never = absurd never
+  is_refused aims (Links fault) never = absurd never
+
+-- the aims of the commands
+asks_keys_of : (plain : PlainReading) (files : Files) (n : Naming) (folder : List ℕ) → n ≡ keys → (schema : Schema) (query : TypedTerm)
+    → (next : Natural → Judgement) × (aim_judged plain files (run_as n folder) schema query ≡ read_then (natural_read plain schema query) next)
+unfolding aim_judged
+asks_keys_of plain files numbers folder by_keys schema query = absurd (cc)
+asks_keys_of plain files keys folder by_keys schema query = (λ natural. draft_judged files Csv folder schema (natural_draft natural) (λ tables. query_question query), refl)
+
+shown_asks_keys : (plain : PlainReading) (files : Files) (schema : Schema) (query : TypedTerm) → (next : Natural → Judgement) × (aim_judged plain files show_natural schema query ≡ read_then (natural_read plain schema query) next)
+unfolding aim_judged
+shown_asks_keys plain files schema query = (λ natural. at_once (keyed natural), refl)
+
+-- one for each folder that there may be, and for each naming
+abbrev pub aim_for : Option (List ℕ) → Naming → Aim
+aim_for None numbers = show_texts Showing.frames
+aim_for None keys = show_natural
+aim_for (Some folder) n = run_as n folder
+
+asks_keys_for : (plain : PlainReading) (files : Files) (folder : Option (List ℕ)) (n : Naming) → n ≡ keys → (schema : Schema) (query : TypedTerm)
+    → (next : Natural → Judgement) × (aim_judged plain files (aim_for folder n) schema query ≡ read_then (natural_read plain schema query) next)
+asks_keys_for plain files None numbers by_keys schema query = absurd (cc)
+asks_keys_for plain files None keys by_keys schema query = shown_asks_keys plain files schema query
+asks_keys_for plain files (Some folder) n by_keys schema query = asks_keys_of plain files n folder by_keys schema query
+
+pub aims_at : (reading : Reading) (files : Files) (names : Names) → IsAimed reading files names (aim_for names.folder names.naming)
+aims_at reading files names = record {
+  runs = λ folder is_run. ap (λ (f : Option (List ℕ)). aim_for f names.naming) is_run;
+  asks_keys = asks_keys_for reading.plain files names.folder names.naming;
+}
+
+-- of texts that are shown in another way
+pub shows_at : (reading : Reading) (files : Files) (schema query : List ℕ) (showing : Showing) → IsAimed reading files (record { schema = schema; query = query; folder = None; naming = numbers }) (show_texts showing)
+shows_at reading files schema query showing = record { runs = λ folder is_run. absurd (cc); asks_keys = λ by_keys. absurd (cc) }
 
 -- 3. they come to one of three
 
@@ -327,13 +420,45 @@ module _ (reading : Reading) (files : Files) (names : Names) where
       go (long is) = are_refused (TooLong names.schema text_limit) (inl (refl, refl), is)
       go (short text held) = spelled text held (reading.schemas.says text) (reading.schemas.right text) (reading.schemas.certain text)
 
+  -- the tables have the keys that name bags, or one lacks it
+  keys_or_not : (accepted : Accepted files names) (n : Naming) → HasKeys n (Keyless files names accepted) ⊎ ((table : List ℕ) × LacksKey n (Keyless files names accepted) table)
+  keys_or_not accepted numbers = inl tt
+  keys_or_not accepted keys =
+      go (no_key accepted.given.over.schema.tables (normal_form accepted.given.over.schema.tables accepted.element (bare (reading.plain.says accepted.given.query)))) refl
+    where
+      found : (table : Option (List ℕ)) → no_key accepted.given.over.schema.tables (normal_form accepted.given.over.schema.tables accepted.element (bare (reading.plain.says accepted.given.query))) ≡ table → Keyless files names accepted table
+      found table is = record {
+        plain = reading.plain.says accepted.given.query;
+        unfolds = reading.plain.right accepted.given.over.schema accepted.given.query (bag accepted.element) accepted.typed;
+        is = is;
+      }
+
+      go : (table : Option (List ℕ)) → no_key accepted.given.over.schema.tables (normal_form accepted.given.over.schema.tables accepted.element (bare (reading.plain.says accepted.given.query))) ≡ table
+          → Keyless files names accepted None ⊎ ((table : List ℕ) × Keyless files names accepted (Some table))
+      go None is = inl (found None is)
+      go (Some table) is = inr (table, found (Some table) is)
+
+  pub keyed_cases : names.naming ≡ keys → Cases files names (GivenKeys files names)
+  keyed_cases by_keys = go accepted_cases
+    where
+      keyed_or : (accepted : Accepted files names) → Keyless files names accepted None ⊎ ((table : List ℕ) × Keyless files names accepted (Some table)) → Cases files names (GivenKeys files names)
+      keyed_or accepted (inl has) = are_given (record { accepted = accepted; keyed = has })
+      keyed_or accepted (inr (table, lacks)) =
+          are_refused (NoKey table) (accepted, subst (λ (n : Naming). LacksKey n (Keyless files names accepted) table) (sym by_keys) lacks)
+
+      go : Cases files names (Accepted files names) → Cases files names (GivenKeys files names)
+      go (are_given accepted) = keyed_or accepted (keys_or_not accepted keys)
+      go (are_refused why wrong) = are_refused why wrong
+      go (are_missing name limit looks none_is) = are_missing name limit looks none_is
+
   pub run_cases : (folder : List ℕ) → names.folder ≡ Some folder → Cases files names (GivenRun files names folder)
   run_cases folder is_run = go accepted_cases
     where
-      next_of : (accepted : Accepted files names) (stops : Stops files folder tables_limit accepted.given.over.schema.tables)
+      next_of : (accepted : Accepted files names) → HasKeys names.naming (Keyless files names accepted) → (stops : Stops files folder tables_limit accepted.given.over.schema.tables)
           → NextTable files names stops.shape (file_of folder stops.shape.name) (tables_limit - sum (map length stops.given.texts))
-      next_of accepted stops = record {
+      next_of accepted has stops = record {
         accepted = accepted;
+        keyed = has;
         folder = folder;
         is_run = is_run;
         before = stops.before;
@@ -344,24 +469,29 @@ module _ (reading : Reading) (files : Files) (names : Names) where
         left = refl;
       }
 
-      stopped : (accepted : Accepted files names) (stops : Stops files folder tables_limit accepted.given.over.schema.tables)
+      stopped : (accepted : Accepted files names) → HasKeys names.naming (Keyless files names accepted) → (stops : Stops files folder tables_limit accepted.given.over.schema.tables)
           → (bytes_at files (file_of folder stops.shape.name) ≡ None)
           ⊎ (IsLonger (tables_limit - sum (map length stops.given.texts)) (bytes_at files (file_of folder stops.shape.name))
           ⊎ ((text : List ℕ) × HeldWithin files (file_of folder stops.shape.name) (tables_limit - sum (map length stops.given.texts)) text × (fault : TableFault) × HasTableFault stops.shape (records_of text) fault))
           → Cases files names (GivenRun files names folder)
-      stopped accepted stops (inl none_is) =
-          are_missing (file_of folder stops.shape.name) (tables_limit - sum (map length stops.given.texts)) (inr (inr (stops.shape, next_of accepted stops))) none_is
-      stopped accepted stops (inr (inl longer)) =
-          are_refused (TooLong (file_of folder stops.shape.name) (tables_limit - sum (map length stops.given.texts))) (inr (inr (stops.shape, next_of accepted stops)), longer)
-      stopped accepted stops (inr (inr (text, held, fault, has))) =
+      stopped accepted has stops (inl none_is) =
+          are_missing (file_of folder stops.shape.name) (tables_limit - sum (map length stops.given.texts)) (inr (inr (stops.shape, next_of accepted has stops))) none_is
+      stopped accepted has stops (inr (inl longer)) =
+          are_refused (TooLong (file_of folder stops.shape.name) (tables_limit - sum (map length stops.given.texts))) (inr (inr (stops.shape, next_of accepted has stops)), longer)
+      stopped accepted has stops (inr (inr (text, held, fault, wrong))) =
           are_refused (TableRefused stops.shape.name fault)
-          (stops.shape, refl, file_of folder stops.shape.name, (tables_limit - sum (map length stops.given.texts)), next_of accepted stops, (text, held, has))
+          (stops.shape, refl, file_of folder stops.shape.name, (tables_limit - sum (map length stops.given.texts)), next_of accepted has stops, (text, held, wrong))
 
-      tables : (accepted : Accepted files names) → GivenTables files folder tables_limit accepted.given.over.schema.tables ⊎ Stops files folder tables_limit accepted.given.over.schema.tables → Cases files names (GivenRun files names folder)
-      tables accepted (inl given) = are_given (accepted, given)
-      tables accepted (inr stops) = stopped accepted stops stops.wrong
+      tables : (accepted : Accepted files names) → HasKeys names.naming (Keyless files names accepted) → GivenTables files folder tables_limit accepted.given.over.schema.tables ⊎ Stops files folder tables_limit accepted.given.over.schema.tables
+          → Cases files names (GivenRun files names folder)
+      tables accepted has (inl given) = are_given (record { accepted = accepted; keyed = has; tables = given })
+      tables accepted has (inr stops) = stopped accepted has stops stops.wrong
+
+      keyed_or : (accepted : Accepted files names) → HasKeys names.naming (Keyless files names accepted) ⊎ ((table : List ℕ) × LacksKey names.naming (Keyless files names accepted) table) → Cases files names (GivenRun files names folder)
+      keyed_or accepted (inl has) = tables accepted has (tables_or_stop files folder accepted.given.over.schema.tables tables_limit)
+      keyed_or accepted (inr (table, lacks)) = are_refused (NoKey table) (accepted, lacks)
 
       go : Cases files names (Accepted files names) → Cases files names (GivenRun files names folder)
-      go (are_given accepted) = tables accepted (tables_or_stop files folder accepted.given.over.schema.tables tables_limit)
+      go (are_given accepted) = keyed_or accepted (keys_or_not accepted names.naming)
       go (are_refused why wrong) = are_refused why wrong
       go (are_missing name limit looks none_is) = are_missing name limit looks none_is

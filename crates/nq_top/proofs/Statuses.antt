@@ -6,13 +6,14 @@ use Rattle.command_line.specs.declared.refusal.Refused.{Refused}
 use Rattle.command_line.specs.declared.refusal.Refused.TheVariants as refused
 
 abbrev pub is_fault : ℕ → Bool
-is_fault status = list_any (λ s. s == status) (3 ∷ 4 ∷ 5 ∷ 6 ∷ 10 ∷ 12 ∷ 15 ∷ 16 ∷ [])
+is_fault status = list_any (λ s. s == status) (3 ∷ 4 ∷ 5 ∷ 6 ∷ 10 ∷ 12 ∷ 14 ∷ 15 ∷ 16 ∷ [])
 
 pub fault_status : (why : Refused) → is_fault (refused_status why) ≡ true
 fault_status (refused.TooLong name limit) = refl
 fault_status (refused.Schema fault) = refl
 fault_status (refused.Query fault) = refl
 fault_status (refused.IllTyped rule place) = refl
+fault_status (refused.NoKey table) = refl
 fault_status (refused.Table name fault) = refl
 fault_status (refused.Sql fault) = refl
 fault_status (refused.IllScoped rule place) = refl

@@ -1,7 +1,7 @@
 -- What a call on words comes to.
 use Rattle.std.specs.Prelude.{ℕ, List, String, map, string_bytes}
 use Rattle.std.specs.declared.alloc.Global.{Global}
-use Rattle.nq_top.specs.Headline.{OfRun, OfShow, RunComes, ShowComes}
+use Rattle.nq_top.specs.Headline.{NaturalComes, OfNatural, OfRun, OfShow, RunComes, ShowComes}
 use Rattle.nq_top.specs.Theorem.{Runs, Ends}
 use Rattle.nq_top.specs.World.{SinkState, World, command_in}
 
@@ -10,10 +10,13 @@ pub record Comes (words : List (String Global)) (before after : World) (old new 
     (status : ℕ) : Type 0 where
   -- The status and the note line are those of one answer, whose promise is that of a run.
   pub ends : Ends old new status (λ answer. Runs (command_in words) before after answer)
-  -- The headline: what `run` comes to in the words of the grammars, the typing rules, the tables and
-  -- the meaning,
+  -- The headline: what `run` and `run natural` come to in the words of the grammars, the typing
+  -- rules, the tables and the meaning,
   pub runs : OfRun (map (λ word. string_bytes word) words) before.inputs.held
       (RunComes before after old new status)
-  -- and `show` of SQL texts.
+  -- and `show` of SQL texts,
   pub shows : OfShow (map (λ word. string_bytes word) words) before.inputs.held
       (ShowComes before after old new status)
+  -- and of those that name bags by keys.
+  pub names : OfNatural (map (λ word. string_bytes word) words) before.inputs.held
+      (NaturalComes before after old new status)

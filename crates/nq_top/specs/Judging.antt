@@ -11,7 +11,7 @@ use Rattle.database_scripts.specs.Loads.{load_text}
 use Rattle.shred_types.specs.Columns.{columns_at}
 use Rattle.sql_profile.specs.declared.answer.Answer.{Answer}
 use Rattle.sql_profile.specs.declared.server.Loaded.{Loaded}
-use Rattle.command_line.specs.Commands.{Showing, Aim, run, run_json, run_json_tables, stitch, stitch_json, check, show_types, show_normal, show_paths, show_texts, Command, help, version, of_query, answer, generated, show_load}
+use Rattle.command_line.specs.Commands.{Showing, Aim, run, run_natural, run_json, run_json_tables, stitch, stitch_json, check, show_types, show_normal, show_paths, show_natural, show_texts, Command, help, version, of_query, answer, generated, show_load}
 use Rattle.command_line.specs.Help.{help_text, version_text}
 use Rattle.command_line.specs.Paths.{paths_text}
 use Rattle.command_line.specs.declared.refusal.Refused.{Refused}
@@ -20,6 +20,7 @@ use Rattle.nq_execute.specs.Plans.{Writing, RowWriting, Plan}
 use Rattle.nq_top.specs.Foreign.{Foreign, foreign_to}
 use Rattle.nq_top.specs.Limits.{text_limit, tables_limit}
 use Rattle.nq_top.specs.Lines.{file_by, answer_file_of, accepted_line, type_line}
+use Rattle.nq_top.specs.Natural.{Natural, natural_draft, natural_read}
 use Rattle.nq_top.specs.Plans.{Draft, drafted, Question, draft_to, question_to, sql_draft, generated_plan, generated_question}
 use Rattle.nq_top.specs.Reading.{PlainReading, Reading, TypedTerm, SqlColumns, schema_read, query_read, rows_read, sql_read, answer_read, links_read}
 use Rattle.nq_top.specs.Shown.{Shown, shown_form, form_line, shown_texts}
@@ -27,14 +28,16 @@ use Rattle.nq_top.specs.declared.tables.TableTexts.{TableTexts}
 use Rattle.nq_top.specs.declared.tables.TableTexts.TheVariants.{Csv, Json}
 
 -- The words are no command; or a name is not held, whose fetch fails; or the first refusal; or the
--- text that is written; or the SQL texts that are shown in a way; or linked answers from elsewhere;
--- or the plan of a question, over the tables of the schema in its order.
+-- text that is written; or the SQL texts that are shown in a way; or those that are shown in which
+-- bags are named by keys; or linked answers from elsewhere; or the plan of a question, over the
+-- tables of the schema in its order.
 pub data Verdict : Type 0 where
   usage : Verdict
   missing : List ℕ → Verdict
   refused : Refused → Verdict
   written : List ℕ → Verdict
   shown : Showing → Shown → Verdict
+  keyed : Natural → Verdict
   linked : Foreign → Verdict
   planned : Plan → Question → Verdict
 
@@ -131,6 +134,13 @@ run_judged writing kind plain files folder schema query =
     draft_judged files kind folder schema (draft_to writing plain schema query.term query.type)
     (λ tables. question_to writing query)
 
+-- the same by texts that name bags by keys, or the table that lacks one
+abbrev pub natural_judged : PlainReading → Files → List ℕ → Schema → TypedTerm → Judgement
+natural_judged plain files folder schema query =
+    read_then (natural_read plain schema query)
+    (λ natural. draft_judged files Csv folder schema (natural_draft natural)
+    (λ tables. question_to Writing.text query))
+
 -- the value of the answers of a folder to the texts that are shown for a query, written in a way
 abbrev pub stitch_judged : Writing → PlainReading → Files → List ℕ → Schema → TypedTerm → Judgement
 stitch_judged writing plain files folder schema query =
@@ -142,6 +152,8 @@ stitch_judged writing plain files folder schema query =
 unfoldable pub aim_judged : PlainReading → Files → Aim → Schema → TypedTerm → Judgement
 aim_judged plain files (run folder) schema query =
     run_judged Writing.text Csv plain files folder schema query
+aim_judged plain files (run_natural folder) schema query =
+    natural_judged plain files folder schema query
 aim_judged plain files (run_json folder) schema query =
     run_judged Writing.json Csv plain files folder schema query
 aim_judged plain files (run_json_tables folder) schema query =
@@ -155,6 +167,8 @@ aim_judged plain files show_types schema query = at_once (written (type_line que
 aim_judged plain files show_normal schema query =
     at_once (written (form_line (shown_form plain schema query.term query.type)))
 aim_judged plain files show_paths schema query = at_once (written (paths_text query.type))
+aim_judged plain files show_natural schema query =
+    read_then (natural_read plain schema query) (λ natural. at_once (keyed natural))
 aim_judged plain files (show_texts showing) schema query =
     at_once (shown showing (shown_texts plain schema query.term query.type))
 

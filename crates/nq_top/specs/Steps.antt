@@ -18,7 +18,8 @@ use Rattle.nq_execute.specs.Plans.{Plan, plan_view, IsServable}
 use Rattle.nq_execute.specs.declared.plan.Plan.{Plan as Asked}
 use Rattle.nq_top.specs.Foreign.{Stitches}
 use Rattle.nq_top.specs.Gathering.{Told, Judges, RefusalTells}
-use Rattle.nq_top.specs.Judging.{Judgement, Verdict, usage, missing, refused, written, shown, linked, planned}
+use Rattle.nq_top.specs.Judging.{Judgement, Verdict, usage, missing, refused, written, shown, keyed, linked, planned}
+use Rattle.nq_top.specs.Natural.{ShowsNatural}
 use Rattle.nq_top.specs.Plans.{AreReadFor, Question, IsSound}
 use Rattle.nq_top.specs.Reading.{TypedTerm, SqlColumns, type_read}
 use Rattle.nq_top.specs.Shown.{Shows}
@@ -119,6 +120,12 @@ abbrev pub ReadSays : {A B : Type 0} → (B → A) → Result A Refused → Resu
 ReadSays view given (Ok b) = given ≡ Ok (view b)
 ReadSays view given (Err r) = Refuses given r
 
+-- the same of what is made of it
+abbrev pub MakesSays : {A B : Type 0} → (A → B → Type 0) → Result A Refused → Result B InputRefusal
+    → Type 0
+MakesSays {A} Makes given (Ok b) = (a : A) × (given ≡ Ok a) × Makes a b
+MakesSays Makes given (Err r) = Refuses given r
+
 -- a query of the program, and what is known of one that was read over a schema
 abbrev pub typed_view : TypedQuery → TypedTerm
 typed_view query = record { term = placed query.term; type = type_tree query.ty }
@@ -173,6 +180,8 @@ ComesTo (written said) (gathered.Text text) = text ≡ said
 ComesTo (written said) (gathered.Plan asked) = ⊥
 ComesTo (shown showing texts) (gathered.Text text) = Shows showing text texts
 ComesTo (shown showing texts) (gathered.Plan asked) = ⊥
+ComesTo (keyed natural) (gathered.Text text) = ShowsNatural text natural
+ComesTo (keyed natural) (gathered.Plan asked) = ⊥
 ComesTo (linked foreign) (gathered.Text text) = Stitches foreign text
 ComesTo (linked foreign) (gathered.Plan asked) = ⊥
 ComesTo (planned plan question) (gathered.Text text) = ⊥

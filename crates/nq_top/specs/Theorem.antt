@@ -14,7 +14,8 @@ use Rattle.nq_execute.specs.Serving.{ServerState, RefusalServes}
 use Rattle.nq_execute.specs.declared.refusal.ServerRefusal.{ServerRefusal}
 use Rattle.nq_top.specs.Foreign.{Stitches}
 use Rattle.nq_top.specs.Gathering.{Judges, RefusalTells}
-use Rattle.nq_top.specs.Judging.{Judgement, Verdict, usage, missing, refused, written, shown, linked, planned, judgement, held_for}
+use Rattle.nq_top.specs.Judging.{Judgement, Verdict, usage, missing, refused, written, shown, keyed, linked, planned, judgement, held_for}
+use Rattle.nq_top.specs.Natural.{ShowsNatural}
 use Rattle.nq_top.specs.Plans.{Question}
 use Rattle.nq_top.specs.Reading.{Reading}
 use Rattle.nq_top.specs.Serving.{StaysHonest, LeavesServer, ServesQuestion, ServesSome}
@@ -62,13 +63,15 @@ AskedAt asks status = MatchBool ((status == 9) || (status == 11)) (asks ≡ true
 -- 3. what an answer says of the inputs, of the server and of the output
 
 -- the text that is written for a verdict: the inputs say it, or the server serves it for their
--- plan; SQL texts that are shown shred their query, and linked answers stitch to what is written
+-- plan; SQL texts that are shown shred their query, or stitch to it by keys, and linked answers
+-- stitch to what is written
 abbrev pub Gives : ServerSide → ServerSide → Verdict → List ℕ → Type 0
 Gives old new usage text = ⊥
 Gives old new (missing name) text = ⊥
 Gives old new (refused r) text = ⊥
 Gives old new (written said) text = text ≡ said
 Gives old new (shown showing texts) text = Shows showing text texts
+Gives old new (keyed natural) text = ShowsNatural text natural
 Gives old new (linked foreign) text = Stitches foreign text
 Gives old new (planned plan question) text = ServesQuestion plan question old new text
 
@@ -132,6 +135,7 @@ IsDue fair (missing name) = ⊥
 IsDue fair (refused r) = ⊥
 IsDue fair (written text) = ⊤
 IsDue fair (shown showing texts) = ⊤
+IsDue fair (keyed natural) = ⊤
 IsDue fair (linked foreign) = ⊤
 IsDue fair (planned plan question) = fair plan
 

@@ -9,6 +9,7 @@ ghost use Rattle.nq_top.specs.Reading.{Reading};
 ghost use Rattle.nq_top.specs.Steps.{InputCounts, GatherTells, CanServe, gathered_asks, IsQuery, typed_view};
 
 use crate::inputs::{read_query, read_schema, read_sql};
+use crate::natural::{natural_draft, natural_text};
 use crate::plans::{Draft, generated_plan, plan_of, query_draft, sql_draft};
 use crate::show::{normal_text, shown_text, type_line};
 use crate::stitch::gather_stitched;
@@ -85,6 +86,10 @@ fn gather_aim<I: Inputs>(
             let draft = query_draft(alloc, schema, query, Writing::Text)?;
             gather_draft(alloc, inputs, TableTexts::Csv, folder, schema, draft)
         }
+        Aim::RunNatural(folder) => {
+            let draft = natural_draft(alloc, schema, query)?;
+            gather_draft(alloc, inputs, TableTexts::Csv, folder, schema, draft)
+        }
         Aim::RunJson(folder) => {
             let draft = query_draft(alloc, schema, query, Writing::Json)?;
             gather_draft(alloc, inputs, TableTexts::Csv, folder, schema, draft)
@@ -103,6 +108,7 @@ fn gather_aim<I: Inputs>(
         Aim::ShowTypes => Ok(Gathered::Text(type_line(alloc, &query.ty)?)),
         Aim::ShowNormal => Ok(Gathered::Text(normal_text(alloc, schema, query)?)),
         Aim::ShowPaths => Ok(Gathered::Text(paths_text(alloc, &query.ty)?)),
+        Aim::ShowNatural => Ok(Gathered::Text(natural_text(alloc, schema, query)?)),
         Aim::ShowTexts(showing) => {
             Ok(Gathered::Text(shown_text(alloc, schema, query, showing)?))
         }
