@@ -1,5 +1,8 @@
 -- Runs of places that are put in order, one more at a time.
-use Rattle.std.proofs.Common.{◌≡◌, ℕ, ℤ, suc, ◌+◌, ◌-◌, ◌<◌, ◌≤◌, List, [], ◌∷◌, ◌++◌, refl, sym, ap, ap₂, ◌∙◌, subst, Bool, true, false, cond, map, filter, get_or, length, min, take, drop, slice_range, All, arith, append-nil, length-take, length-drop, IsPermutation}
+use Rattle.std.proofs.Common.{◌≡◌, ℕ, ℤ, suc, ◌+◌, ◌-◌, ◌<◌, ◌≤◌, List, [], ◌∷◌, ◌++◌, refl, sym}
+use Rattle.std.proofs.Common.{ap, ap₂, ◌∙◌, subst, Bool, true, false, cond, map, filter, get_or}
+use Rattle.std.proofs.Common.{length, min, take, drop, slice_range, All, arith, append-nil}
+use Rattle.std.proofs.Common.{length-take, length-drop, IsPermutation}
 use borrow.Rule.Slice.PartMut.{mid_of, put_mid}
 use Rattle.std.proofs.lemmas.List.{drop-drop, get_or-drop, length-map, take_all}
 use Rattle.std.proofs.lemmas.List.Sorted.{IsPermutation-put_mid, length_permutation}

@@ -1,6 +1,9 @@
 -- The words of a command as the program has them.
 use Rattle.std.specs.Prelude.{⊤}
-use Rattle.command_line.specs.Commands.{Showing, Aim, run, run_natural, run_json, run_json_tables, stitch, stitch_json, check, show_types, show_normal, show_paths, show_natural, show_texts, Command, help, version, of_query, answer, generated, show_load}
+use Rattle.command_line.specs.Commands.{Showing, Aim, run, run_natural, run_json, run_json_tables}
+use Rattle.command_line.specs.Commands.{stitch, stitch_json, check, show_types, show_normal}
+use Rattle.command_line.specs.Commands.{show_paths, show_natural, show_texts, Command, help}
+use Rattle.command_line.specs.Commands.{version, of_query, answer, generated, show_load}
 use Rattle.generated_inputs.specs.Sizes.{IsSize}
 use Rattle.command_line.specs.declared.words.Aim.{Aim as Aims}
 use Rattle.command_line.specs.declared.words.Aim.TheVariants as aim

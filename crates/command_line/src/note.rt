@@ -1,7 +1,10 @@
 // The note line of an answer, put in pieces, which takes no memory.
 ghost use Rattle.std.specs.Prelude.{◌++◌, decimal};
 ghost use Rattle.nq_edge.specs.Lines.{PutsLine};
-ghost use Rattle.command_line.specs.Refusals.{fault_note, no_key_note, schema_note, query_note, sql_note, rule_note, at_row, at_both, table_note, json_table_note, answer_note, link_note, refused_note, input_note, server_note, note_of};
+ghost use Rattle.command_line.specs.Refusals.{fault_note, no_key_note, schema_note, query_note};
+ghost use Rattle.command_line.specs.Refusals.{sql_note, rule_note, at_row, at_both, table_note};
+ghost use Rattle.command_line.specs.Refusals.{json_table_note, answer_note, link_note};
+ghost use Rattle.command_line.specs.Refusals.{refused_note, input_note, server_note, note_of};
 ghost use Rattle.command_line.specs.Noting.{Notes};
 
 use crate::refusal::{InputRefusal, Refusal, Refused};

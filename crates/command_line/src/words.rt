@@ -1,6 +1,8 @@
 // The words of the command line.
 ghost use Rattle.std.specs.Prelude.{◌≡◌, IfSome, map, option_map, string_bytes};
-ghost use Rattle.command_line.specs.Commands.{one_word, two_words, three_words, database_of, shown, of_show, four_words, as_json, as_natural, five_words, over_tables, as_script, six_words, command_of};
+ghost use Rattle.command_line.specs.Commands.{one_word, two_words, three_words, database_of, shown};
+ghost use Rattle.command_line.specs.Commands.{of_show, four_words, as_json, as_natural, five_words};
+ghost use Rattle.command_line.specs.Commands.{over_tables, as_script, six_words, command_of};
 ghost use Rattle.command_line.specs.Words.{HasSize, aim_view, command_view};
 
 use database_scripts::Database;
@@ -23,8 +25,8 @@ pub enum Showing<'a> {
 pub enum Aim<'a> {
     /// Its value is written, over the table texts of the folder of this name.
     Run(&'a str),
-    /// Its value is written, over the table texts of the folder of this name, by SQL texts that name
-    /// bags by keys.
+    /// Its value is written, over the table texts of the folder of this name, by SQL texts that
+    /// name bags by keys.
     RunNatural(&'a str),
     /// Its value is written as JSON, over the table texts of the folder of this name.
     RunJson(&'a str),

@@ -1,5 +1,5 @@
 // An excerpt: what is said of a place in a file, the line of the place, and a caret under it.
-ghost use Rattle.std.specs.Prelude.{◌≡◌, ◌++◌, replicate, length, IfOk, OnOk};
+ghost use Rattle.std.specs.Prelude.{◌≡◌, ◌++◌, replicate, IfOk, OnOk};
 ghost use Rattle.diagnostics.specs.Columns.{columns};
 ghost use Rattle.diagnostics.specs.Excerpts.{excerpt_text, head_text, left_out, numbered, pointed_text};
 

@@ -3,9 +3,13 @@ use Rattle.std.proofs.Common.{◌≡◌, ℕ, lit<, Bool, true, false, cond, cod
 use Rattle.std.specs.List.{Contains}
 use Rattle.nq_model.specs.Terms.{Emptiness, Count, Sum}
 use Rattle.nq_model.specs.QueryTokens as query
-use Rattle.nq_model.specs.QueryTokens.{Union, Of, Number, Literal, Token, Word, Value, Oper, Sign, End}
-use Rattle.nq_model.specs.QueryGrammar.{Edition, First, Second, Kind, IsFor, IsWhere, IsIf, IsThen, IsElse, IsFun, IsLet, IsTable, IsAggregate, IsTruth, IsBase, IsName, kind}
-use Rattle.nq_model.specs.declared.term.Binary.TheVariants.{Add, Sub, Mul, Eq, Ne, Lt, Le, Gt, Ge, And, Or}
+use Rattle.nq_model.specs.QueryTokens.{Union, Of, Number, Literal, Token, Word, Value, Oper, Sign}
+use Rattle.nq_model.specs.QueryTokens.{End}
+use Rattle.nq_model.specs.QueryGrammar.{Edition, First, Second, Kind, IsFor, IsWhere, IsIf, IsThen}
+use Rattle.nq_model.specs.QueryGrammar.{IsElse, IsFun, IsLet, IsTable, IsAggregate, IsTruth, IsBase}
+use Rattle.nq_model.specs.QueryGrammar.{IsName, kind}
+use Rattle.nq_model.specs.declared.term.Binary.TheVariants.{Add, Sub, Mul, Eq, Ne, Lt, Le, Gt, Ge}
+use Rattle.nq_model.specs.declared.term.Binary.TheVariants.{And, Or}
 use Rattle.nq_model.specs.declared.table.ColumnType.TheVariants as column
 use Rattle.nq_parser.specs.TokenKinds as parser
 use Rattle.nq_parser.specs.TokenKinds.{token_kind}

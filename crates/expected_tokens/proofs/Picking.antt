@@ -1,9 +1,12 @@
 -- The turns of the loop over the table, and what the picked kinds say of tokens.
-use Rattle.std.proofs.Common.{◌≡◌, ℕ, ◌+◌, ◌<◌, ◌≤◌, Bool, true, false, if◌then◌else◌, List, [], ◌∷◌, ◌++◌, length, take, map, sym, ◌∙◌, ap, subst, ◌⊎◌, inl, inr, Ok, arith}
+use Rattle.std.proofs.Common.{◌≡◌, ℕ, ◌+◌, ◌<◌, ◌≤◌, Bool, true, false, if◌then◌else◌, List, []}
+use Rattle.std.proofs.Common.{◌∷◌, ◌++◌, length, take, map, sym, ◌∙◌, ap, subst, ◌⊎◌, inl, inr, Ok}
+use Rattle.std.proofs.Common.{arith}
 use Rattle.std.specs.Prelude.{get_or}
 use Rattle.std.specs.List.{Contains}
 use Rattle.std.proofs.lemmas.List.{take_more, take_all, take-map}
-use Rattle.std.proofs.lemmas.List.Elements.{Contains-append_left, Contains-push, Contains-push_cases}
+use Rattle.std.proofs.lemmas.List.Elements.{Contains-append_left, Contains-push}
+use Rattle.std.proofs.lemmas.List.Elements.{Contains-push_cases}
 use Rattle.nq_model.specs.OpenLists.{Fault}
 use Rattle.nq_model.specs.QueryTokens.{Token}
 use Rattle.nq_model.specs.QueryGrammar.{Edition}

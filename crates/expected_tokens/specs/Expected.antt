@@ -1,5 +1,6 @@
 -- The kinds of tokens with which a program could have gone on.
-use Rattle.std.specs.Prelude.{◌≡◌, ℕ, ⊤, Bool, true, false, List, [], ◌∷◌, ◌++◌, Option, Some, None, Result, Ok, Err}
+use Rattle.std.specs.Prelude.{◌≡◌, ℕ, ⊤, Bool, true, false, List, [], ◌∷◌, ◌++◌, Option, Some, None}
+use Rattle.std.specs.Prelude.{Result, Ok, Err}
 use Rattle.std.specs.List.{Contains}
 use Rattle.nq_model.specs.declared.memory.Memory.{Memory}
 use Rattle.nq_model.specs.OpenLists.{Fault, IsOpen}

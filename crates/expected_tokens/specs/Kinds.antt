@@ -2,9 +2,12 @@
 use Rattle.std.specs.Prelude.{Bool, true, false, [], codes}
 use Rattle.nq_model.specs.Terms.{Emptiness, Count, Sum}
 use Rattle.nq_model.specs.QueryTokens as query
-use Rattle.nq_model.specs.QueryTokens.{Union, Of, Number, Literal, Token, Word, Value, Oper, Sign, End}
-use Rattle.nq_model.specs.QueryGrammar.{Edition, First, IsFor, IsWhere, IsIf, IsThen, IsElse, IsFun, IsLet, IsTable, IsAggregate, IsTruth, IsBase, IsName}
-use Rattle.nq_model.specs.declared.term.Binary.TheVariants.{Add, Sub, Mul, Eq, Ne, Lt, Le, Gt, Ge, And, Or}
+use Rattle.nq_model.specs.QueryTokens.{Union, Of, Number, Literal, Token, Word, Value, Oper, Sign}
+use Rattle.nq_model.specs.QueryTokens.{End}
+use Rattle.nq_model.specs.QueryGrammar.{Edition, First, IsFor, IsWhere, IsIf, IsThen, IsElse, IsFun}
+use Rattle.nq_model.specs.QueryGrammar.{IsLet, IsTable, IsAggregate, IsTruth, IsBase, IsName}
+use Rattle.nq_model.specs.declared.term.Binary.TheVariants.{Add, Sub, Mul, Eq, Ne, Lt, Le, Gt, Ge}
+use Rattle.nq_model.specs.declared.term.Binary.TheVariants.{And, Or}
 use Rattle.nq_model.specs.declared.table.ColumnType.TheVariants as column
 use Rattle.nq_parser.specs.TokenKinds as parser
 use Rattle.expected_tokens.specs.declared.kinds.TokenKind.{TokenKind}

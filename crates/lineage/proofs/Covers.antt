@@ -1,16 +1,20 @@
 -- A well-formed form covers itself: the bodies at a place have what each of them needs.
-use Rattle.std.proofs.Common.{◌≡◌, ◌≢◌, ℕ, ◌<◌, ◌≤◌, ◌^◌, List, [], ◌∷◌, ◌++◌, refl, sym, ◌∙◌, subst, Bool, true, false, cond, flat_map, length, arith, eqb, ◌||◌}
+use Rattle.std.proofs.Common.{◌≡◌, ◌≢◌, ℕ, ◌<◌, ◌≤◌, ◌^◌, List, [], ◌∷◌, ◌++◌, refl, sym, ◌∙◌}
+use Rattle.std.proofs.Common.{subst, Bool, true, false, cond, flat_map, length, arith, eqb, ◌||◌}
 use Rattle.std.specs.List.{list_any, IsDistinct}
 use Rattle.std.proofs.lemmas.Bool.Decides.{Decides-eqb}
 use Rattle.std.proofs.lemmas.Map.Steps.{length-le_from_distinct_below}
 use Rattle.nq_model.proofs.Numberings.{length_map}
 use Rattle.std.specs.List.{AllByRecursion as Each}
 use Rattle.std.specs.Str.{bytes_eq}
-use Rattle.nq_ir.proofs.Distinct.{Distinct, distinct, distinct_sub, sub_left, sub_right, each_left, each_right, each_join, among_left, among_right}
+use Rattle.nq_ir.proofs.Distinct.{Distinct, distinct, distinct_sub, sub_left, sub_right, each_left}
+use Rattle.nq_ir.proofs.Distinct.{each_right, each_join, among_left, among_right}
 use Rattle.nq_ir.proofs.Equal.{bytes_same, bytes_differ, not_below_self}
 use Rattle.nq_ir.specs.Among.{Among, first, later}
-use Rattle.nq_ir.specs.Trees.{BodyTree, plain_body, rec_body, bag_body, Bodies, no_body, with_body, Comps, no_comp, comp, FormTree}
-use Rattle.nq_ir.specs.WellFormed.{BodyHas, BodiesHave, CompsHave, IsNumber, IsWellFormed, numbers, conds_numbers, body_numbers, bodies_numbers, comps_numbers}
+use Rattle.nq_ir.specs.Trees.{BodyTree, plain_body, rec_body, bag_body, Bodies, no_body, with_body}
+use Rattle.nq_ir.specs.Trees.{Comps, no_comp, comp, FormTree}
+use Rattle.nq_ir.specs.WellFormed.{BodyHas, BodiesHave, CompsHave, IsNumber, IsWellFormed, numbers}
+use Rattle.nq_ir.specs.WellFormed.{conds_numbers, body_numbers, bodies_numbers, comps_numbers}
 use Rattle.nq_ir.specs.declared.base.Gen.{Gen}
 use Rattle.nq_model.specs.NamedRows.{Label}
 use Rattle.nq_model.specs.Orders.{label_cmp, AreRising}
@@ -18,7 +22,8 @@ use Rattle.nq_model.specs.Proper.{labels_of, IsOrdered, AreOrdered}
 use Rattle.nq_model.specs.Types.{TypeTree, int, bool, text, rec, bag, fun, FieldTypes, none, field}
 use Rattle.nq_model.specs.declared.table.TableShape.{TableShape}
 use Rattle.std.specs.declared.cmp.Ordering.TheVariants.{Less}
-use Rattle.lineage.specs.Places.{comps_in, own_tags, own_bodies, most_gens, tags_in, inside, width, field_body, body_under, under}
+use Rattle.lineage.specs.Places.{comps_in, own_tags, own_bodies, most_gens, tags_in, inside, width}
+use Rattle.lineage.specs.Places.{field_body, body_under, under}
 
 -- the bodies that stand at a body's place have its tags, as many generators, and its parts
 abbrev mutual
@@ -51,7 +56,8 @@ flat_among f [] k m = elim k [ ]
 flat_among f (x ∷ xs) first m = among_left (flat_map f xs) m
 flat_among f (z ∷ xs) (later k) m = among_right (f z) (flat_among f xs k m)
 
-width_most : (here : List BodyTree) {b : BodyTree} → Among b here → most_gens (comps_in b) ≤ width here
+width_most : (here : List BodyTree) {b : BodyTree} → Among b here
+    → most_gens (comps_in b) ≤ width here
 width_most [] m = elim m [ ]
 width_most (b ∷ here) first = omega arith
 width_most (c ∷ here) (later m) = omega (arith, width_most here m)
@@ -141,7 +147,8 @@ number_below : (xs : List ℕ) → Each IsNumber xs → (q : ℕ) → list_any (
 number_below [] h q e = absurd (cc)
 number_below (x ∷ xs) h q e = go (eqb q x) refl (number_below xs h.1 q) e
   where
-    go : (t : Bool) → eqb q x ≡ t → (list_any (eqb q) xs ≡ true → q < 2 ^ 63) → (t || list_any (eqb q) xs) ≡ true → q < 2 ^ 63
+    go : (t : Bool) → eqb q x ≡ t → (list_any (eqb q) xs ≡ true → q < 2 ^ 63)
+        → (t || list_any (eqb q) xs) ≡ true → q < 2 ^ 63
     go true k f l = subst (λ z. z < 2 ^ 63) (sym ((Decides-eqb q x).0 k)) h.0.1
     go false k f l = f l
 
@@ -182,7 +189,8 @@ mutual
       let us = conds_numbers conds in
       let vs = body_numbers b in
       let ws = comps_numbers cs in
-      let inner = distinct_sub (sub_right us (vs ++ ws)) (distinct_sub (sub_right own (us ++ (vs ++ ws))) d) in
+      let inner = distinct_sub (sub_right us (vs ++ ws))
+      (distinct_sub (sub_right own (us ++ (vs ++ ws))) d) in
       let fit = each_right IsNumber us (vs ++ ws) (each_right IsNumber own (us ++ (vs ++ ws)) h) in (
         gens_few gens (distinct_sub (sub_left own (us ++ (vs ++ ws))) d)
             (each_left IsNumber own (us ++ (vs ++ ws)) h),
@@ -190,8 +198,10 @@ mutual
         narrow_comps cs (distinct_sub (sub_right vs ws) inner) (each_right IsNumber vs ws fit),
       )
 
-pub form_narrow : (S : List TableShape) (form : FormTree) → IsWellFormed S form → NarrowComps form.comps
-form_narrow S form w = narrow_comps form.comps (distinct (comps_numbers form.comps) w.numbers_differ) w.numbers_fit
+pub form_narrow : (S : List TableShape) (form : FormTree) → IsWellFormed S form
+    → NarrowComps form.comps
+form_narrow S form w =
+    narrow_comps form.comps (distinct (comps_numbers form.comps) w.numbers_differ) w.numbers_fit
 
 -- and so at each place
 pub most_narrow : (cs : Comps) → NarrowComps cs → most_gens cs < 2 ^ 64
@@ -232,7 +242,8 @@ body_narrow l (plain_body b) h = tt
 body_narrow l (rec_body fs) h = field_narrow l fs h
 body_narrow l (bag_body e cs) h = tt
 
-pub under_narrow : (l : Label) (here : List BodyTree) → Each Narrow here → Each Narrow (under l here)
+pub under_narrow : (l : Label) (here : List BodyTree) → Each Narrow here
+    → Each Narrow (under l here)
 under_narrow l [] h = tt
 under_narrow l (b ∷ here) h =
     each_join Narrow (body_under l b) (under l here) (body_narrow l b h.0) (under_narrow l here h.1)

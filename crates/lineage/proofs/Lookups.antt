@@ -1,5 +1,6 @@
 -- The tables of each tag are found.
-use Rattle.std.proofs.Common.{◌≡◌, ◌≢◌, ℕ, pos, List, [], ◌∷◌, ◌++◌, map, refl, sym, ap, ap₂, ◌∙◌, subst, Bool, true, false, cond}
+use Rattle.std.proofs.Common.{◌≡◌, ◌≢◌, ℕ, pos, List, [], ◌∷◌, ◌++◌, map, refl, sym, ap, ap₂, ◌∙◌}
+use Rattle.std.proofs.Common.{subst, Bool, true, false, cond}
 use Rattle.std.proofs.lemmas.List.{map-append}
 use Rattle.std.proofs.lemmas.Bool.Decides.{Decides-int_eq}
 use Rattle.std.specs.List.{AllByRecursion as Each}
@@ -7,7 +8,8 @@ use Rattle.std.specs.Ordering.{int_eq}
 use Rattle.nq_ir.proofs.Distinct.{each_left, each_right}
 use Rattle.nq_ir.proofs.Equal.{nat_same, nat_differ}
 use Rattle.nq_ir.specs.Among.{Among, first, later}
-use Rattle.nq_ir.specs.Trees.{BodyTree, plain_body, rec_body, bag_body, Bodies, no_body, with_body, Comps, no_comp, comp}
+use Rattle.nq_ir.specs.Trees.{BodyTree, plain_body, rec_body, bag_body, Bodies, no_body, with_body}
+use Rattle.nq_ir.specs.Trees.{Comps, no_comp, comp}
 use Rattle.nq_ir.specs.WellFormed.{comps_tags, body_tags, bodies_tags}
 use Rattle.nq_model.specs.NamedRows.{Label}
 use Rattle.nq_model.specs.Orders.{AreDistinct}
@@ -35,7 +37,8 @@ mutual
   listed_tags : (cs : Comps) → map (λ (e : ℕ × List Label). e.0) (listed cs) ≡ comps_tags cs
   listed_tags no_comp = refl
   listed_tags (comp t gens conds b cs) =
-      ap (λ (l : List ℕ). t ∷ l) (map-append (λ (e : ℕ × List Label). e.0) (listed_body b) (listed cs)
+      ap (λ (l : List ℕ). t ∷ l)
+      (map-append (λ (e : ℕ × List Label). e.0) (listed_body b) (listed cs)
       ∙ ap₂ (λ (x y : List ℕ). x ++ y) (body_listed b) (listed_tags cs))
 
   body_listed : (b : BodyTree) → map (λ (e : ℕ × List Label). e.0) (listed_body b) ≡ body_tags b
@@ -85,7 +88,8 @@ mutual
   body_finds es (rec_body fs) h = fields_find es fs h
   body_finds es (bag_body e cs) h = comps_find es cs h
 
-  fields_find : (es : ByTag) (fs : Bodies) → Each (IsFound es) (listed_bodies fs) → FindsFields es fs
+  fields_find : (es : ByTag) (fs : Bodies) → Each (IsFound es) (listed_bodies fs)
+      → FindsFields es fs
   fields_find es no_body h = tt
   fields_find es (with_body l b fs) h = (
     body_finds es b (each_left (IsFound es) (listed_body b) (listed_bodies fs) h),
@@ -102,7 +106,8 @@ pub tables_found : (es : ByTag) (ts : List ℕ) (t : ℕ) → Among t ts
     → tables_at es ts (pos t) ≡ tables_of es t
 tables_found es [] t m = elim m [ ]
 tables_found es (u ∷ ts) t first =
-    ap (λ b. cond b (tables_of es t) (tables_at es ts (pos t))) ((Decides-int_eq (pos t) (pos t)).1 refl)
+    ap (λ b. cond b (tables_of es t) (tables_at es ts (pos t)))
+    ((Decides-int_eq (pos t) (pos t)).1 refl)
 tables_found es (u ∷ ts) t (later m) = go (int_eq (pos u) (pos t)) refl (tables_found es ts t m)
   where
     one : pos u ≡ pos t → u ≡ t

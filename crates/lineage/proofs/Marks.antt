@@ -1,5 +1,7 @@
 -- Fields in label order, and those of the elements of traced forms.
-use Rattle.std.proofs.Common.{◌≡◌, ◌≢◌, ℕ, suc, ◌+◌, ◌<◌, ◌≤◌, ◌^◌, List, [], ◌∷◌, ◌++◌, map, refl, sym, ap, ◌∙◌, subst, Bool, true, false, cond, flat_map, length, arith, drop, get_or, append-nil, ◌&&◌}
+use Rattle.std.proofs.Common.{◌≡◌, ◌≢◌, ℕ, suc, ◌+◌, ◌<◌, ◌≤◌, ◌^◌, List, [], ◌∷◌, ◌++◌, map, refl}
+use Rattle.std.proofs.Common.{sym, ap, ◌∙◌, subst, Bool, true, false, cond, flat_map, length, arith}
+use Rattle.std.proofs.Common.{drop, get_or, append-nil, ◌&&◌}
 use Rattle.std.proofs.lemmas.Fmt.{decimal_injective}
 use Rattle.std.proofs.lemmas.Slice.Eq.{bytes_eq-Decides}
 use Rattle.std.specs.List.{AllByRecursion as Each}
@@ -8,7 +10,8 @@ use Rattle.std.specs.Str.{bytes_eq}
 use Rattle.nq_ir.proofs.Equal.{bytes_same, bytes_differ, bytes_turned}
 use Rattle.nq_ir.specs.Meanings.{Tables, Env, body_meaning, bodies_meaning}
 use Rattle.nq_ir.specs.Trees.{BodyTree, bodies_of}
-use Rattle.nq_ir.specs.WellFormed.{BodyHas, BodiesHave, body_tags, bodies_tags, body_numbers, bodies_numbers}
+use Rattle.nq_ir.specs.WellFormed.{BodyHas, BodiesHave, body_tags, bodies_tags, body_numbers}
+use Rattle.nq_ir.specs.WellFormed.{bodies_numbers}
 use Rattle.nq_ir.specs.declared.base.Gen.{Gen}
 use Rattle.nq_model.proofs.FieldOrders.{rising_put}
 use Rattle.nq_model.proofs.Orders.{sorted_mapped}
@@ -63,7 +66,8 @@ found_put {A} l f (g ∷ fs) d = go (is_gt (label_cmp f.0 g.0)) (found_put l f f
     both : (s t : Bool) → bytes_eq l f.0 ≡ s → bytes_eq l g.0 ≡ t
         → cond t (g.1 ∷ []) (cond s (f.1 ∷ []) (found l fs))
         ≡ cond s (f.1 ∷ []) (cond t (g.1 ∷ []) (found l fs))
-    both true true e h = absurd (d.0 (sym ((bytes_eq-Decides l f.0).0 e) ∙ (bytes_eq-Decides l g.0).0 h))
+    both true true e h = absurd (d.0 (sym ((bytes_eq-Decides l f.0).0 e)
+        ∙ (bytes_eq-Decides l g.0).0 h))
     both true false e h = refl
     both false true e h = refl
     both false false e h = refl
@@ -83,7 +87,8 @@ found_ordered {A} l (f ∷ fs) d =
     ∙ ap (λ (x : List A). cond (bytes_eq l f.0) (f.1 ∷ []) x) (found_ordered l fs d.1)
 
 -- what is found in a body's fields, and in a value's
-pub body_found : (l : Label) (fs : List (Label × BodyTree)) → field_body l (bodies_of fs) ≡ found l fs
+pub body_found : (l : Label) (fs : List (Label × BodyTree)) → field_body l (bodies_of fs)
+    ≡ found l fs
 body_found l [] = refl
 body_found l (f ∷ fs) =
     ap (λ (x : List BodyTree). cond (bytes_eq l f.0) (f.1 ∷ []) x) (body_found l fs)
@@ -117,7 +122,8 @@ put_listed f (g ∷ fs) = go (is_gt (label_cmp f.0 g.0)) (put_listed f fs)
     go true e = ap (FieldTypes.field g.0 g.1) e
     go false e = refl
 
-labels_differ : (l : Label) (fs : List (Label × TypeTree)) → Each (λ (g : Label × TypeTree). l ≢ g.0) fs
+labels_differ : (l : Label) (fs : List (Label × TypeTree))
+    → Each (λ (g : Label × TypeTree). l ≢ g.0) fs
     → Each (λ m. l ≢ m) (labels_of (field_types_of fs))
 labels_differ l [] h = tt
 labels_differ l (f ∷ fs) h = (h.0, labels_differ l fs h.1)
@@ -130,13 +136,15 @@ labels_rise (f ∷ fs) d =
     (rising_put f.0 f.1 (field_types_of (by_label fs)) (labels_differ f.0 (by_label fs)
     (each_ordered (λ (g : Label × TypeTree). f.0 ≢ g.0) fs d.0)) (labels_rise fs d.1))
 
-pub types_plain : (fs : List (Label × TypeTree)) → Each (λ (f : Label × TypeTree). is_plain f.1 ≡ true) fs
+pub types_plain : (fs : List (Label × TypeTree))
+    → Each (λ (f : Label × TypeTree). is_plain f.1 ≡ true) fs
     → are_plain (field_types_of fs) ≡ true
 types_plain [] h = refl
 types_plain (f ∷ fs) h =
     ap (λ b. b && are_plain (field_types_of fs)) h.0 ∙ types_plain fs h.1
 
-pub types_ordered : (fs : List (Label × TypeTree)) → Each (λ (f : Label × TypeTree). IsOrdered f.1) fs
+pub types_ordered : (fs : List (Label × TypeTree))
+    → Each (λ (f : Label × TypeTree). IsOrdered f.1) fs
     → AreOrdered (field_types_of fs)
 types_ordered [] h = tt
 types_ordered (f ∷ fs) h = (h.0, types_ordered fs h.1)
@@ -262,7 +270,8 @@ rows_in_rows : {A : Type 0} (k : ℕ) (rs : List A) (v : A) → k + length rs �
 rows_in_rows k [] v b = tt
 rows_in_rows {A} k (r ∷ rs) v b =
     let rest : List (Label × A) = row_fields (suc k) rs ((whole_label, v) ∷ []) in (
-      ap (λ t. cond t (r ∷ []) (found (row_label k) rest)) (bytes_same (row_label k) (row_label k) refl),
+      ap (λ t. cond t (r ∷ []) (found (row_label k) rest))
+          (bytes_same (row_label k) (row_label k) refl),
       over rest (suc k) rs (omega arith) (omega arith) (rows_in_rows (suc k) rs v (omega arith)),
     )
   where

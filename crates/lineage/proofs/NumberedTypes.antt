@@ -1,12 +1,15 @@
 -- Base terms and generators over a schema with the column of numbers.
-use Rattle.std.proofs.Common.{◌≡◌, ◌≢◌, ℕ, List, [], ◌∷◌, ◌++◌, map, refl, sym, ap, ◌∙◌, subst, Bool, true, false, cond, nat_eq, Some, IsSome, All}
+use Rattle.std.proofs.Common.{◌≡◌, ◌≢◌, ℕ, List, [], ◌∷◌, ◌++◌, map, refl, sym, ap, ◌∙◌, subst}
+use Rattle.std.proofs.Common.{Bool, true, false, cond, nat_eq, Some, IsSome, All}
 use Rattle.std.proofs.lemmas.List.Elements.{recursion_from_All}
 use Rattle.nq_model.specs.declared.table.Schema.{Schema}
 use Rattle.std.specs.List.{AllByRecursion as Each}
 use Rattle.std.specs.Str.{bytes_eq}
 use Rattle.nq_ir.proofs.Equal.{bytes_differ, nat_same}
-use Rattle.nq_ir.specs.Trees.{BaseTree, literal, column, unary, binary, choose, empty, total, Conds, no_cond, and_cond, Tests, no_test, test}
-use Rattle.nq_ir.specs.WellFormed.{columns_or_none, table_columns, column_type_in, gen_columns, AreTables, BaseHas, CondsHave, TestsHave}
+use Rattle.nq_ir.specs.Trees.{BaseTree, literal, column, unary, binary, choose, empty, total, Conds}
+use Rattle.nq_ir.specs.Trees.{no_cond, and_cond, Tests, no_test, test}
+use Rattle.nq_ir.specs.WellFormed.{columns_or_none, table_columns, column_type_in, gen_columns}
+use Rattle.nq_ir.specs.WellFormed.{AreTables, BaseHas, CondsHave, TestsHave}
 use Rattle.nq_ir.specs.declared.base.Gen.{Gen}
 use Rattle.nq_model.specs.NamedRows.{Label}
 use Rattle.nq_model.specs.Tables.{Columns}
@@ -34,10 +37,12 @@ column_before l (x ∷ xs) ys T e = go (bytes_eq l x.0) (column_before l xs ys T
     go false f k = f k
 
 number_behind : (xs : Columns) → HaveNoNumber xs
-    → column_type_in number_column (xs ++ (number_column, column_type.Int) ∷ []) ≡ Some column_type.Int
+    → column_type_in number_column (xs ++ (number_column, column_type.Int) ∷ [])
+    ≡ Some column_type.Int
 number_behind [] h = refl
 number_behind (x ∷ xs) h =
-    ap (λ b. cond b (Some x.1) (column_type_in number_column (xs ++ (number_column, column_type.Int) ∷ [])))
+    ap (λ b. cond b (Some x.1) (column_type_in number_column (xs
+    ++ (number_column, column_type.Int) ∷ [])))
     (bytes_differ number_column x.0 (λ e. h.0 (sym e))) ∙ number_behind xs h.1
 
 abbrev pub numbered : List TableShape → List TableShape
@@ -54,7 +59,8 @@ known_more t (s ∷ S) h = go (bytes_eq t s.name) (known_more t S) h
     go true f k = refl
     go false f k = f k
 
-pub tables_more : (S : List TableShape) (gens : List Gen) → AreTables S gens → AreTables (numbered S) gens
+pub tables_more : (S : List TableShape) (gens : List Gen) → AreTables S gens
+    → AreTables (numbered S) gens
 tables_more S [] h = tt
 tables_more S (g ∷ gens) h = (known_more g.table S h.0, tables_more S gens h.1)
 
@@ -73,7 +79,8 @@ table_column_more l T t (s ∷ S) e = go (bytes_eq t s.name) (table_column_more 
     go true f k = column_before l s.columns ((number_column, column_type.Int) ∷ []) T k
     go false f k = f k
 
-table_number : (t : Label) (S : List TableShape) → Each (λ (s : TableShape). HaveNoNumber s.columns) S
+table_number : (t : Label) (S : List TableShape)
+    → Each (λ (s : TableShape). HaveNoNumber s.columns) S
     → IsSome (shape_named t S)
     → column_type_in number_column (table_columns (numbered S) t) ≡ Some column_type.Int
 table_number t [] n h = absurd (cc)
@@ -148,7 +155,8 @@ module _ (S : List TableShape) where
     base_more sc (literal c) T h = h
     base_more sc (column g l) T h = gen_column_more l T g S sc h
     base_more sc (unary op b) T h = (h.0, base_more sc b h.0 h.1, h.2)
-    base_more sc (binary op a b) T h = (h.0, h.1, base_more sc a h.0 h.2, base_more sc b h.1 h.3, h.4)
+    base_more sc (binary op a b) T h =
+        (h.0, h.1, base_more sc a h.0 h.2, base_more sc b h.1 h.3, h.4)
     base_more sc (choose x a b) T h =
         (base_more sc x column_type.Bool h.0, base_more sc a T h.1, base_more sc b T h.2)
     base_more sc (empty xs) T h = (h.0, tests_more sc xs h.1)

@@ -1,16 +1,21 @@
 -- Values that are the same are decoded to traced values that are.
-use Rattle.std.proofs.Common.{◌≡◌, ℕ, suc, List, [], ◌∷◌, map, refl, sym, ap, ap₂, ◌∙◌, subst, Bool, true, false, cond}
+use Rattle.std.proofs.Common.{◌≡◌, ℕ, suc, List, [], ◌∷◌, map, refl, sym, ap, ap₂, ◌∙◌, subst, Bool}
+use Rattle.std.proofs.Common.{true, false, cond}
 use Rattle.std.specs.Str.{bytes_eq}
 use Rattle.nq_ir.specs.Trees.{BodyTree, FormTree}
-use Rattle.nq_model.proofs.Sameness.{same_refl, elements_back, elements_of_back, matched_same, same_matched}
+use Rattle.nq_model.proofs.Sameness.{same_refl, elements_back, elements_of_back, matched_same}
+use Rattle.nq_model.proofs.Sameness.{same_matched}
 use Rattle.nq_model.specs.Bags.{Pick, here, there, Matched}
 use Rattle.nq_model.specs.Meaning.{cell_of, elements_in, value_under}
 use Rattle.nq_model.specs.NamedRows.{Label}
 use Rattle.nq_model.specs.Operators.{int_of}
-use Rattle.nq_model.specs.Values.{Nested, base, rec, bag, Fields, none, field, Elements, end, more, elements, elements_of, Same, SameFields, SameElements}
+use Rattle.nq_model.specs.Values.{Nested, base, rec, bag, Fields, none, field, Elements, end, more}
+use Rattle.nq_model.specs.Values.{elements, elements_of, Same, SameFields, SameElements}
 use Rattle.nq_model.specs.declared.table.Cell.TheVariants as cell
 use Rattle.traced_meaning.specs.TracedValues.{RowName, element_of, rows_value}
-use Rattle.lineage.specs.Decoding.{number_under, rows_under, tables_at, element_rows, decoded, decoded_fields, decoded_elements, decoded_element, decoded_whole, form_decoded}
+use Rattle.lineage.specs.Decoding.{number_under, rows_under, tables_at, element_rows, decoded}
+use Rattle.lineage.specs.Decoding.{decoded_fields, decoded_elements, decoded_element, decoded_whole}
+use Rattle.lineage.specs.Decoding.{form_decoded}
 use Rattle.lineage.specs.ListedTables.{ByTag}
 use Rattle.lineage.specs.Places.{inside, under, tags_in, own_tags, own_bodies}
 use Rattle.lineage.specs.TraceForms.{tag_label, row_label, whole_label}
@@ -22,7 +27,8 @@ cells_same (rec fs) (rec gs) s = refl
 cells_same (bag vs) (bag ws) s = refl
 cells_same v w s = absurd s
 
-fields_under : (l : Label) (fs gs : Fields) → SameFields fs gs → Same (value_under l fs) (value_under l gs)
+fields_under : (l : Label) (fs gs : Fields) → SameFields fs gs
+    → Same (value_under l fs) (value_under l gs)
 fields_under l none none s = refl
 fields_under l (field k v fs) (field m w gs) s =
     subst (λ (x : Label). Same (cond (bytes_eq k l) v (value_under l fs))
@@ -58,7 +64,8 @@ names_same es ts v w s =
 element_same : (v w : Nested) (ns ms : List RowName) → Same v w → ns ≡ ms
     → Same (element_of v (rows_value ns)) (element_of w (rows_value ms))
 element_same v w ns ms s e =
-    subst (λ (l : List RowName). Same (element_of v (rows_value ns)) (element_of w (rows_value l))) e
+    subst (λ (l : List RowName). Same (element_of v (rows_value ns)) (element_of w (rows_value l)))
+    e
     (refl, s, (refl, same_refl (rows_value ns), tt))
 
 pick_mapped : {A B : Type 0} (f : A → B) {y : A} {ys rest : List A} → Pick y ys rest
@@ -125,7 +132,8 @@ module _ (es : ByTag) where
         → Same (decoded_whole es hs fs) (decoded_whole es hs gs)
     whole_same hs none none s = refl
     whole_same hs (field l v fs) (field m w gs) s =
-        subst (λ (x : Label). Same (cond (bytes_eq l whole_label) (decoded es hs v) (decoded_whole es hs fs))
+        subst (λ (x : Label). Same
+        (cond (bytes_eq l whole_label) (decoded es hs v) (decoded_whole es hs fs))
         (cond (bytes_eq x whole_label) (decoded es hs w) (decoded_whole es hs gs))) s.0
         (go (bytes_eq l whole_label) (decoded_same hs v w s.1) (whole_same hs fs gs s.2))
       where
@@ -154,9 +162,11 @@ pub form_same : (es : ByTag) (form : FormTree) (v : Nested) (ws : List Nested)
 form_same es form v ws s =
     let ts = own_tags form.comps in
     let hs = under whole_label (own_bodies form.comps) in
-    subst (λ (l : List Nested). SameElements (decoded_elements es ts hs (elements_of (elements_in v))) l)
+    subst (λ (l : List Nested). SameElements
+    (decoded_elements es ts hs (elements_of (elements_in v))) l)
     (sym (elements_decoded es ts hs (elements_of (elements (elements_of ws)))
-    ∙ ap (map (decoded_element es ts hs)) (elements_back (elements (elements_of ws)) ∙ elements_back ws)))
+    ∙ ap (map (decoded_element es ts hs)) (elements_back (elements (elements_of ws))
+    ∙ elements_back ws)))
     (elements_same es ts hs (elements_of (elements_in v)) ws (elements_in_same v ws s))
 
 -- of any two values

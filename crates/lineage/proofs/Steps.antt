@@ -1,5 +1,8 @@
 -- The fields of an element, put one after another.
-use Rattle.std.proofs.Common.{◌≡◌, ℕ, zero, suc, ◌+◌, ◌-◌, ◌<◌, List, [], ◌∷◌, ◌++◌, map, refl, sym, ap, ap₂, ◌∙◌, drop, arith, append_assoc, ◌≤◌, length, true≢false, Bool, true, false, IsTrue, ◌↔◌, Bor, Option, Some, None, MatchOption, slice_get, option_copied}
+use Rattle.std.proofs.Common.{◌≡◌, ℕ, zero, suc, ◌+◌, ◌-◌, ◌<◌, List, [], ◌∷◌, ◌++◌, map, refl, sym}
+use Rattle.std.proofs.Common.{ap, ap₂, ◌∙◌, drop, arith, append_assoc, ◌≤◌, length, true≢false}
+use Rattle.std.proofs.Common.{Bool, true, false, IsTrue, ◌↔◌, Bor, Option, Some, None, MatchOption}
+use Rattle.std.proofs.Common.{slice_get, option_copied}
 use Rattle.std.proofs.lemmas.Option.{slice_get_past, slice_get-get_or}
 use Rattle.std.specs.List.{HoldsAt}
 use Rattle.std.proofs.lemmas.List.{map-append}
@@ -9,7 +12,8 @@ use Rattle.nq_model.specs.NamedRows.{Label}
 use Rattle.nq_model.specs.Orders.{label_cmp, by_label}
 use Rattle.nq_model.specs.Types.{int}
 use Rattle.lineage.proofs.Views.{rows_then}
-use Rattle.lineage.specs.TraceForms.{tag_label, row_label, whole_label, row_fields, element_fields, ints, number_body, number_bodies}
+use Rattle.lineage.specs.TraceForms.{tag_label, row_label, whole_label, row_fields, element_fields}
+use Rattle.lineage.specs.TraceForms.{ints, number_body, number_bodies}
 
 pub ints_step : (n k : ℕ) → k < n → ints (n - k) ≡ int ∷ ints (n - (k + 1))
 ints_step n k l = let e : n - k ≡ suc (n - (k + 1)) = omega arith in ap ints e

@@ -1,5 +1,7 @@
 -- What the traced form means is decoded to the form's traced meaning.
-use Rattle.std.proofs.Common.{◌≡◌, ℕ, zero, suc, pos, ◌<◌, ◌≤◌, ◌^◌, List, [], ◌∷◌, ◌++◌, map, refl, sym, ap, ap₂, ◌∙◌, subst, Bool, true, false, cond, flat_map, length, arith, append_assoc}
+use Rattle.std.proofs.Common.{◌≡◌, ℕ, zero, suc, pos, ◌<◌, ◌≤◌, ◌^◌, List, [], ◌∷◌, ◌++◌, map, refl}
+use Rattle.std.proofs.Common.{sym, ap, ap₂, ◌∙◌, subst, Bool, true, false, cond, flat_map, length}
+use Rattle.std.proofs.Common.{arith, append_assoc}
 use Rattle.std.proofs.lemmas.List.{map-append}
 use Rattle.std.proofs.lemmas.Slice.Eq.{bytes_eq-Decides}
 use Rattle.std.specs.List.{AllByRecursion as Each}
@@ -7,8 +9,10 @@ use Rattle.std.specs.Str.{bytes_eq}
 use Rattle.nq_ir.proofs.Equal.{bytes_turned}
 use Rattle.nq_ir.proofs.Nested.{map_of_map, map_same}
 use Rattle.nq_ir.specs.Among.{Among}
-use Rattle.nq_ir.specs.Meanings.{Tables, Env, kept, body_meaning, bodies_meaning, comps_meaning, form_meaning}
-use Rattle.nq_ir.specs.Trees.{BodyTree, plain_body, rec_body, bag_body, Bodies, no_body, with_body, Comps, no_comp, comp, FormTree}
+use Rattle.nq_ir.specs.Meanings.{Tables, Env, kept, body_meaning, bodies_meaning, comps_meaning}
+use Rattle.nq_ir.specs.Meanings.{form_meaning}
+use Rattle.nq_ir.specs.Trees.{BodyTree, plain_body, rec_body, bag_body, Bodies, no_body, with_body}
+use Rattle.nq_ir.specs.Trees.{Comps, no_comp, comp, FormTree}
 use Rattle.nq_ir.specs.WellFormed.{IsWellFormed}
 use Rattle.nq_ir.specs.declared.base.Gen.{Gen}
 use Rattle.nq_model.proofs.Numberings.{length_map}
@@ -16,19 +20,29 @@ use Rattle.nq_model.proofs.Sameness.{elements_back, elements_of_back}
 use Rattle.nq_model.specs.Meaning.{cell_of}
 use Rattle.nq_model.specs.NamedRows.{Label}
 use Rattle.nq_model.specs.Operators.{int_of}
-use Rattle.nq_model.specs.Values.{Nested, base, rec, bag, field, fields_of, elements, elements_of, bag_of}
+use Rattle.nq_model.specs.Values.{Nested, base, rec, bag, field, fields_of, elements, elements_of}
+use Rattle.nq_model.specs.Values.{bag_of}
 use Rattle.nq_model.specs.declared.table.Cell.TheVariants as cell
 use Rattle.nq_model.specs.declared.table.TableShape.{TableShape}
-use Rattle.traced_meaning.specs.TracedForms.{names, traced_body, traced_bodies, traced_comps, traced_meaning}
+use Rattle.traced_meaning.specs.TracedForms.{names, traced_body, traced_bodies, traced_comps}
+use Rattle.traced_meaning.specs.TracedForms.{traced_meaning}
 use Rattle.traced_meaning.specs.TracedValues.{RowName, element_of, rows_value}
-use Rattle.lineage.proofs.Covers.{Covers, CoversFields, CoversComps, covers_comps, Narrow, form_narrow, most_narrow, bodies_narrow, width_narrow, inside_narrow, under_narrow}
+use Rattle.lineage.proofs.Covers.{Covers, CoversFields, CoversComps, covers_comps, Narrow}
+use Rattle.lineage.proofs.Covers.{form_narrow, most_narrow, bodies_narrow, width_narrow}
+use Rattle.lineage.proofs.Covers.{inside_narrow, under_narrow}
 use Rattle.lineage.proofs.Lookups.{Finds, FindsFields, FindsComps, finds_own, tables_found}
-use Rattle.lineage.proofs.Marks.{found, or_false, value_found, body_found, whole_found, tag_found, RowsFound, rows_found, element_mapped, bodies_mean}
+use Rattle.lineage.proofs.Marks.{found, or_false, value_found, body_found, whole_found, tag_found}
+use Rattle.lineage.proofs.Marks.{RowsFound, rows_found, element_mapped, bodies_mean}
 use Rattle.lineage.proofs.Sameness.{elements_decoded}
-use Rattle.lineage.specs.Decoding.{number_under, rows_under, tables_at, tables_of, element_rows, decoded, decoded_fields, decoded_elements, decoded_element, decoded_whole, form_decoded}
+use Rattle.lineage.specs.Decoding.{number_under, rows_under, tables_at, tables_of, element_rows}
+use Rattle.lineage.specs.Decoding.{decoded, decoded_fields, decoded_elements, decoded_element}
+use Rattle.lineage.specs.Decoding.{decoded_whole, form_decoded}
 use Rattle.lineage.specs.ListedTables.{ByTag, gen_tables, listed}
-use Rattle.lineage.specs.Places.{comps_in, own_tags, own_bodies, most_gens, tags_in, inside, width, field_body, body_under, under}
-use Rattle.lineage.specs.TraceForms.{tag_label, row_label, whole_label, element_fields, int_body, number_bodies, whole_body, body_traced, bodies_traced, comps_traced, form_traced}
+use Rattle.lineage.specs.Places.{comps_in, own_tags, own_bodies, most_gens, tags_in, inside, width}
+use Rattle.lineage.specs.Places.{field_body, body_under, under}
+use Rattle.lineage.specs.TraceForms.{tag_label, row_label, whole_label, element_fields, int_body}
+use Rattle.lineage.specs.TraceForms.{number_bodies, whole_body, body_traced, bodies_traced}
+use Rattle.lineage.specs.TraceForms.{comps_traced, form_traced}
 
 numbers_length : (n : ℕ) (gens : List Gen) → length (number_bodies n gens) ≡ n
 numbers_length zero gens = refl
@@ -58,7 +72,8 @@ field_traced l all (with_body k b fs) = go (bytes_eq l k) refl (field_traced l a
         → field_body l (bodies_traced all fs) ≡ map (body_traced (under l all)) (field_body l fs)
         → cond t (body_traced (under k all) b ∷ []) (field_body l (bodies_traced all fs))
         ≡ map (body_traced (under l all)) (cond t (b ∷ []) (field_body l fs))
-    go true e h = ap (λ (x : Label). body_traced (under x all) b ∷ []) (sym ((bytes_eq-Decides l k).0 e))
+    go true e h = ap (λ (x : Label). body_traced (under x all) b ∷ [])
+        (sym ((bytes_eq-Decides l k).0 e))
     go false e h = h
 
 body_under_traced : (l : Label) (all : List BodyTree) (b : BodyTree)
@@ -93,7 +108,8 @@ tags_traced all (b ∷ bs) =
 
 -- the bodies in the elements of the traced form
 comps_inside : (n : ℕ) → n < 2 ^ 64 → (here : List BodyTree) (cs : Comps)
-    → under whole_label (own_bodies (comps_traced n here cs)) ≡ map (body_traced here) (own_bodies cs)
+    → under whole_label (own_bodies (comps_traced n here cs))
+    ≡ map (body_traced here) (own_bodies cs)
 comps_inside n b here no_comp = refl
 comps_inside n b here (comp t gens conds c cs) =
     ap₂ (λ (x y : List BodyTree). x ++ y) (body_found whole_label
@@ -109,7 +125,8 @@ body_inside all n (rec_body fs) = refl
 body_inside all n (bag_body e cs) = comps_inside (width all) n (inside all) cs
 
 inside_traced : (all : List BodyTree) → width all < 2 ^ 64 → (bs : List BodyTree)
-    → under whole_label (inside (map (body_traced all) bs)) ≡ map (body_traced (inside all)) (inside bs)
+    → under whole_label (inside (map (body_traced all) bs))
+    ≡ map (body_traced (inside all)) (inside bs)
 inside_traced all n [] = refl
 inside_traced all n (b ∷ bs) =
     flat_joined (body_under whole_label) (own_bodies (comps_in (body_traced all b)))
@@ -121,7 +138,8 @@ whole_decoded : (es : ByTag) (hs : List BodyTree) (fs : List (Label × Nested))
     → decoded_whole es hs (fields_of fs) ≡ decoded es hs (or_false (found whole_label fs))
 whole_decoded es hs [] = refl
 whole_decoded es hs (f ∷ fs) =
-    ap (λ b. cond b (decoded es hs f.1) (decoded_whole es hs (fields_of fs))) (bytes_turned f.0 whole_label)
+    ap (λ b. cond b (decoded es hs f.1) (decoded_whole es hs (fields_of fs)))
+    (bytes_turned f.0 whole_label)
     ∙ ap (λ v. cond (bytes_eq whole_label f.0) (decoded es hs f.1) v) (whole_decoded es hs fs)
     ∙ go (bytes_eq whole_label f.0)
   where
@@ -141,7 +159,8 @@ module _ (ts : Tables) (es : ByTag) where
       (value_found (row_label k) fs ∙ ap or_false h.0))
       (rows_told (suc k) n gens e fs (omega arith) h.1)
 
-  element_told : (tags : List ℕ) (hs : List BodyTree) (n t : ℕ) (gens : List Gen) (b : BodyTree) (e : Env)
+  element_told : (tags : List ℕ) (hs : List BodyTree) (n t : ℕ) (gens : List Gen) (b : BodyTree)
+      (e : Env)
       → Among t tags → tables_of es t ≡ gen_tables gens → length gens ≤ n → n < 2 ^ 64
       → decoded_element es tags hs (body_meaning ts (whole_body n t gens b) e)
       ≡ element_of (decoded es hs (body_meaning ts b e)) (rows_value (names gens e))
@@ -176,7 +195,8 @@ module _ (ts : Tables) (es : ByTag) where
       ∙ ap (map (decoded_element es tags hs)) (elements_back vs) ∙ e))
 
   mutual
-    body_told : (here : List BodyTree) → Each Narrow here → (b : BodyTree) (env : Env) → Covers here b
+    body_told : (here : List BodyTree) → Each Narrow here → (b : BodyTree) (env : Env)
+        → Covers here b
         → Finds es b → decoded es (all_traced here) (body_meaning ts (body_traced here b) env)
         ≡ traced_body ts b env
     body_told here n (plain_body b) env c f = refl
@@ -195,22 +215,26 @@ module _ (ts : Tables) (es : ByTag) where
         ≡ traced_bodies ts fs env
     fields_told here n no_body env c f = refl
     fields_told here n (with_body l b fs) env c f =
-        ap₂ (field l) (ap (λ (x : List BodyTree). decoded es x (body_meaning ts (body_traced (under l here) b) env))
+        ap₂ (field l) (ap (λ (x : List BodyTree). decoded es x
+        (body_meaning ts (body_traced (under l here) b) env))
         (under_traced l here here) ∙ body_told (under l here) (under_narrow l here n) b env c.0 f.0)
         (fields_told here n fs env c.1 f.1)
 
     pub comps_told : (tags : List ℕ) (n : ℕ) (here : List BodyTree) → n < 2 ^ 64 → Each Narrow here
         → (cs : Comps) (env : Env) → CoversComps tags n here cs → FindsComps es cs
-        → map (decoded_element es tags (all_traced here)) (comps_meaning ts (comps_traced n here cs) env)
+        → map (decoded_element es tags (all_traced here))
+        (comps_meaning ts (comps_traced n here cs) env)
         ≡ traced_comps ts cs env
     comps_told tags n here few narrow no_comp env c f = refl
     comps_told tags n here few narrow (comp t gens conds b cs) env c f =
         let hs = all_traced here in
-        map-append (decoded_element es tags hs) (map (λ e. body_meaning ts (whole_body n t gens (body_traced here b)) e)
+        map-append (decoded_element es tags hs)
+        (map (λ e. body_meaning ts (whole_body n t gens (body_traced here b)) e)
         (kept ts gens conds env)) (comps_meaning ts (comps_traced n here cs) env)
         ∙ ap₂ (λ (x y : List Nested). x ++ y) (map_of_map (decoded_element es tags hs)
         (λ e. body_meaning ts (whole_body n t gens (body_traced here b)) e) (kept ts gens conds env)
-        ∙ map_same (λ e. decoded_element es tags hs (body_meaning ts (whole_body n t gens (body_traced here b)) e))
+        ∙ map_same (λ e. decoded_element es tags hs
+        (body_meaning ts (whole_body n t gens (body_traced here b)) e))
         (λ e. element_of (traced_body ts b e) (rows_value (names gens e)))
         (λ e. element_told tags hs n t gens (body_traced here b) e c.0 f.0 c.1 few
         ∙ ap (λ v. element_of v (rows_value (names gens e))) (body_told here narrow b e c.2 f.1))
@@ -226,11 +250,14 @@ form_told S form w ts =
     let few = most_narrow form.comps narrow in
     let es = listed form.comps in
     let all : List Nested = comps_meaning ts (comps_traced n here form.comps) [] in
-    ap₂ (λ (x : List ℕ) (y : List BodyTree). bag (decoded_elements es x y (elements_of (elements (elements_of all)))))
+    ap₂ (λ (x : List ℕ) (y : List BodyTree). bag
+    (decoded_elements es x y (elements_of (elements (elements_of all)))))
     (comp_tags_traced n here form.comps) (comps_inside n few here form.comps)
-    ∙ ap (λ (x : List Nested). bag (decoded_elements es (own_tags form.comps) (all_traced here) (elements_of x)))
+    ∙ ap (λ (x : List Nested). bag
+    (decoded_elements es (own_tags form.comps) (all_traced here) (elements_of x)))
     (elements_back all)
     ∙ bag_told ts es (own_tags form.comps) (all_traced here) all (traced_comps ts form.comps [])
-    (comps_told ts es (own_tags form.comps) n here few (bodies_narrow form.comps narrow) form.comps []
+    (comps_told ts es (own_tags form.comps) n here few (bodies_narrow form.comps narrow) form.comps
+    []
     (covers_comps S [] (own_tags form.comps) n here form.comps form.element w.typed w.labels_rise
     (λ t m. m) (omega arith) (λ b m. m)) (finds_own form.comps w.tags_differ))

@@ -1,5 +1,6 @@
 -- The text of an element: that of its value, and those of its rows.
-use Rattle.std.proofs.Common.{◌≡◌, ℕ, ◌-◌, ◌<◌, List, [], ◌∷◌, ◌++◌, ap, ◌∙◌, length, take, drop, get_or, append_assoc, arith}
+use Rattle.std.proofs.Common.{◌≡◌, ℕ, ◌-◌, ◌<◌, List, [], ◌∷◌, ◌++◌, ap, ◌∙◌, length, take, drop}
+use Rattle.std.proofs.Common.{get_or, append_assoc, arith}
 use Rattle.std.proofs.lemmas.List.{take_all}
 use Rattle.nq_model.specs.NamedRows.{Label}
 use Rattle.nq_model.specs.Values.{nested, rec_of, fields_of, fields_view}

@@ -6,7 +6,7 @@ use Rattle.nq_model.proofs.Canonical.{canonical_same}
 use Rattle.nq_model.proofs.Sameness.{same_trans, same_sym}
 use Rattle.nq_model.specs.Databases.{database}
 use Rattle.nq_model.specs.Values.{Nested, Same}
-use Rattle.traced_meaning.specs.Laws.{FormsTellTraces, rows_with_numbers}
+use Rattle.traced_meaning.specs.Laws.{FormsHaveTraces, rows_with_numbers}
 use Rattle.traced_meaning.specs.TracedForms.{traced_meaning}
 use Rattle.traced_meaning.specs.Traces.{trace}
 use Rattle.lineage.proofs.Sameness.{form_same}
@@ -25,13 +25,14 @@ forms_tell schema form w ts v s =
     (form_same (listed form.comps) (form_traced form) v
     (comps_meaning ts (form_traced form).comps []) s)
 
-pub traces_told : FormsTellTraces → TracesAreTold
+pub traces_told : FormsHaveTraces → TracesAreTold
 traces_told tell schema element term proper free plain good closed typed w tables held v s =
     let form = normal_form schema.tables element term in
     let ts = rows_with_numbers schema tables in
     let means : Same (told form v) (traced_meaning ts form) = forms_tell schema form w ts v s in
     let traced = trace (database schema.tables tables) [] term in
-    let same : Same (told form v) traced = same_trans (told form v) (traced_meaning ts form) traced means
+    let same : Same (told form v) traced =
+    same_trans (told form v) (traced_meaning ts form) traced means
     (same_sym traced (traced_meaning ts form)
     (tell schema element term proper free plain good closed typed tables held)) in
     (same, text_same (told form v) traced same)

@@ -9,7 +9,8 @@ use Rattle.std.specs.Str.{bytes_eq}
 use Rattle.nq_model.specs.Meaning.{cell_of, elements_in, field_in}
 use Rattle.nq_model.specs.NamedRows.{Label}
 use Rattle.nq_model.specs.Operators.{int_of}
-use Rattle.nq_model.specs.Values.{Nested, base, rec, bag, Fields, none, field, Elements, end, more, elements_of}
+use Rattle.nq_model.specs.Values.{Nested, base, rec, bag, Fields, none, field, Elements, end, more}
+use Rattle.nq_model.specs.Values.{elements_of}
 use Rattle.nq_model.specs.declared.table.Cell.TheVariants as cell
 use Rattle.nq_ir.specs.Trees.{BodyTree, FormTree}
 use Rattle.traced_meaning.specs.TracedValues.{RowName, element_of, rows_value}

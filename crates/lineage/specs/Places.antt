@@ -4,7 +4,8 @@ use Rattle.std.specs.Borrow.{Bor}
 use Rattle.std.specs.List.{flat_map}
 use Rattle.std.specs.Str.{bytes_eq}
 use Rattle.nq_model.specs.NamedRows.{Label}
-use Rattle.nq_ir.specs.Trees.{BodyTree, plain_body, rec_body, bag_body, Bodies, no_body, with_body, Comps, no_comp, comp, body_tree}
+use Rattle.nq_ir.specs.Trees.{BodyTree, plain_body, rec_body, bag_body, Bodies, no_body, with_body}
+use Rattle.nq_ir.specs.Trees.{Comps, no_comp, comp, body_tree}
 use Rattle.nq_ir.specs.declared.normal.Body.{Body}
 
 -- the comprehensions of a bag; what is no bag has none

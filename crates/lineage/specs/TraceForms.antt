@@ -4,13 +4,17 @@
 -- the comprehension's own generators stand, in order, and the element. At one path all elements
 -- have as many numbers as a comprehension there has generators at the most, filled up with 0.
 -- Labels stand in byte order, `r10` before `r2`.
-use Rattle.std.specs.Prelude.{ℕ, suc, zero, pos, List, [], ◌∷◌, codes, decimal, ◌++◌, Option, Some, None}
+use Rattle.std.specs.Prelude.{ℕ, suc, zero, pos, List, [], ◌∷◌, codes, decimal, ◌++◌, Option, Some}
+use Rattle.std.specs.Prelude.{None}
 use Rattle.nq_model.specs.NamedRows.{Label}
 use Rattle.nq_model.specs.Orders.{by_label}
-use Rattle.nq_model.specs.Types.{TypeTree, int, bool, text, rec, bag, fun, FieldTypes, none, field, field_types_of}
+use Rattle.nq_model.specs.Types.{TypeTree, int, bool, text, rec, bag, fun, FieldTypes, none, field}
+use Rattle.nq_model.specs.Types.{field_types_of}
 use Rattle.nq_model.specs.declared.table.Cell.TheVariants as cell
 use Rattle.nq_ir.specs.declared.base.Gen.{Gen}
-use Rattle.nq_ir.specs.Trees.{literal, column, BodyTree, plain_body, rec_body, bag_body, Bodies, no_body, with_body, bodies_of, Comps, no_comp, comp, CompPart, FormTree}
+use Rattle.nq_ir.specs.Trees.{literal, column, BodyTree, plain_body, rec_body, bag_body, Bodies}
+use Rattle.nq_ir.specs.Trees.{no_body, with_body, bodies_of, Comps, no_comp, comp, CompPart}
+use Rattle.nq_ir.specs.Trees.{FormTree}
 use Rattle.traced_meaning.specs.NumberedTables.{number_column}
 use Rattle.lineage.specs.Places.{inside, under, width, own_bodies, most_gens}
 

@@ -85,7 +85,7 @@ fn whole_body(
 
 // The traced body, where these bodies stand at its place.
 #[cycle(bodies)]
-#[tactic(auto, using(nq_ir::proofs::Forms::body_plain, nq_ir::proofs::Forms::body_rec, nq_ir::proofs::Forms::body_bag, nq_ir::proofs::Forms::form_is, crate::proofs::Views::bodies_listed, crate::proofs::Views::comps_listed))]
+#[tactic(auto, using(crate::proofs::Views::listed_forms))]
 fn body_traced(alloc: Global, body: &Body, here: &[&Body]) -> Result<Body, Memory>
     ensures { IfOk result
         (λ made. body_tree made ≡ body_traced (lent here.now) (body_tree body.now)) }

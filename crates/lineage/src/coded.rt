@@ -23,7 +23,7 @@ pub(crate) const NUMBER: &str = "c";
 
 /// The value that stands for a traced value, whose parts are moved and not copied.
 #[cycle(code)]
-#[tactic(auto, using(nq_model::proofs::Trees::nested_record, nq_model::proofs::Trees::nested_bag, crate::proofs::Views::traced_record, crate::proofs::Views::traced_bag, crate::proofs::Views::traced_int, crate::proofs::Views::traced_bool, crate::proofs::Views::traced_text))]
+#[tactic(auto, using(crate::proofs::Views::traced_forms))]
 pub(crate) fn coded(alloc: Global, of: Traced) -> Result<Value, Memory>
     ensures { IfOk result (λ value. nested value ≡ traced of) }
 {

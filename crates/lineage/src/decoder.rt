@@ -57,7 +57,7 @@ pub fn decode(alloc: Global, form: &TraceForm, value: &Value) -> Result<Traced, 
 
 // The traced value of a value, where these bodies of the traced form stand at its place.
 #[cycle(decode)]
-#[tactic(auto, using(nq_model::proofs::Trees::nested_record, nq_model::proofs::Trees::nested_bag, crate::proofs::Views::traced_record, crate::proofs::Views::traced_bag, crate::proofs::Views::traced_int, crate::proofs::Views::traced_bool, crate::proofs::Views::traced_text, crate::proofs::Views::decoded_record, crate::proofs::Views::decoded_bag))]
+#[tactic(auto, using(crate::proofs::Views::traced_forms, crate::proofs::Views::decoded_forms))]
 fn decoded(
     alloc: Global,
     value: &Value,
@@ -130,7 +130,7 @@ fn elements_decoded(
 }
 
 #[cycle(decode)]
-#[tactic(auto, using(nq_model::proofs::Trees::nested_record, nq_model::proofs::Trees::nested_bag, crate::proofs::Views::traced_bool, crate::proofs::Views::element_is))]
+#[tactic(auto, using(crate::proofs::Views::element_forms))]
 fn element_decoded(
     alloc: Global,
     element: &Value,

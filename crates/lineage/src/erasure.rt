@@ -10,7 +10,7 @@ use std::alloc::Global;
 
 /// The value without the names of rows. Fails only if memory runs out.
 #[cycle(erase)]
-#[tactic(auto, using(nq_model::proofs::Trees::nested_record, nq_model::proofs::Trees::nested_bag, crate::proofs::Views::traced_record, crate::proofs::Views::traced_bag, crate::proofs::Views::traced_int, crate::proofs::Views::traced_bool, crate::proofs::Views::traced_text, crate::proofs::Views::erased_record, crate::proofs::Views::erased_bag))]
+#[tactic(auto, using(crate::proofs::Views::traced_forms, crate::proofs::Views::erased_forms))]
 pub fn erase(alloc: Global, of: &Traced) -> Result<Value, Memory>
     ensures { IfOk result (λ value. nested value ≡ erased (traced of.now)) }
 {

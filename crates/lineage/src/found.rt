@@ -35,7 +35,7 @@ fn field_among<'a>(label: &str, fields: &'a [(Label, Value)]) -> Option<&'a Valu
 }
 
 /// The elements of a bag; what is no bag has none.
-#[tactic(auto, using(nq_model::proofs::Trees::nested_record, nq_model::proofs::Trees::nested_bag, nq_model::proofs::Sameness::elements_back))]
+#[tactic(auto, using(crate::proofs::Views::read_forms))]
 pub(crate) fn elements_in(value: &Value) -> &[Value]
     ensures { map nested result.now ≡ elements_in (nested value.now) }
 {

@@ -1,6 +1,5 @@
 // Bodies that stand at one place of a form.
 ghost use Rattle.std.specs.Prelude.{◌≡◌, ◌++◌, IfOk, OnOk, max, map};
-ghost use Rattle.std.specs.List.{flat_map};
 ghost use Rattle.nq_ir.specs.Trees.{comps_of, comp_part, body_tree, bodies_of};
 ghost use Rattle.lineage.specs.Places.{
   lent,
@@ -32,7 +31,7 @@ pub(crate) fn inside<'a>(alloc: Global, bodies: &[&'a Body]) -> Result<Vec<&'a B
     Ok(inner)
 }
 
-#[tactic(auto, using(nq_ir::proofs::Forms::body_plain, nq_ir::proofs::Forms::body_rec, nq_ir::proofs::Forms::body_bag, nq_ir::proofs::Forms::form_is))]
+#[tactic(auto, using(crate::proofs::Views::body_forms))]
 fn push_own<'a>(body: &'a Body, inner: &mut Vec<&'a Body>) -> Result<(), Memory>
     ensures { OnOk result (lent inner.new.items
         ≡ lent inner.old.items ++ own_bodies (comps_in (body_tree body.now))) }
@@ -70,7 +69,7 @@ pub(crate) fn under<'a>(
     Ok(found)
 }
 
-#[tactic(auto, using(nq_ir::proofs::Forms::body_plain, nq_ir::proofs::Forms::body_rec, nq_ir::proofs::Forms::body_bag, nq_ir::proofs::Forms::form_is))]
+#[tactic(auto, using(crate::proofs::Views::body_forms))]
 fn push_under<'a>(label: &str, body: &'a Body, found: &mut Vec<&'a Body>) -> Result<(), Memory>
     ensures { OnOk result (lent found.new.items
         ≡ lent found.old.items ++ body_under label.now (body_tree body.now)) }
@@ -110,7 +109,7 @@ pub(crate) fn width(bodies: &[&Body]) -> usize
     most
 }
 
-#[tactic(auto, using(nq_ir::proofs::Forms::body_plain, nq_ir::proofs::Forms::body_rec, nq_ir::proofs::Forms::body_bag, nq_ir::proofs::Forms::form_is))]
+#[tactic(auto, using(crate::proofs::Views::body_forms))]
 fn gens_in(body: &Body) -> usize
     ensures { result ≡ most_gens (comps_in (body_tree body.now)) }
 {
@@ -143,7 +142,7 @@ pub(crate) fn tags_in(alloc: Global, bodies: &[&Body]) -> Result<Vec<u64>, Memor
     Ok(tags)
 }
 
-#[tactic(auto, using(nq_ir::proofs::Forms::body_plain, nq_ir::proofs::Forms::body_rec, nq_ir::proofs::Forms::body_bag, nq_ir::proofs::Forms::form_is))]
+#[tactic(auto, using(crate::proofs::Views::body_forms))]
 fn push_tags_in(body: &Body, tags: &mut Vec<u64>) -> Result<(), Memory>
     ensures { OnOk result (tags.new.items
         ≡ tags.old.items ++ own_tags (comps_in (body_tree body.now))) }

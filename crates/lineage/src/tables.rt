@@ -86,7 +86,7 @@ pub(crate) fn push_listed(
 }
 
 #[cycle(listed)]
-#[tactic(auto, using(nq_ir::proofs::Forms::body_plain, nq_ir::proofs::Forms::body_rec, nq_ir::proofs::Forms::body_bag, nq_ir::proofs::Forms::form_is))]
+#[tactic(auto, using(crate::proofs::Views::body_forms))]
 fn push_body(
     alloc: Global,
     body: &Body,

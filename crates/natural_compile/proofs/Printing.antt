@@ -1,5 +1,6 @@
 -- Printed trees: SQL allows to them what it allows to the trees, and they are scoped as those are.
-use Rattle.std.proofs.Common.{◌≡◌, ◌<◌, ◌+◌, ◌++◌, ℕ, zero, suc, List, [], ◌∷◌, length, map, take, get_or, All, refl, sym, ap, ap₂, ◌∙◌, subst, arith}
+use Rattle.std.proofs.Common.{◌≡◌, ◌<◌, ◌+◌, ◌++◌, ℕ, zero, suc, List, [], ◌∷◌, length, map, take}
+use Rattle.std.proofs.Common.{get_or, All, sym, ap, ap₂, ◌∙◌, subst, arith}
 use Rattle.std.specs.List.{AllByRecursion as Each}
 use Rattle.std.proofs.lemmas.List.{take_more, take_all, map-append}
 use Rattle.std.proofs.lemmas.List.Elements.{All-push, recursion_from_All}
@@ -23,7 +24,7 @@ use Rattle.sql_profile.specs.declared.server.Loaded.{Loaded}
 use Rattle.sql_profile.specs.declared.tree.SqlText.{SqlText}
 use Rattle.sql_profile.proofs.TextLaws.{at_most_one_tree}
 use Rattle.natural_keys.specs.NaturalKeys.{natural_keys}
-use Rattle.natural_index.specs.Reading.{AreScopedTrees, IsScopedTree, KeysRead}
+use Rattle.natural_index.specs.Reading.{IsScopedTree, KeysRead}
 use Rattle.natural_compile.specs.Texts.{SpellsTree}
 
 -- SQL allows to a printed tree what it allows to the tree

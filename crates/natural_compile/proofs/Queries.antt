@@ -4,22 +4,17 @@ use Rattle.std.proofs.lemmas.Result.{IfOk-weaker}
 use Rattle.nq_model.specs.Databases.{FilledTable, database}
 use Rattle.nq_model.specs.Meaning.{meaning}
 use Rattle.nq_model.specs.QueryMeaning.{Means}
-use Rattle.nq_model.specs.SchemaTables.{AreTablesOf}
 use Rattle.nq_model.specs.Terms.{PlacedTerm, bare}
 use Rattle.nq_model.specs.Types.{TypeTree, bag}
 use Rattle.nq_model.specs.Typing.{HasType, IsAccepted}
 use Rattle.nq_model.specs.Values.{Nested, Same}
-use Rattle.nq_model.specs.declared.table.Cell.{Cell}
 use Rattle.nq_model.specs.declared.table.Schema.{Schema}
 use Rattle.nq_model.proofs.Sameness.{same_sym, same_trans}
 use Rattle.nq_model.proofs.ValueTypes.{one_meaning}
-use Rattle.nq_ir.specs.Meanings.{EachBoth, form_meaning, rows_in}
+use Rattle.nq_ir.specs.Meanings.{form_meaning, rows_in}
 use Rattle.nq_ir.specs.NormalForms.{normal_form}
 use Rattle.nq_ir.specs.Trees.{FormTree}
 use Rattle.nq_ir.specs.WellFormed.{IsWellFormed}
-use Rattle.sql_profile.specs.Servers.{held_of}
-use Rattle.sql_profile.specs.Texts.{TextAllows}
-use Rattle.sql_profile.specs.Tokens.{First}
 use Rattle.stitcher.specs.Schemes.{Scheme, stitched}
 use Rattle.stitcher.proofs.Stitched.{read_is_mean}
 use Rattle.unfold.specs.Unfolded.{IsUnfolding}
@@ -33,7 +28,8 @@ use Rattle.nq_compile.proofs.Queries.{IsFormOf, query_form, same_type}
 module _ {I : Type 0} (S : Scheme I) (schema : Schema) (query plain : PlacedTerm) (form : FormTree)
     (texts : List (List ℕ)) (reached : IsUnfolding schema query plain)
     (typed : HasType schema [] (bare plain) (bag form.element))
-    (well : IsWellFormed schema.tables form) (means : IsFormOf schema plain form) (reads : SchemeReads S schema form texts) where
+    (well : IsWellFormed schema.tables form) (means : IsFormOf schema plain form)
+    (reads : SchemeReads S schema form texts) where
   -- whatever SQL allows to the texts stitches to what the query means, as the form's own bag
   form_stitches : StitchTo S schema form.element texts (λ tables v. Means tables query v)
   form_stitches tables stored answers allows v m =

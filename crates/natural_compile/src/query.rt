@@ -2,17 +2,15 @@
 ghost use Rattle.std.specs.Prelude.{◌≡◌, IfErr, IfOk, None, map};
 ghost use Rattle.nq_compile.specs.Shreds.{IsScopedText, StitchTo};
 ghost use Rattle.nq_ir.specs.Meanings.{EachBoth};
-ghost use Rattle.nq_ir.specs.NormalForms.{normal_form};
 ghost use Rattle.nq_ir.specs.Parts.{bags, element_types};
 ghost use Rattle.nq_ir.specs.Paths.{paths};
 ghost use Rattle.nq_model.specs.Numberings.{count_from};
 ghost use Rattle.nq_model.specs.Proper.{IsProperTerm};
 ghost use Rattle.nq_model.specs.QueryMeaning.{Means};
 ghost use Rattle.nq_model.specs.Tables.{IsProperSchema};
-ghost use Rattle.nq_model.specs.Terms.{PlacedTerm, placed, term_tree};
+ghost use Rattle.nq_model.specs.Terms.{placed, term_tree};
 ghost use Rattle.nq_model.specs.Types.{TypeTree, bag, type_tree};
 ghost use Rattle.nq_model.specs.Typing.{IsAccepted};
-ghost use Rattle.nq_model.specs.Unfolding.{Unfolds};
 ghost use Rattle.shred_types.specs.Under.{steps_of};
 ghost use Rattle.natural_keys.specs.NaturalKeys.{natural_keys};
 ghost use Rattle.natural_index.specs.Naming.{NoKeySays, no_key};

@@ -2,7 +2,7 @@
 use Rattle.std.proofs.Common.{◌≡◌, List, [], ◌∷◌, ◌++◌, map, refl, ap, ap₂, ◌∙◌}
 use Rattle.nq_ir.specs.declared.base.Base.{Base}
 use Rattle.nq_ir.specs.Spots.{both}
-use Rattle.nq_ir.specs.Trees.{BaseTree, Conds, and_cond, base_tree, conds_of, conds_tree}
+use Rattle.nq_ir.specs.Trees.{BaseTree, and_cond, base_tree, conds_of, conds_tree}
 
 both_listed : (xs ys : List BaseTree) → conds_of (xs ++ ys) ≡ both (conds_of xs) (conds_of ys)
 both_listed [] ys = refl

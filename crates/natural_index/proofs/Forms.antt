@@ -1,5 +1,6 @@
 -- What shredded forms, their layouts and the texts come to for a whole form.
-use Rattle.std.proofs.Common.{◌≡◌, ℕ, zero, suc, ◌<◌, List, [], ◌∷◌, ◌++◌, map, flat_map, zip, refl, sym, ap, ap₂, ◌∙◌, subst, length, Option, None, Some, arith}
+use Rattle.std.proofs.Common.{◌≡◌, suc, List, [], ◌∷◌, ◌++◌, map, flat_map, zip, refl, sym, ap, ap₂}
+use Rattle.std.proofs.Common.{◌∙◌, length, Option, None, Some}
 use Rattle.std.specs.Option.{option_map}
 use Rattle.nq_model.specs.NamedRows.{Label}
 use Rattle.nq_model.specs.Numberings.{count_from}
@@ -16,10 +17,8 @@ use Rattle.nq_ir.specs.declared.base.Gen.{Gen}
 use Rattle.nq_ir.specs.declared.path.Step.{Step}
 use Rattle.nq_ir.proofs.Paths.{proper, elements_are, paths_count}
 use Rattle.stitcher.specs.Linked.{Home, homes}
-use Rattle.stitcher.specs.Schemes.{Scheme}
 use Rattle.stitcher.proofs.Homes.{homes_long}
 use Rattle.stitcher.proofs.Laid.{types_length}
-use Rattle.natural_keys.specs.declared.index.KeyIndex.{KeyIndex}
 use Rattle.natural_keys.specs.declared.layout.Layout.{Layout}
 use Rattle.natural_keys.specs.Layouts.{layout_at, layout_of, outer_by, strands_by_path, inner_layouts, outer_layouts}
 use Rattle.natural_keys.specs.NaturalKeys.{natural_scheme, natural_keys}

@@ -25,23 +25,7 @@ use Rattle.natural_keys.specs.declared.layout.Layout.{Layout}
 use Rattle.natural_keys.specs.Layouts.{table_key, key_columns, scope_key, no_layout, layout_at}
 use Rattle.natural_index.proofs.KeyPlaces.{Fits}
 use Rattle.natural_index.proofs.KeyedSpots.{AreKeyed}
-
-mutual
-  levels_long : (a : TypeTree) (s : ℕ) (here : List PlacedComp) → length (levels_in a s here)
-      ≡ bags a
-  levels_long int s here = refl
-  levels_long bool s here = refl
-  levels_long text s here = refl
-  levels_long (rec fs) s here = levels_long_fields fs s here
-  levels_long (bag a) s here = ap suc (levels_long a 0 (flat_map (under s) here))
-  levels_long (fun a b) s here = refl
-
-  levels_long_fields : (fs : FieldTypes) (s : ℕ) (here : List PlacedComp)
-      → length (levels_fields fs s here) ≡ bags_in fs
-  levels_long_fields none s here = refl
-  levels_long_fields (field l a fs) s here =
-      length-append (levels_in a s here) (levels_fields fs (s + slots a) here)
-      ∙ ap₂ (λ x y. x + y) (levels_long a s here) (levels_long_fields fs (s + slots a) here)
+use Rattle.natural_index.proofs.Rooms.{levels_long}
 
 -- around the comprehensions of an inner bag stand the generators in scope where the bag stands
 placed_around : (P : List Gen → Type 0) (t : ℕ) (og : List Gen) (oc : Conds) (cs : Comps) → P og

@@ -1,8 +1,8 @@
 -- What is known of the comprehensions of a well-formed form at a path, before they become SELECTs.
-use Rattle.std.proofs.Common.{◌≡◌, ℕ, zero, suc, ◌+◌, ◌<◌, ◌≤◌, List, [], ◌∷◌, ◌++◌, map, refl, sym, ap, ◌∙◌, subst, arith, get_or, length}
+use Rattle.std.proofs.Common.{◌≡◌, ℕ, zero, suc, ◌+◌, ◌<◌, List, [], ◌∷◌, map, refl, sym, ap, ◌∙◌}
+use Rattle.std.proofs.Common.{subst, arith, get_or, length}
 use Rattle.std.specs.List.{AllByRecursion as Each}
 use Rattle.nq_model.specs.Types.{TypeTree, bag}
-use Rattle.nq_model.specs.declared.table.ColumnType.{ColumnType}
 use Rattle.nq_model.specs.declared.table.ColumnType.TheVariants.{Int, Bool as Truth, Text}
 use Rattle.nq_model.specs.declared.table.Schema.{Schema}
 use Rattle.nq_model.specs.declared.table.TableShape.{TableShape}
@@ -24,11 +24,11 @@ use Rattle.stitcher.specs.Linked.{Home, homes_in}
 use Rattle.stitcher.specs.Schemes.{element_of}
 use Rattle.stitcher.proofs.Homes.{homes_long, homes_before}
 use Rattle.flatten.proofs.LetForms.{FineStrand, fine_here, at_levels}
-use Rattle.natural_keys.specs.declared.layout.KeyColumn.{KeyColumn}
 use Rattle.natural_keys.specs.declared.layout.Layout.{Layout}
-use Rattle.natural_keys.specs.Layouts.{key_columns, scope_key, of_type, most, layout_of, layout_at, no_layout, strands_by_path, inner_layouts, outer_layouts}
+use Rattle.natural_keys.specs.Layouts.{key_columns, scope_key, layout_of, layout_at, no_layout}
+use Rattle.natural_keys.specs.Layouts.{strands_by_path, inner_layouts, outer_layouts}
 use Rattle.natural_keys.proofs.LayoutFacts.{most_fits}
-use Rattle.natural_index.proofs.Rooms.{Around, Housed, StandFrom, housed, levels_long}
+use Rattle.natural_index.proofs.Rooms.{Around, Housed, StandFrom, housed}
 use Rattle.natural_index.proofs.Typed.{FitsIn}
 
 pub get_mapped : {A B : Type 0} (f : A → B) (xs : List A) (q : ℕ) (d : A) (e : B) → q < length xs

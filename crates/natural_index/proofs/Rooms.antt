@@ -1,6 +1,7 @@
 -- The key columns in scope of comprehensions, and of those around, find room in the layouts of
 -- their paths.
-use Rattle.std.proofs.Common.{◌≡◌, ℕ, zero, suc, ◌+◌, ◌-◌, ◌<◌, List, [], ◌∷◌, ◌++◌, flat_map, refl, sym, ap, ◌∙◌, subst, arith, get_or, length, length-append}
+use Rattle.std.proofs.Common.{◌≡◌, ℕ, suc, ◌+◌, ◌-◌, ◌<◌, List, [], ◌∷◌, ◌++◌, flat_map, refl, sym}
+use Rattle.std.proofs.Common.{ap, ◌∙◌, subst, arith, get_or, length, length-append}
 use Rattle.std.specs.List.{AllByRecursion as Each}
 use Rattle.std.proofs.Math.Seq.{get_or-append_right}
 use Rattle.std.proofs.Math.ListN.{get_or-append}
@@ -10,7 +11,6 @@ use Rattle.nq_ir.specs.Meanings.{EachBoth}
 use Rattle.nq_ir.specs.Parts.{bags, bags_in, slots}
 use Rattle.nq_ir.specs.Spots.{PlacedComp, placed, under, levels_in, levels_fields}
 use Rattle.nq_ir.specs.Trees.{Comps, no_comp, comp, Conds}
-use Rattle.nq_ir.specs.declared.base.Gen.{Gen}
 use Rattle.nq_ir.proofs.LevelTypes.{both_append}
 use Rattle.nq_ir.proofs.Distinct.{each_join}
 use Rattle.stitcher.specs.Linked.{Home, homes_in, homes_fields}

@@ -1,5 +1,6 @@
 -- Natural trees keep the scope rules, with the columns of the scheme.
-use Rattle.std.proofs.Common.{◌≡◌, ℕ, suc, List, [], ◌∷◌, ◌++◌, map, refl, sym, ap, ◌∙◌, subst, length, replicate, append_assoc, pos, false, arith}
+use Rattle.std.proofs.Common.{◌≡◌, ℕ, suc, List, [], ◌∷◌, ◌++◌, map, refl, sym, ap, ◌∙◌, subst}
+use Rattle.std.proofs.Common.{replicate, append_assoc, pos, false, arith}
 use Rattle.std.specs.List.{AllByRecursion as Each}
 use Rattle.std.proofs.lemmas.List.Elements.{recursion_from_All}
 use Rattle.nq_model.specs.NamedRows.{Label}
@@ -28,7 +29,10 @@ use Rattle.natural_keys.specs.Layouts.{key_columns, scope_key, group}
 use Rattle.natural_keys.specs.NaturalKeys.{answer_columns, element_columns, index_columns}
 use Rattle.natural_keys.proofs.KeyColumns.{scope_made}
 use Rattle.natural_index.specs.Reading.{IsScopedTree}
-use Rattle.natural_index.specs.Trees.{int_word, bool_word, text_word, part_word, numbered, in_columns, as_items, natural_columns, natural_select, empty_select, natural_selects, union_tree, key_expr, zero_expr, index_exprs, shape_exprs}
+use Rattle.natural_index.specs.Trees.{int_word, bool_word, text_word, part_word, numbered}
+use Rattle.natural_index.specs.Trees.{in_columns, as_items, natural_columns, natural_select}
+use Rattle.natural_index.specs.Trees.{natural_selects, union_tree, key_expr, zero_expr, index_exprs}
+use Rattle.natural_index.specs.Trees.{shape_exprs}
 use Rattle.natural_index.proofs.Names.{Apart, all_apart, names_of}
 use Rattle.natural_index.proofs.Typed.{FitsIn, KeyTyped, keys_shown, ints_both, bools_both, texts_both, index_both, zeros_both, zero_typed, key_typed, shape_typed}
 use Rattle.natural_index.proofs.Ready.{Ready}

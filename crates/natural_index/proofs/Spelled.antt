@@ -1,5 +1,6 @@
 -- A text can spell a natural tree.
-use Rattle.std.proofs.Common.{◌≡◌, ◌≢◌, ℕ, zero, suc, ◌+◌, ◌≤◌, ◌<◌, ◌^◌, List, [], ◌∷◌, ◌++◌, map, refl, sym, ap, ◌∙◌, subst, length, replicate, arith, length-append, pos, Some}
+use Rattle.std.proofs.Common.{◌≡◌, ◌≢◌, ℕ, suc, ◌+◌, ◌≤◌, ◌<◌, ◌^◌, List, [], ◌∷◌, ◌++◌, map, refl}
+use Rattle.std.proofs.Common.{sym, ap, subst, length, replicate, arith, pos}
 use Rattle.std.specs.List.{AllByRecursion as Each}
 use Rattle.std.proofs.lemmas.List.{length-replicate}
 use Rattle.std.proofs.lemmas.List.Elements.{recursion_from_All}
@@ -15,10 +16,12 @@ use Rattle.nq_ir.specs.declared.base.Gen.{Gen}
 use Rattle.nq_ir.specs.Meanings.{EachBoth}
 use Rattle.nq_ir.specs.Spots.{StrandTree, both, shape_leaves, shape_leaves_in}
 use Rattle.nq_ir.specs.Trees.{BaseTree, ShapeTree, plain_shape, rec_shape, index_shape, Shapes, no_shape, with_shape}
-use Rattle.nq_ir.specs.WellFormed.{IsNumber, base_numbers, column_type_in, gen_columns}
+use Rattle.nq_ir.specs.WellFormed.{IsNumber, base_numbers}
 use Rattle.nq_ir.proofs.Distinct.{each_join, each_left, each_right}
 use Rattle.nq_ir.proofs.LevelTypes.{both_append}
-use Rattle.sql_profile.specs.Spellable.{HasWritableNames, IsSpellableExpr, IsSpellableQuery, AreSpellableSelects, IsSpellableSelect, HasSpellableItems, AreSpellableItems, IsSpellable}
+use Rattle.sql_profile.specs.Spellable.{IsSpellableExpr, IsSpellableQuery, AreSpellableSelects}
+use Rattle.sql_profile.specs.Spellable.{IsSpellableSelect, HasSpellableItems, AreSpellableItems}
+use Rattle.sql_profile.specs.Spellable.{IsSpellable}
 use Rattle.sql_profile.specs.Trees.{ExprTree}
 use Rattle.sql_profile.specs.WritableNames.{IsWritableName}
 use Rattle.flatten.specs.Emitted.{none_outer}
@@ -26,13 +29,16 @@ use Rattle.flatten.specs.Names.{number_text}
 use Rattle.flatten.specs.Views.{items_from, query_from}
 use Rattle.flatten.proofs.Facts.{ShapeHas, ShapesHave}
 use Rattle.flatten.proofs.Spellable.{ScopeFits, fits_all, sources_spelled, base_spelled, keep_spelled, column_spelled}
-use Rattle.flatten.proofs.WrittenNames.{number_short, number_plain, plain_cons, answer_writable}
+use Rattle.flatten.proofs.WrittenNames.{number_short, number_plain, plain_cons}
 use Rattle.natural_keys.specs.declared.layout.KeyColumn.{KeyColumn}
 use Rattle.natural_keys.specs.declared.layout.Layout.{Layout}
-use Rattle.natural_keys.specs.Layouts.{key_columns, scope_key, group}
-use Rattle.natural_keys.specs.NaturalKeys.{answer_columns, element_columns, fields_columns, index_columns}
+use Rattle.natural_keys.specs.Layouts.{key_columns, scope_key}
+use Rattle.natural_keys.specs.NaturalKeys.{element_columns, fields_columns, index_columns}
 use Rattle.natural_keys.proofs.KeyColumns.{scope_made}
-use Rattle.natural_index.specs.Trees.{HasNumbers, numbered, in_columns, as_items, natural_columns, natural_select, empty_select, natural_selects, union_tree, key_expr, zero_expr, index_exprs, shape_exprs, shapes_exprs, tag_name, int_word, bool_word, text_word, part_word}
+use Rattle.natural_index.specs.Trees.{HasNumbers, numbered, in_columns, as_items, natural_select}
+use Rattle.natural_index.specs.Trees.{natural_selects, union_tree, key_expr, zero_expr, index_exprs}
+use Rattle.natural_index.specs.Trees.{shape_exprs, shapes_exprs, tag_name, int_word, bool_word}
+use Rattle.natural_index.specs.Trees.{text_word, part_word}
 use Rattle.natural_index.proofs.Ready.{Ready}
 use Rattle.natural_index.proofs.Scoped.{columns_both}
 use Rattle.natural_index.proofs.Typed.{FitsIn, KeyTyped, keys_shown, ints_both, bools_both, texts_both, index_both, zeros_both}

@@ -3,11 +3,11 @@ use Rattle.std.proofs.Common.{◌≡◌, ℕ, zero, suc, ◌+◌, ◌≤◌, ◌
 use Rattle.std.proofs.lemmas.Bool.{leb-true, leb-false}
 use Rattle.std.proofs.lemmas.List.{map-append}
 use Rattle.nq_model.specs.Numberings.{count_from}
-use Rattle.nq_model.specs.Types.{TypeTree, int, type_tree}
+use Rattle.nq_model.specs.Types.{int, type_tree}
 use Rattle.nq_model.specs.declared.table.ColumnType.{ColumnType}
 use Rattle.nq_model.specs.declared.table.TableShape.{TableShape}
 use Rattle.nq_ir.specs.Shredded.{ShreddedTree, shredded_tree}
-use Rattle.nq_ir.specs.Spots.{StrandTree, strand_tree}
+use Rattle.nq_ir.specs.Spots.{strand_tree}
 use Rattle.nq_ir.specs.declared.shredded.Shredded.{Shredded}
 use Rattle.sql_profile.specs.Trees.{SqlTree, sql_tree}
 use Rattle.sql_profile.specs.declared.tree.SqlText.{SqlText}

@@ -1,5 +1,7 @@
 -- The expressions of natural SELECTs have the types of their columns.
-use Rattle.std.proofs.Common.{◌≡◌, ℕ, zero, suc, ◌-◌, ◌<◌, ◌≤◌, List, [], ◌∷◌, ◌++◌, map, filter, refl, sym, ap, ◌∙◌, subst, Bool, true, false, cond, nat_eq, arith, length, replicate, Some, append_assoc, Contains, pos}
+use Rattle.std.proofs.Common.{◌≡◌, ℕ, zero, suc, ◌-◌, ◌≤◌, List, [], ◌∷◌, ◌++◌, map, refl, sym, ap}
+use Rattle.std.proofs.Common.{◌∙◌, subst, Bool, true, false, cond, nat_eq, arith, length, replicate}
+use Rattle.std.proofs.Common.{Some, Contains, pos}
 use Rattle.std.specs.List.{AllByRecursion as Each}
 use Rattle.std.specs.Option.{unwrap_or}
 use Rattle.std.specs.Str.{bytes_eq}
@@ -29,7 +31,8 @@ use Rattle.flatten.proofs.ScopeExprs.{Extends, ShowsTypes, base_typed}
 use Rattle.flatten.proofs.Withs.{inner_all}
 use Rattle.natural_keys.specs.declared.layout.KeyColumn.{KeyColumn}
 use Rattle.natural_keys.specs.declared.layout.Layout.{Layout}
-use Rattle.natural_keys.specs.Layouts.{key_or_none, table_key, type_in, gen_key, key_columns, of_type, count_in, filled, group, in_layout, layout_types}
+use Rattle.natural_keys.specs.Layouts.{key_or_none, table_key, type_in, gen_key, key_columns}
+use Rattle.natural_keys.specs.Layouts.{of_type, count_in, filled, group}
 use Rattle.natural_keys.specs.NaturalKeys.{element_columns, fields_columns, index_columns}
 use Rattle.natural_index.specs.Trees.{key_expr, zero_expr, index_exprs, shape_exprs, shapes_exprs}
 

@@ -1,9 +1,9 @@
 -- The trees of a whole form: what is known of each path holds of all.
-use Rattle.std.proofs.Common.{◌≡◌, ℕ, zero, suc, ◌+◌, ◌<◌, List, [], ◌∷◌, map, flat_map, zip, refl, sym, ap, ap₂, ◌∙◌, subst, arith, length, All, ◌++◌}
+use Rattle.std.proofs.Common.{ℕ, zero, suc, ◌+◌, ◌<◌, List, [], ◌∷◌, map, refl, sym, subst, arith}
 use Rattle.std.specs.List.{AllByRecursion as Each}
 use Rattle.nq_model.specs.Numberings.{count_from}
 use Rattle.nq_model.specs.Tables.{IsProperSchema}
-use Rattle.nq_model.specs.Types.{TypeTree, bag}
+use Rattle.nq_model.specs.Types.{bag}
 use Rattle.nq_model.specs.declared.table.Schema.{Schema}
 use Rattle.nq_ir.specs.Among.{Among, first, later}
 use Rattle.nq_ir.specs.Meanings.{EachBoth}
@@ -14,9 +14,9 @@ use Rattle.sql_profile.specs.Spellable.{IsSpellable}
 use Rattle.stitcher.specs.Schemes.{element_of}
 use Rattle.natural_keys.specs.Layouts.{layout_at, inner_layouts, outer_layouts}
 use Rattle.natural_keys.specs.NaturalKeys.{element_columns, index_columns}
-use Rattle.natural_index.specs.Reading.{AreScopedTrees, IsScopedTree}
+use Rattle.natural_index.specs.Reading.{AreScopedTrees}
 use Rattle.natural_index.specs.Trees.{HasNumbers, natural_tree, natural_trees}
-use Rattle.natural_index.proofs.Ready.{each_of, paths_long, ready}
+use Rattle.natural_index.proofs.Ready.{paths_long, ready}
 use Rattle.natural_index.proofs.Scoped.{tree_scoped}
 use Rattle.natural_index.proofs.Spelled.{tree_spelled}
 

@@ -1,5 +1,6 @@
 -- Which tables must have a key: those whose rows name bags.
-use Rattle.std.specs.Prelude.{◌≡◌, ⊤, ℕ, List, [], ◌∷◌, ◌++◌, cond, filter, flat_map, nat_eq, nat_le, zip, Option, None, Some}
+use Rattle.std.specs.Prelude.{◌≡◌, ⊤, List, [], ◌∷◌, cond, filter, flat_map, nat_eq, nat_le, zip}
+use Rattle.std.specs.Prelude.{Option, None, Some}
 use Rattle.std.specs.Option.{option_map}
 use Rattle.nq_model.specs.Meaning.{is_none}
 use Rattle.nq_model.specs.NamedRows.{Label}

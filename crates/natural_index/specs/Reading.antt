@@ -1,7 +1,7 @@
 -- What holds of natural trees: they are well scoped, and keys read their answers.
 --
 -- After the natural indexes of Cheney, Lindley and Wadler, "Query Shredding", SIGMOD 2014.
-use Rattle.std.specs.Prelude.{◌≡◌, ℕ, List, map}
+use Rattle.std.specs.Prelude.{◌≡◌, List}
 use Rattle.nq_model.specs.Databases.{database}
 use Rattle.nq_model.specs.Numberings.{count_from}
 use Rattle.nq_model.specs.SchemaTables.{AreTablesOf}

@@ -14,7 +14,8 @@ use Rattle.nq_ir.specs.Parts.{bags, element_types}
 use Rattle.nq_ir.specs.Shredded.{shredded_tree}
 use Rattle.nq_ir.specs.Spots.{StrandTree, both}
 use Rattle.nq_ir.specs.Trees.{FormTree, ShapeTree, plain_shape, rec_shape, index_shape, Shapes, no_shape, with_shape}
-use Rattle.sql_profile.specs.Trees.{ExprTree, int, bool, text, QueryTree, no_select, then_select, SelectTree, select, keep_if, ValueTree, plain, SqlTree}
+use Rattle.sql_profile.specs.Trees.{ExprTree, int, bool, text, SelectTree, select, keep_if}
+use Rattle.sql_profile.specs.Trees.{ValueTree, plain, SqlTree}
 use Rattle.flatten.specs.Names.{number_text}
 use Rattle.flatten.specs.Exprs.{source_of, column_expr, base_expr, conds_keep}
 use Rattle.flatten.specs.Emitted.{none_outer}

@@ -1,5 +1,5 @@
 // The expressions of indexes and of elements.
-ghost use Rattle.std.specs.Prelude.{◌≡◌, ◌++◌, ◌∷◌, [], IfOk, OnOk, map, pos};
+ghost use Rattle.std.specs.Prelude.{◌≡◌, ◌++◌, [], IfOk, OnOk, map, pos};
 ghost use Rattle.nq_ir.specs.Trees.{shape_tree, shapes_of, shapes_view};
 ghost use Rattle.sql_profile.specs.Scope.{same_type};
 ghost use Rattle.sql_profile.specs.Trees.{ExprTree, expr_tree};

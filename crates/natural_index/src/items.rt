@@ -2,7 +2,7 @@
 ghost use Rattle.std.specs.Prelude.{◌≡◌, ◌+◌, ◌++◌, ◌∷◌, [], IfOk, OnOk, map};
 ghost use Rattle.sql_profile.specs.Trees.{expr_tree, plain};
 ghost use Rattle.flatten.specs.Names.{number_text};
-ghost use Rattle.flatten.specs.Views.{NamedValue, item_view};
+ghost use Rattle.flatten.specs.Views.{item_view};
 ghost use Rattle.natural_index.specs.Trees.{as_items, in_columns, numbered};
 
 use nq_model::{Label, List, Memory};

@@ -4,3 +4,4 @@ pub mod IndexLaws
 pub mod NaturalKeys
 pub mod PlaceLaws
 pub mod Levels
+pub mod Schemes

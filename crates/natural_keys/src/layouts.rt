@@ -1,5 +1,5 @@
 // The layouts of the indexes of comprehensions, path by path.
-ghost use Rattle.std.specs.Prelude.{◌≡◌, IfOk, length, map, max, get_or};
+ghost use Rattle.std.specs.Prelude.{◌≡◌, IfOk, length, map, max};
 ghost use Rattle.nq_model.specs.Types.{type_tree};
 ghost use Rattle.nq_ir.specs.Shredded.{shredded_tree};
 ghost use Rattle.nq_ir.specs.Spots.{strand_tree};

@@ -78,13 +78,12 @@ impl NaturalKeys {
 impl IndexScheme for NaturalKeys {
     ghost use Rattle.std.specs.Prelude.{map, refl};
     ghost use Rattle.nq_model.specs.Types.{type_tree};
-    ghost use Rattle.natural_keys.specs.NaturalKeys.{natural_scheme};
+    ghost use Rattle.natural_keys.specs.Schemes.{keys_scheme};
     ghost use Rattle.natural_keys.specs.PlaceLaws.{bases_typed};
 
     type Index = KeyIndex;
 
-    ghost scheme = { λ keys. natural_scheme (map (λ level. type_tree level.element) keys.levels)
-        (map (λ level. level.outer) keys.levels) (map (λ level. level.inner) keys.levels) };
+    ghost scheme = { keys_scheme };
 
     fn columns(&self, alloc: Global, path: u64) -> Result<List<ColumnType>, Memory> {
         List::from_slice(alloc, self.places(path).columns.as_slice())

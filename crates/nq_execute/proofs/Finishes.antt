@@ -1,5 +1,6 @@
 -- Answers that fit are what finishing asks for.
-use Rattle.std.proofs.Common.{◌≡◌, ◌<◌, ◌+◌, ℕ, ℤ, zero, suc, List, [], ◌∷◌, length, map, get_or, All, refl, sym, ap, ◌∙◌, subst, arith}
+use Rattle.std.proofs.Common.{◌≡◌, ◌<◌, ◌+◌, ℕ, ℤ, zero, suc, List, [], ◌∷◌, length, map, get_or}
+use Rattle.std.proofs.Common.{All, refl, sym, ap, ◌∙◌, subst, arith}
 use Rattle.std.proofs.lemmas.List.{length-map}
 use Rattle.std.proofs.lemmas.List.Elements.{All-nil}
 use Rattle.nq_model.specs.Cells.{RowFits}
@@ -14,7 +15,8 @@ use Rattle.stitcher.specs.Schemes.{Scheme, element_of}
 use Rattle.stitcher.proofs.Laid.{types_length}
 use Rattle.stitcher.specs.Stitching.{rows_of, AreAnswersOf}
 use Rattle.nq_execute.proofs.Asks.{both_length}
-use Rattle.nq_execute.specs.Plans.{Indexes, RowWriting, columns_by, AreOfType, ArePathsOf, IsOne, first_text, row_text_by}
+use Rattle.nq_execute.specs.Plans.{Indexes, RowWriting, columns_by, AreOfType, ArePathsOf, IsOne}
+use Rattle.nq_execute.specs.Plans.{first_text, row_text_by}
 use Rattle.nq_execute.specs.Serving.{Fit}
 
 -- the rows of the answer at a path fit the columns there

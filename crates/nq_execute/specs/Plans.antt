@@ -19,7 +19,7 @@ use Rattle.sql_profile.specs.Tokens.{First}
 use Rattle.sql_profile.specs.declared.server.Loaded.{Loaded}
 use Rattle.stitcher.specs.FlatNumbers.{flat_numbers}
 use Rattle.stitcher.specs.Schemes.{AnswerRows, Scheme, stitched}
-use Rattle.nq_execute.specs.Keys.{keys_scheme}
+use Rattle.natural_keys.specs.Schemes.{keys_scheme}
 use Rattle.nq_execute.specs.Loading.{CanLoad}
 use Rattle.nq_execute.specs.Summaries.{summary_of}
 use Rattle.canon.specs.RowTexts.{rows_text, sorted_rows}

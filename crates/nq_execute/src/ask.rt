@@ -1,5 +1,5 @@
 // Asks a server texts, and tries each answer before the next text is asked.
-ghost use Rattle.std.specs.Prelude.{◌≡◌, ◌+◌, IfOk, is_some, length};
+ghost use Rattle.std.specs.Prelude.{◌≡◌, ◌+◌, is_some};
 ghost use Rattle.nq_ir.specs.Meanings.{EachBoth};
 ghost use Rattle.nq_execute.specs.Asking.{AskTells, HaveFittingRows, TextTells, plan_over};
 ghost use Rattle.nq_execute.specs.Plans.{AsksFor, Finish};

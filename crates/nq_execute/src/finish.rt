@@ -1,13 +1,16 @@
 // What is written of answers.
-ghost use Rattle.std.specs.Prelude.{◌≡◌, All, IfOk, map};
+ghost use Rattle.std.specs.Prelude.{◌≡◌, All, IfOk};
 ghost use Rattle.nq_model.specs.Cells.{RowFits};
 ghost use Rattle.nq_model.specs.Types.{type_tree, bag};
 ghost use Rattle.nq_model.specs.Values.{nested};
 ghost use Rattle.nq_ir.specs.NormalForms.{element_type};
 ghost use Rattle.nq_ir.specs.Parts.{element_types};
 ghost use Rattle.stitcher.specs.Stitching.{rows_of};
-ghost use Rattle.nq_execute.specs.Keys.{keys_scheme};
-ghost use Rattle.nq_execute.specs.Plans.{AreOfType, CanFinish, columns_by, finish_view, finished, indexes_view, keys as by_keys, numbers as by_numbers, row_text_by, row_writing_view, text_by, value_by, value_text, writing_view};
+ghost use Rattle.natural_keys.specs.Schemes.{keys_scheme};
+ghost use Rattle.nq_execute.specs.Plans.{AreOfType, CanFinish, columns_by, finish_view, finished};
+ghost use Rattle.nq_execute.specs.Plans.{indexes_view, keys as by_keys, numbers as by_numbers};
+ghost use Rattle.nq_execute.specs.Plans.{row_text_by, row_writing_view, text_by, value_by};
+ghost use Rattle.nq_execute.specs.Plans.{value_text, writing_view};
 ghost use Rattle.nq_execute.specs.Serving.{Fit};
 
 use crate::plan::{Finish, Indexes, RowWriting, Writing};

@@ -1,6 +1,5 @@
 // The summary of a value: how many elements it has at each level, and how long its text is.
-ghost use Rattle.std.specs.Prelude.{◌≡◌, ◌++◌, IfOk, OnOk, codes, flat_map, length, map, string_bytes};
-ghost use Rattle.std.specs.Fmt.{decimal};
+ghost use Rattle.std.specs.Prelude.{◌≡◌, ◌++◌, IfOk, OnOk, flat_map, length, map, string_bytes};
 ghost use Rattle.nq_model.specs.Canonical.{canonical_text};
 ghost use Rattle.nq_model.specs.Meaning.{value_under};
 ghost use Rattle.nq_model.specs.Types.{type_tree};

@@ -1,14 +1,30 @@
 -- Tokens of one kind go on alike from each state: what is behind them is as deep.
-use Rattle.std.proofs.Common.{◌≡◌, ℕ, ◌+◌, ◌==◌, max, leb, ◌&&◌, Bool, true, false, cond, List, [], ◌∷◌, length, refl, sym, ◌∙◌, ap, arith, Option, Some, None}
+use Rattle.std.proofs.Common.{◌≡◌, ℕ, ◌+◌, ◌==◌, max, leb, ◌&&◌, Bool, true, false, cond, List, []}
+use Rattle.std.proofs.Common.{◌∷◌, length, refl, sym, ◌∙◌, ap, arith, Option, Some, None}
 use Rattle.std.proofs.lemmas.Bool.Decides.{nat_tests}
-use Rattle.nq_model.specs.QueryTokens.{Operator, Of, Mark, Opening, Closing, OpeningBag, ClosingBag, Comma, Colon, Semicolon, Dot, Assign, From, Arrow, Bang, Constant, Number, Literal, Token, Word, Value, Oper, Sign, End}
-use Rattle.nq_model.specs.QueryGrammar.{Edition, Kind, IsFor, IsWhere, IsIf, IsThen, IsElse, IsFun, IsLet, IsAggregate, IsTruth, IsBase, IsName, kind, level, TypeSyntax, TBase, TFun, Syntax, Var, Truth}
+use Rattle.nq_model.specs.QueryTokens.{Operator, Of, Mark, Opening, Closing, OpeningBag, ClosingBag}
+use Rattle.nq_model.specs.QueryTokens.{Comma, Colon, Semicolon, Dot, Assign, From, Arrow, Bang}
+use Rattle.nq_model.specs.QueryTokens.{Constant, Number, Literal, Token, Word, Value, Oper, Sign}
+use Rattle.nq_model.specs.QueryTokens.{End}
+use Rattle.nq_model.specs.QueryGrammar.{Edition, Kind, IsFor, IsWhere, IsIf, IsThen, IsElse, IsFun}
+use Rattle.nq_model.specs.QueryGrammar.{IsLet, IsAggregate, IsTruth, IsBase, IsName, kind, level}
+use Rattle.nq_model.specs.QueryGrammar.{TypeSyntax, TBase, TFun, Syntax, Var, Truth}
 use Rattle.nq_model.specs.declared.term.Unary.TheVariants.{Minus, Not}
 use Rattle.nq_model.specs.declared.term.Binary.TheVariants.{Sub}
 use Rattle.nq_parser.specs.Forms.{needs, needs_types}
 use Rattle.nq_parser.specs.Needs.{open_forms, hole, hole_types}
-use Rattle.nq_parser.specs.Machine.{Frame, InParen, InBag, InBody, InGuarded, InIf, InThen, InElse, InFunBody, InValue, InLetBody, InPrefix, InRight, InArg, InField, TypeFrame, TInParen, TInRight, Around, InNil, InFun, State, Want, AtWord, AtAggregate, AtFor, AtForOpen, AtForName, AtWhere, AtFun, AtFunOpen, AtFunName, AtFunClose, AtLet, AtLetName, AtLabel, AtDot, WantType, AtTypeWord, AtTypeLabel, HaveType, Have, asks, binds, ends, joined, then_word, else_word, shift, after, begin_word, start, no_label, if_name, after_around, after_type, begin_base, start_type, no_type_label, step, fits}
-use Rattle.nq_parser.specs.TokenKinds.{TokenKind, token_kind, AWord, ANumber, ALiteral, AnOperator, AMark, TheEnd}
+use Rattle.nq_parser.specs.Machine.{Frame, InParen, InBag, InBody, InGuarded, InIf, InThen, InElse}
+use Rattle.nq_parser.specs.Machine.{InFunBody, InValue, InLetBody, InPrefix, InRight, InArg}
+use Rattle.nq_parser.specs.Machine.{InField, TypeFrame, TInParen, TInRight, Around, InNil, InFun}
+use Rattle.nq_parser.specs.Machine.{State, Want, AtWord, AtAggregate, AtFor, AtForOpen, AtForName}
+use Rattle.nq_parser.specs.Machine.{AtWhere, AtFun, AtFunOpen, AtFunName, AtFunClose, AtLet}
+use Rattle.nq_parser.specs.Machine.{AtLetName, AtLabel, AtDot, WantType, AtTypeWord, AtTypeLabel}
+use Rattle.nq_parser.specs.Machine.{HaveType, Have, asks, binds, ends, joined, then_word, else_word}
+use Rattle.nq_parser.specs.Machine.{shift, after, begin_word, start, no_label, if_name}
+use Rattle.nq_parser.specs.Machine.{after_around, after_type, begin_base, start_type, no_type_label}
+use Rattle.nq_parser.specs.Machine.{step, fits}
+use Rattle.nq_parser.specs.TokenKinds.{TokenKind, token_kind, AWord, ANumber, ALiteral, AnOperator}
+use Rattle.nq_parser.specs.TokenKinds.{AMark, TheEnd}
 use Rattle.nq_parser.proofs.Needs.{fits_is}
 
 -- how deep the least program is at a state, and the deepest type in it

@@ -1,5 +1,7 @@
 -- The turns of a loop that reads tokens, and what its end says.
-use Rattle.std.proofs.Common.{◌≡◌, ℕ, suc, ◌+◌, ◌-◌, ◌<◌, ◌≤◌, Bool, true, List, [], ◌∷◌, ◌++◌, map, length, take, drop, sym, ◌∙◌, ap, subst, arith, drop-cons, inl, inr, Some, None, Result, Ok}
+use Rattle.std.proofs.Common.{◌≡◌, ℕ, suc, ◌+◌, ◌-◌, ◌<◌, ◌≤◌, Bool, true, List, [], ◌∷◌, ◌++◌, map}
+use Rattle.std.proofs.Common.{length, take, drop, sym, ◌∙◌, ap, subst, arith, drop-cons, inl, inr}
+use Rattle.std.proofs.Common.{Some, None, Result, Ok}
 use Rattle.std.specs.Prelude.{get_or}
 use Rattle.std.proofs.lemmas.List.{length-map, take-map, drop-map, map_more, take_all}
 use Rattle.nq_model.specs.declared.memory.Memory.{Memory}
@@ -11,7 +13,8 @@ use Rattle.nq_model.specs.QueryTexts.{edition_of}
 use Rattle.nq_model.proofs.QueryHeaders.{IsSpelledBody}
 use Rattle.nq_parser.specs.Machine.{State, step, fits, run, start_state}
 use Rattle.nq_parser.specs.Editions.{edition_view}
-use Rattle.nq_parser.specs.Openness.{header_front, TellsOpen, Stops, ReadsFirst, TellsAll, FindsFront}
+use Rattle.nq_parser.specs.Openness.{header_front, TellsOpen, Stops, ReadsFirst, TellsAll}
+use Rattle.nq_parser.specs.Openness.{FindsFront}
 use Rattle.query_syntax.specs.Symbols.{token_view}
 use Rattle.query_syntax.specs.declared.symbol.Token.{Token as CodeToken}
 use Rattle.nq_parser.specs.declared.edition.Edition.{Edition as CodeEdition}
@@ -19,7 +22,8 @@ use Rattle.nq_parser.specs.declared.edition.Edition.TheVariants as code
 use Rattle.nq_parser.proofs.Parsing.{goes_on}
 use Rattle.nq_parser.proofs.Sound.{IsGood, read}
 use Rattle.nq_parser.proofs.Exact.{laws}
-use Rattle.nq_parser.proofs.OpenTexts.{tells_first, tells_second, tells_front, finds_second, finds_no_second, finds_deep}
+use Rattle.nq_parser.proofs.OpenTexts.{tells_first, tells_second, tells_front, finds_second}
+use Rattle.nq_parser.proofs.OpenTexts.{finds_no_second, finds_deep}
 
 -- a run over a list, from where a run over its front ends
 run_behind : (ed : Edition) (us ts : List Token) (d : ℕ) (from st : State)

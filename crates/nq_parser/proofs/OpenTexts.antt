@@ -1,5 +1,8 @@
 -- The machine tells which tokens a program begins with.
-use Rattle.std.proofs.Common.{◌≡◌, ℕ, zero, suc, ◌+◌, ◌≤◌, length, take, drop, take-append-drop, Bool, true, false, ◌&&◌, List, [], ◌∷◌, ◌++◌, refl, sym, ◌∙◌, ap, subst, arith, append_assoc, codes, ◌⊎◌, inl, inr, Option, Some, None, Result, Ok, Err}
+use Rattle.std.proofs.Common.{◌≡◌, ℕ, zero, suc, ◌+◌, ◌≤◌, length, take, drop, take-append-drop}
+use Rattle.std.proofs.Common.{Bool, true, false, ◌&&◌, List, [], ◌∷◌, ◌++◌, refl, sym, ◌∙◌, ap}
+use Rattle.std.proofs.Common.{subst, arith, append_assoc, codes, ◌⊎◌, inl, inr, Option, Some, None}
+use Rattle.std.proofs.Common.{Result, Ok, Err}
 use Rattle.std.proofs.lemmas.Bool.Decides.{nat_tests}
 use Rattle.std.proofs.lemmas.List.{take_all}
 use Rattle.std.proofs.lemmas.Slice.Eq.{bytes_eq-Decides}
@@ -8,11 +11,14 @@ use Rattle.nq_model.specs.OpenLists.{Fault, Unexpected, Deep, IsOpen, IsFaultAt}
 use Rattle.nq_model.specs.Machines.{Reached, Faulty}
 use Rattle.nq_model.proofs.OpenLists as generic
 use Rattle.nq_model.specs.QueryTokens.{Token, Word, Value, Sign, End, Number, Semicolon, place_of}
-use Rattle.nq_model.specs.QueryGrammar.{Edition, First, Second, NoFields, tokens, Header, header_tokens, IsSpelled}
+use Rattle.nq_model.specs.QueryGrammar.{Edition, First, Second, NoFields, tokens, Header}
+use Rattle.nq_model.specs.QueryGrammar.{header_tokens, IsSpelled}
 use Rattle.nq_model.specs.QueryTexts.{edition_of}
-use Rattle.nq_model.proofs.QueryHeaders.{IsSpelledBody, program_of, open_behind, open_inside, fault_first, fault_second, header_deep, header_of}
+use Rattle.nq_model.proofs.QueryHeaders.{IsSpelledBody, program_of, open_behind, open_inside}
+use Rattle.nq_model.proofs.QueryHeaders.{fault_first, fault_second, header_deep, header_of}
 use Rattle.nq_parser.specs.Machine.{State, step, fits, run, start_state}
-use Rattle.nq_parser.specs.Openness.{header_front, TellsOpen, Closes, KindsGoOn, FindsFront, Stops, ReadsFirst, TellsAll, FindsStop}
+use Rattle.nq_parser.specs.Openness.{header_front, TellsOpen, Closes, KindsGoOn, FindsFront, Stops}
+use Rattle.nq_parser.specs.Openness.{ReadsFirst, TellsAll, FindsStop}
 use Rattle.nq_parser.specs.TokenKinds.{token_kind}
 use Rattle.nq_parser.specs.Editions.{is_nq, is_two}
 use Rattle.nq_parser.proofs.Alike.{goes_too}
@@ -103,7 +109,8 @@ module _ (ed : Edition) where
                   ed) (laws ed) d (take n ts) t r.state f.0 r.run_to f.1,
               generic.kind_exact Token State (IsSpelledBody ed) (step ed) fits start_state read
                   (IsGood ed) (laws ed) d (take n ts) t r.state f.0 k r.run_to
-                  (generic.why Token State (IsSpelledBody ed) (step ed) fits start_state read (IsGood
+                  (generic.why Token State (IsSpelledBody ed) (step ed) fits start_state read
+                  (IsGood
                   ed) (laws ed) d r.state t f.0 f.1),
             );
           }

@@ -1,5 +1,6 @@
 -- Which tokens a program begins with.
-use Rattle.std.specs.Prelude.{◌≡◌, ℕ, ◌≤◌, ◌==◌, ⊤, Bool, true, false, ◌&&◌, List, [], ◌∷◌, ◌++◌, length, take, drop, ◌⊎◌, Option, Some, None, Result, Ok, Err}
+use Rattle.std.specs.Prelude.{◌≡◌, ℕ, ◌≤◌, ◌==◌, ⊤, Bool, true, false, ◌&&◌, List, [], ◌∷◌, ◌++◌}
+use Rattle.std.specs.Prelude.{length, take, drop, ◌⊎◌, Option, Some, None, Result, Ok, Err}
 use Rattle.nq_model.specs.declared.memory.Memory.{Memory}
 use Rattle.nq_model.specs.OpenLists.{Fault, IsOpen, IsFaultAt}
 use Rattle.nq_model.specs.Machines.{Reached}

@@ -1,5 +1,7 @@
--- The kinds of tokens: a word counts by what it is where a variable might stand, and places count for nothing.
-use Rattle.nq_model.specs.QueryTokens.{Operator, Mark, Number, Literal, Token, Word, Value, Oper, Sign, End}
+-- The kinds of tokens: a word counts by what it is where a variable might stand, and places count
+-- for nothing.
+use Rattle.nq_model.specs.QueryTokens.{Operator, Mark, Number, Literal, Token, Word, Value, Oper}
+use Rattle.nq_model.specs.QueryTokens.{Sign, End}
 use Rattle.nq_model.specs.QueryGrammar.{Edition, Kind, kind}
 
 pub data TokenKind : Type 0 where

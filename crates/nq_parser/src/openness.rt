@@ -1,7 +1,8 @@
 // Whether a program begins with tokens.
 ghost use Rattle.std.specs.Prelude.{◌≡◌, map};
 ghost use Rattle.nq_parser.specs.Editions.{edition_view};
-ghost use Rattle.nq_parser.specs.Openness.{header_front, FindsFront, FindsStop, GoesOn, KindsGoOn, ReadsFront, TellsAll, TellsOpen};
+ghost use Rattle.nq_parser.specs.Openness.{header_front, FindsFront, FindsStop, GoesOn, KindsGoOn};
+ghost use Rattle.nq_parser.specs.Openness.{ReadsFront, TellsAll, TellsOpen};
 ghost use Rattle.nq_parser.specs.States.{state_view};
 ghost use Rattle.query_syntax.specs.Symbols.{token_view};
 

@@ -5,7 +5,7 @@ use Rattle.nq_model.specs.Canonical.{canonical_text}
 use Rattle.nq_model.specs.Databases.{FilledTable, database}
 use Rattle.nq_model.specs.QueryMeaning.{Means}
 use Rattle.nq_model.specs.Terms.{PlacedTerm, bare}
-use Rattle.nq_model.specs.Types.{TypeTree, bag}
+use Rattle.nq_model.specs.Types.{bag}
 use Rattle.nq_model.specs.Values.{Nested}
 use Rattle.nq_model.specs.declared.table.Schema.{Schema}
 use Rattle.nq_model.proofs.Unfolding.{reached_once}
@@ -22,7 +22,8 @@ use Rattle.nq_execute.specs.declared.refusal.ServerRefusal.TheVariants as server
 use Rattle.database_scripts.specs.declared.database.Database.TheVariants.{Postgres, Sqlite}
 use Rattle.sql_profile.specs.Servers.{held_of}
 use Rattle.sql_profile.proofs.HeldTables.{held_filled}
-use Rattle.command_line.specs.Commands.{Showing, Aim, Command, of_query, show_natural, show_texts, command_of}
+use Rattle.command_line.specs.Commands.{Showing, Aim, Command, of_query, show_natural, show_texts}
+use Rattle.command_line.specs.Commands.{command_of}
 use Rattle.command_line.specs.Frames.{frames}
 use Rattle.command_line.specs.Noting.{Notes}
 use Rattle.command_line.specs.Refusals.{refused_status, refused_note, status_of}
@@ -30,16 +31,22 @@ use Rattle.command_line.specs.declared.refusal.Refused.{Refused}
 use Rattle.command_line.specs.declared.refusal.InputRefusal.TheVariants as input
 use Rattle.command_line.specs.declared.refusal.Refusal.TheVariants as refusal
 use Rattle.nq_top.specs.Calls.{Comes}
-use Rattle.nq_top.specs.Headline.{Naming, numbers, keys, Names, Accepted, GivenKeys, GivenTables, GivenRun, LooksFor, AreRefused, Outcome, IsServed, RunComes, ShowComes, NaturalComes, run_words, show_words, OfRun, OfShow, OfNatural}
-use Rattle.nq_top.specs.Judging.{Judgement, Verdict, usage, missing, refused, shown, keyed, planned, at_once, read_then, aim_judged, judgement}
+use Rattle.nq_top.specs.Headline.{Naming, numbers, keys, Names, Accepted, GivenKeys}
+use Rattle.nq_top.specs.Headline.{GivenRun, LooksFor, AreRefused, Outcome, IsServed, RunComes}
+use Rattle.nq_top.specs.Headline.{ShowComes, NaturalComes, run_words, show_words, OfRun, OfShow}
+use Rattle.nq_top.specs.Headline.{OfNatural}
+use Rattle.nq_top.specs.Judging.{Judgement, Verdict, usage, missing, refused, shown, keyed, planned}
+use Rattle.nq_top.specs.Judging.{at_once, read_then, aim_judged, judgement}
 use Rattle.nq_top.specs.Natural.{Natural, ShowsNatural}
-use Rattle.nq_top.specs.Limits.{tables_limit}
 use Rattle.nq_top.specs.Plans.{Question, Settles, drafted, query_question}
 use Rattle.nq_top.specs.Reading.{Reading}
 use Rattle.nq_top.specs.Shown.{Shown, Shows, shown_texts, texts_by, shown_by, ShredsQuery}
 use Rattle.nq_top.specs.Theorem.{Answer, Gives, Writes, Tells, PutsAll, PutsAt, IsDone, IsDue, HasFailed, Completes, Serves, Runs, Ends}
 use Rattle.nq_top.specs.World.{SinkState, World, command_in}
-use Rattle.nq_top.proofs.HeadlineQueries.{whole, typed, run_as, run_draft, keyed_of, natural_given, after_type, aims_at, shows_at, run_planned, is_missing, is_refused, Cases, are_given, are_refused, are_missing, accepted_cases, keyed_cases, run_cases}
+use Rattle.nq_top.proofs.HeadlineQueries.{whole, typed, run_as, run_draft, keyed_of, natural_given}
+use Rattle.nq_top.proofs.HeadlineQueries.{after_type, aims_at, shows_at, run_planned, is_missing}
+use Rattle.nq_top.proofs.HeadlineQueries.{is_refused, Cases, are_given, are_refused, are_missing}
+use Rattle.nq_top.proofs.HeadlineQueries.{accepted_cases, keyed_cases, run_cases}
 use Rattle.nq_top.proofs.Readings.{one_reading}
 use Rattle.nq_top.proofs.Statuses.{no_fault}
 
@@ -186,12 +193,15 @@ module _ (files : Files) (names : Names) (Given : Type 0) (j : Judgement) (befor
 
 -- 3. the words
 
-command_run : (n : Naming) (words : List (List ℕ)) (s q d : List ℕ) → words ≡ run_words n s q d → command_of words ≡ Some (of_query (run_as n d) s q)
+command_run : (n : Naming) (words : List (List ℕ)) (s q d : List ℕ) → words ≡ run_words n s q d
+    → command_of words ≡ Some (of_query (run_as n d) s q)
 unfolding command_of
 command_run numbers words s q d is = ap command_of is
 command_run keys words s q d is = ap command_of is
 
-command_natural : (words : List (List ℕ)) (s q : List ℕ) → words ≡ codes "show" ∷ codes "natural" ∷ s ∷ q ∷ [] → command_of words ≡ Some (of_query show_natural s q)
+command_natural : (words : List (List ℕ)) (s q : List ℕ) → words
+    ≡ codes "show" ∷ codes "natural" ∷ s ∷ q ∷ [] → command_of words
+    ≡ Some (of_query show_natural s q)
 unfolding command_of
 command_natural words s q is = ap command_of is
 
@@ -239,26 +249,39 @@ not_shown : (v : Verdict) (showing : Showing) (texts : Shown) (why : Refused) �
 not_shown v showing texts why e f = absurd (let g : shown showing texts ≡ refused why = sym e ∙ f in cc)
 
 -- the value that a text of an honest server is of
-module _ (reading : Reading) (files : Files) (names : Names) (aim : Aim) (folder : List ℕ) (given : GivenRun files names folder) where
+module _ (reading : Reading) (files : Files) (names : Names) (aim : Aim) (folder : List ℕ)
+    (given : GivenRun files names folder) where
   abbrev accepted : Accepted files names
   accepted = given.accepted
 
   abbrev run_plan : Plan
-  run_plan = drafted (run_draft reading files names aim accepted) (held_of accepted.given.over.schema.tables given.tables.rows)
+  run_plan = drafted (run_draft reading files names aim accepted)
+      (held_of accepted.given.over.schema.tables given.tables.rows)
 
   abbrev run_question : Question
   run_question = query_question (typed reading files names aim accepted)
 
   meant : (text : List ℕ) (before after : World) → Settles run_plan.tables run_question text → PutsAll before after text
-      → (value : Nested) × Means (database accepted.given.over.schema.tables given.tables.rows) accepted.given.query value × TellsMore before.out.written after.out.written (canonical_text value)
+      → (value : Nested) × Means (database accepted.given.over.schema.tables given.tables.rows)
+      accepted.given.query value
+      × TellsMore before.out.written after.out.written (canonical_text value)
   meant text before after settles puts = (
     settles.value,
-    subst (λ (filled : List FilledTable). Means filled accepted.given.query settles.value) (held_filled accepted.given.over.schema.tables given.tables.rows) settles.means,
+    subst (λ (filled : List FilledTable). Means filled accepted.given.query settles.value)
+        (held_filled accepted.given.over.schema.tables given.tables.rows) settles.means,
     subst (λ (t : List ℕ). TellsMore before.out.written after.out.written t) settles.is puts,
   )
 
-run_promised : (n : Naming) (files : Files) (s q d : List ℕ) (before after : World) (old new : SinkState) (status : ℕ)
-    → Promised (record { schema = s; query = q; folder = Some d; naming = n }) (run_as n d) files before after old new status → RunComes before after old new status n files s q d
+run_promised : (n : Naming) (files : Files) (s q d : List ℕ) (before after : World)
+    (old new : SinkState) (status : ℕ)
+    → Promised (record {
+      schema = s;
+      query = q;
+      folder = Some d;
+      naming =
+          n;
+    }) (run_as n d) files before after old new status
+    → RunComes before after old new status n files s q d
 run_promised n files s q d before after old new status promise =
     let names : Names = record { schema = s; query = q; folder = Some d; naming = n } in
     let reading = one_reading in
@@ -274,10 +297,12 @@ run_promised n files s q d before after old new status promise =
     (is_refused reading files names aim aims) (is_missing reading files names aim aims)
     _ (IsServed before after) promise.notes promise.puts (promise.completes reading) (λ still. still.0)
     (λ still given. subst F (sym (planned_is given)) (record { not_failed = still.1; fair = inl still.2 }))
-    (λ given why e. not_planned j.verdict (run_plan reading files names aim d given) (run_question reading files names aim d given) why (planned_is given) e)
+    (λ given why e. not_planned j.verdict (run_plan reading files names aim d given)
+    (run_question reading files names aim d given) why (planned_is given) e)
     (λ given wrote_it is_honest.
     let gives = subst (G wrote_it.text) (planned_is given) wrote_it.gives in
-    meant reading files names aim d given wrote_it.text before after (gives.settled is_honest) wrote_it.puts)
+    meant reading files names aim d given wrote_it.text before after (gives.settled is_honest)
+    wrote_it.puts)
 
 -- 5. `show` of SQL texts
 
@@ -296,7 +321,14 @@ module _ (reading : Reading) (files : Files) (names : Names) (showing : Showing)
   texts_put text before after shows puts = (shown_of.texts, shows.shreds, subst (λ (t : List ℕ). TellsMore before.out.written after.out.written t) shows.is puts)
 
 show_promised : (showing : Showing) (files : Files) (s q : List ℕ) (before after : World) (old new : SinkState) (status : ℕ)
-    → Promised (record { schema = s; query = q; folder = None; naming = numbers }) (show_texts showing) files before after old new status → ShowComes before after old new status showing files s q
+    → Promised (record {
+      schema = s;
+      query = q;
+      folder = None;
+      naming =
+          numbers;
+    }) (show_texts showing) files before after old new status
+    → ShowComes before after old new status showing files s q
 show_promised showing files s q before after old new status promise =
     let names : Names = record { schema = s; query = q; folder = None; naming = numbers } in
     let reading = one_reading in
@@ -316,7 +348,8 @@ show_promised showing files s q before after old new status promise =
 
 -- 6. `show natural`
 
-not_keyed : (v : Verdict) (natural : Natural) (why : Refused) → v ≡ keyed natural → v ≡ refused why → ⊥
+not_keyed : (v : Verdict) (natural : Natural) (why : Refused) → v ≡ keyed natural → v ≡ refused why
+    → ⊥
 not_keyed v natural why e f = absurd (let g : keyed natural ≡ refused why = sym e ∙ f in cc)
 
 module _ (reading : Reading) (files : Files) (names : Names) (given : GivenKeys files names) where
@@ -330,23 +363,43 @@ module _ (reading : Reading) (files : Files) (names : Names) (given : GivenKeys 
   unfolding aim_judged
   shows_keyed =
       ap (λ (j : Judgement). j.verdict) (after_type reading files names show_natural given.accepted)
-      ∙ ap (λ r. (read_then r (λ natural. at_once (keyed natural))).verdict) (natural_given reading files names show_natural given.accepted given.keyed)
+      ∙ ap (λ r. (read_then r (λ natural. at_once (keyed natural))).verdict)
+      (natural_given reading files names show_natural given.accepted given.keyed)
 
   -- of the normal form of the plain term to which the query unfolds
   abbrev FramesPut : World → World → FormTree → Type 0
   FramesPut before after form =
-      StitchTo (natural_keys over.tables form) over given.accepted.element (keyed_texts over.tables form) (λ tables value. Means tables given.accepted.given.query value)
-      × TellsMore before.out.written after.out.written (frames (paths (bag given.accepted.element)) (keyed_texts over.tables form))
+      StitchTo (natural_keys over.tables form) over given.accepted.element
+      (keyed_texts over.tables form)
+      (λ tables value. Means tables given.accepted.given.query value)
+      × TellsMore before.out.written after.out.written
+      (frames (paths (bag given.accepted.element)) (keyed_texts over.tables form))
 
-  frames_put : (text : List ℕ) (before after : World) → ShowsNatural text natural_shown → PutsAll before after text
-      → FramesPut before after (normal_form over.tables given.accepted.element (bare given.keyed.plain))
+  frames_put : (text : List ℕ) (before after : World) → ShowsNatural text natural_shown
+      → PutsAll before after text
+      → FramesPut before after
+      (normal_form over.tables given.accepted.element (bare given.keyed.plain))
   frames_put text before after shows puts =
-      let once = reached_once (reading.plain.right over given.accepted.given.query (bag given.accepted.element) given.accepted.typed) given.keyed.unfolds in
-      subst (λ (t : PlacedTerm). FramesPut before after (normal_form over.tables given.accepted.element (bare t))) once
-      (shows.stitched, subst (λ (t : List ℕ). TellsMore before.out.written after.out.written t) shows.is puts)
+      let once = reached_once
+      (reading.plain.right over given.accepted.given.query (bag given.accepted.element)
+      given.accepted.typed) given.keyed.unfolds in
+      subst (λ (t : PlacedTerm). FramesPut before after
+      (normal_form over.tables given.accepted.element (bare t))) once (
+        shows.stitched,
+        subst (λ (t : List ℕ). TellsMore before.out.written after.out.written t)
+            shows.is puts,
+      )
 
-natural_promised : (files : Files) (s q : List ℕ) (before after : World) (old new : SinkState) (status : ℕ)
-    → Promised (record { schema = s; query = q; folder = None; naming = keys }) show_natural files before after old new status → NaturalComes before after old new status files s q
+natural_promised : (files : Files) (s q : List ℕ) (before after : World) (old new : SinkState)
+    (status : ℕ)
+    → Promised (record {
+      schema = s;
+      query = q;
+      folder = None;
+      naming =
+          keys;
+    }) show_natural files before after old new status
+    → NaturalComes before after old new status files s q
 natural_promised files s q before after old new status promise =
     let names : Names = record { schema = s; query = q; folder = None; naming = keys } in
     let reading = one_reading in
@@ -355,13 +408,18 @@ natural_promised files s q before after old new status promise =
     let shown_is = λ (given : GivenKeys files names). shows_keyed reading files names given in
     let F : Verdict → Type 0 = λ v. IsDue (Serves before.server after.server) v in
     let G : List ℕ → Verdict → Type 0 = λ text v. Gives before.server after.server v text in
-    outcome files names (GivenKeys files names) j before after old new status promise.answer promise.is (promise.tells reading)
+    outcome files names (GivenKeys files names) j before after old new status promise.answer
+    promise.is (promise.tells reading)
     (keyed_cases reading files names refl)
-    (is_refused reading files names show_natural aims) (is_missing reading files names show_natural aims)
-    _ (HasFailed before after → ⊥) promise.notes promise.puts (promise.completes reading) (λ still. still)
+    (is_refused reading files names show_natural aims)
+    (is_missing reading files names show_natural aims)
+    _ (HasFailed before after
+    → ⊥) promise.notes promise.puts (promise.completes reading) (λ still. still)
     (λ still given. subst F (sym (shown_is given)) tt)
-    (λ given why e. not_keyed j.verdict (natural_shown reading files names given) why (shown_is given) e)
-    (λ given wrote_it. frames_put reading files names given wrote_it.text before after (subst (G wrote_it.text) (shown_is given) wrote_it.gives) wrote_it.puts)
+    (λ given why e. not_keyed j.verdict (natural_shown reading files names given) why
+    (shown_is given) e)
+    (λ given wrote_it. frames_put reading files names given wrote_it.text before after
+    (subst (G wrote_it.text) (shown_is given) wrote_it.gives) wrote_it.puts)
 
 -- 7. the calls
 
@@ -373,19 +431,47 @@ module _ (words : List (String Global)) (before after : World) (old new : SinkSt
   of_run None is = tt
   of_run (Some files) is = λ n s q d words_are.
       run_promised n files s q d before after old new status
-      (promised (command_in words) (record { schema = s; query = q; folder = Some d; naming = n }) (run_as n d) files before after old new status (command_run n spelled s q d words_are) is ends)
+      (promised (command_in words) (record {
+        schema = s;
+        query = q;
+        folder = Some d;
+        naming =
+            n;
+      }) (run_as n d) files before after old new status
+      (command_run n spelled s q d words_are) is ends)
 
   of_show : (held : Option Files) → before.inputs.held ≡ held → OfShow spelled held (ShowComes before after old new status)
   of_show None is = tt
   of_show (Some files) is = λ showing s q words_are.
       show_promised showing files s q before after old new status
-      (promised (command_in words) (record { schema = s; query = q; folder = None; naming = numbers }) (show_texts showing) files before after old new status (command_show showing spelled s q words_are) is ends)
+      (promised (command_in words) (record {
+        schema = s;
+        query = q;
+        folder = None;
+        naming =
+            numbers;
+      }) (show_texts showing) files before after old new status
+      (command_show showing spelled s q words_are) is ends)
 
-  of_natural : (held : Option Files) → before.inputs.held ≡ held → OfNatural spelled held (NaturalComes before after old new status)
+  of_natural : (held : Option Files) → before.inputs.held ≡ held
+      → OfNatural spelled held (NaturalComes before after old new status)
   of_natural None is = tt
   of_natural (Some files) is = λ s q words_are.
       natural_promised files s q before after old new status
-      (promised (command_in words) (record { schema = s; query = q; folder = None; naming = keys }) show_natural files before after old new status (command_natural spelled s q words_are) is ends)
+      (promised (command_in words) (record {
+        schema = s;
+        query = q;
+        folder = None;
+        naming =
+            keys;
+      }) show_natural files before after old new status
+      (command_natural spelled s q words_are) is ends)
 
   pub comes : Comes words before after old new status
-  comes = record { ends = ends; runs = of_run before.inputs.held refl; shows = of_show before.inputs.held refl; names = of_natural before.inputs.held refl }
+  comes = record {
+    ends = ends;
+    runs = of_run before.inputs.held refl;
+    shows =
+        of_show before.inputs.held refl;
+    names = of_natural before.inputs.held refl;
+  }

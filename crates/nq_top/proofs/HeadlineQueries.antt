@@ -27,15 +27,27 @@ use Rattle.table_reader.specs.Faults.{HasFault as HasTableFault}
 use Rattle.table_reader.specs.Records.{records_of}
 use Rattle.table_reader.specs.declared.TableFault.{TableFault}
 use Rattle.command_line.specs.declared.refusal.Refused.{Refused}
-use Rattle.command_line.specs.declared.refusal.Refused.TheVariants.{TooLong, Schema as SchemaRefused, Query as QueryRefused, IllTyped, NoKey, Table as TableRefused, Sql, IllScoped, JsonTable, Answer, Links}
-use Rattle.command_line.specs.Commands.{Showing, Aim, run, run_natural, show_natural, show_texts, of_query}
-use Rattle.nq_top.specs.Headline.{Naming, numbers, keys, Names, HeldWithin, GivenSchema, GivenQuery, Accepted, Keyless, HasKeys, LacksKey, GivenKeys, GivenTables, GivenRun, NextTable, LooksFor, AreRefused}
-use Rattle.nq_top.specs.Judging.{Judgement, Verdict, missing, refused, keyed, planned, at_once, after, fetched_then, read_then, text_then, query_then, draft_judged, aim_judged, tables_judged, command_judged}
+use Rattle.command_line.specs.declared.refusal.Refused.TheVariants.{TooLong}
+use Rattle.command_line.specs.declared.refusal.Refused.TheVariants.{Schema as SchemaRefused}
+use Rattle.command_line.specs.declared.refusal.Refused.TheVariants.{Query as QueryRefused, IllTyped}
+use Rattle.command_line.specs.declared.refusal.Refused.TheVariants.{NoKey, Table as TableRefused}
+use Rattle.command_line.specs.declared.refusal.Refused.TheVariants.{Sql, IllScoped, JsonTable}
+use Rattle.command_line.specs.declared.refusal.Refused.TheVariants.{Answer, Links}
+use Rattle.command_line.specs.Commands.{Showing, Aim, run, run_natural, show_natural, show_texts}
+use Rattle.command_line.specs.Commands.{of_query}
+use Rattle.nq_top.specs.Headline.{Naming, numbers, keys, Names, HeldWithin, GivenSchema, GivenQuery}
+use Rattle.nq_top.specs.Headline.{Accepted, Keyless, HasKeys, LacksKey, GivenKeys, GivenTables}
+use Rattle.nq_top.specs.Headline.{GivenRun, NextTable, LooksFor, AreRefused}
+use Rattle.nq_top.specs.Judging.{Judgement, Verdict, missing, refused, keyed, planned, at_once}
+use Rattle.nq_top.specs.Judging.{after, fetched_then, read_then, text_then, query_then}
+use Rattle.nq_top.specs.Judging.{draft_judged, aim_judged, tables_judged, command_judged}
 use Rattle.nq_top.specs.Limits.{text_limit, tables_limit, depth_limit}
 use Rattle.nq_top.specs.Lines.{file_of}
 use Rattle.nq_top.specs.Natural.{Natural, keyed_as, natural_draft, natural_of, natural_read}
-use Rattle.nq_top.specs.Plans.{Draft, drafted, query_draft, query_question, question_to}
-use Rattle.nq_top.specs.Reading.{PlainReading, Reading, ReadsQuery, TypedTerm, refused_as, schema_read, term_read, type_read, typed_as, typed_over, query_read, ill_typed, rows_read}
+use Rattle.nq_top.specs.Plans.{Draft, drafted, query_draft, query_question}
+use Rattle.nq_top.specs.Reading.{PlainReading, Reading, ReadsQuery, TypedTerm, refused_as}
+use Rattle.nq_top.specs.Reading.{schema_read, term_read, type_read, typed_as, typed_over}
+use Rattle.nq_top.specs.Reading.{query_read, ill_typed, rows_read}
 use Rattle.nq_top.specs.Shown.{shown_form}
 use Rattle.nq_top.specs.declared.tables.TableTexts.TheVariants.{Csv}
 use Rattle.nq_top.proofs.Steps.{read_next}
@@ -161,10 +173,12 @@ run_as keys folder = run_natural folder
 
 abbrev pub draft_as : Naming → PlainReading → Schema → TypedTerm → Draft
 draft_as numbers plain schema query = query_draft plain schema query.term query.type
-draft_as keys plain schema query = natural_draft (natural_of schema query (shown_form plain schema query.term query.type))
+draft_as keys plain schema query =
+    natural_draft (natural_of schema query (shown_form plain schema query.term query.type))
 
 -- what lacks a key does so where keys name bags
-lacks_keys : (n : Naming) (Lacks : Option (List ℕ) → Type 0) (table : List ℕ) → LacksKey n Lacks table → (n ≡ keys) × Lacks (Some table)
+lacks_keys : (n : Naming) (Lacks : Option (List ℕ) → Type 0) (table : List ℕ)
+    → LacksKey n Lacks table → (n ≡ keys) × Lacks (Some table)
 lacks_keys numbers Lacks table lacks = absurd lacks
 lacks_keys keys Lacks table lacks = (refl, lacks)
 
@@ -195,67 +209,96 @@ module _ (reading : Reading) (files : Files) (names : Names) (aim : Aim) where
       (text_given files names.query (λ text. query_read reading.queries schema text) (aimed schema) given.text given.held (typed accepted)
       (query_given reading schema given.text given.query (bag accepted.element) given.spells accepted.typed))
 
-  -- the aim is that of the names: a query is run over the folder that they give, by texts that name bags as they say; and
+  -- the aim is that of the names: a query is run over the folder that they give, by texts that name
+  -- bags as they say; and
   -- where those name them by keys, the tables need keys
   pub record IsAimed : Type 0 where
     pub runs : (folder : List ℕ) → names.folder ≡ Some folder → aim ≡ run_as names.naming folder
     pub asks_keys : names.naming ≡ keys → (schema : Schema) (query : TypedTerm)
-        → (next : Natural → Judgement) × (aimed schema query ≡ read_then (natural_read reading.plain schema query) next)
+        → (next : Natural → Judgement)
+        × (aimed schema query ≡ read_then (natural_read reading.plain schema query) next)
 
   -- the table that lacks a key, in the normal form that is shown
-  pub shown_lacks : (accepted : Accepted files names) (table : Option (List ℕ)) → Keyless files names accepted table
-      → no_key accepted.given.over.schema.tables (shown_form reading.plain accepted.given.over.schema accepted.given.query (bag accepted.element)) ≡ table
+  pub shown_lacks : (accepted : Accepted files names) (table : Option (List ℕ))
+      → Keyless files names accepted table
+      → no_key accepted.given.over.schema.tables
+      (shown_form reading.plain accepted.given.over.schema accepted.given.query
+      (bag accepted.element)) ≡ table
   shown_lacks accepted table lacks =
       let over : Schema = accepted.given.over.schema in
-      let once = reached_once (reading.plain.right over accepted.given.query (bag accepted.element) accepted.typed) lacks.unfolds in
-      ap (λ (t : PlacedTerm). no_key over.tables (normal_form over.tables accepted.element (bare t))) once ∙ lacks.is
+      let once = reached_once
+      (reading.plain.right over accepted.given.query (bag accepted.element) accepted.typed)
+      lacks.unfolds in
+      ap (λ (t : PlacedTerm). no_key over.tables
+      (normal_form over.tables accepted.element (bare t))) once ∙ lacks.is
 
   -- the texts by keys of a query whose tables have the keys that it needs
   abbrev pub keyed_of : Accepted files names → Natural
-  keyed_of accepted = natural_of accepted.given.over.schema (typed accepted) (shown_form reading.plain accepted.given.over.schema accepted.given.query (bag accepted.element))
+  keyed_of accepted = natural_of accepted.given.over.schema (typed accepted)
+      (shown_form reading.plain accepted.given.over.schema accepted.given.query
+      (bag accepted.element))
 
   pub natural_given : (accepted : Accepted files names) → Keyless files names accepted None
-      → natural_read reading.plain accepted.given.over.schema (typed accepted) ≡ Ok (keyed_of accepted)
+      → natural_read reading.plain accepted.given.over.schema (typed accepted)
+      ≡ Ok (keyed_of accepted)
   unfolding natural_read
   natural_given accepted has = ap (keyed_as (keyed_of accepted)) (shown_lacks accepted None has)
 
-  natural_lacks : (accepted : Accepted files names) (table : List ℕ) → Keyless files names accepted (Some table)
+  natural_lacks : (accepted : Accepted files names) (table : List ℕ)
+      → Keyless files names accepted (Some table)
       → natural_read reading.plain accepted.given.over.schema (typed accepted) ≡ Err (NoKey table)
   unfolding natural_read
-  natural_lacks accepted table lacks = ap (keyed_as (keyed_of accepted)) (shown_lacks accepted (Some table) lacks)
+  natural_lacks accepted table lacks =
+      ap (keyed_as (keyed_of accepted)) (shown_lacks accepted (Some table) lacks)
 
   -- what is asked of a query that is run
   abbrev pub run_draft : Accepted files names → Draft
-  run_draft accepted = draft_as names.naming reading.plain accepted.given.over.schema (typed accepted)
+  run_draft accepted = draft_as names.naming reading.plain accepted.given.over.schema
+      (typed accepted)
 
   abbrev run_verdict : Accepted files names → List Loaded → Verdict
   run_verdict accepted tables = planned (drafted (run_draft accepted) tables) (query_question (typed accepted))
 
   -- a run by texts that name bags in a way
-  runs_as : (n : Naming) (accepted : Accepted files names) (folder : List ℕ) → HasKeys n (Keyless files names accepted)
-      → (aim_judged reading.plain files (run_as n folder) accepted.given.over.schema (typed accepted)).verdict
+  runs_as : (n : Naming) (accepted : Accepted files names) (folder : List ℕ)
+      → HasKeys n (Keyless files names accepted)
+      → (aim_judged reading.plain files (run_as n folder) accepted.given.over.schema
+      (typed accepted)).verdict
       ≡ (tables_judged files Csv folder accepted.given.over.schema.tables tables_limit []
-      (λ tables. planned (drafted (draft_as n reading.plain accepted.given.over.schema (typed accepted)) tables) (query_question (typed accepted)))).verdict
+      (λ tables. planned (drafted
+      (draft_as n reading.plain accepted.given.over.schema (typed accepted)) tables)
+      (query_question (typed accepted)))).verdict
   unfolding aim_judged
   runs_as numbers accepted folder has = refl
   runs_as keys accepted folder has =
-      let next : Natural → Judgement = λ natural. draft_judged files Csv folder accepted.given.over.schema (natural_draft natural) (λ tables. query_question (typed accepted)) in
-      ap (λ (given : Result Natural Refused). (read_then given next).verdict) (natural_given accepted has)
+      let next : Natural → Judgement =
+      λ natural. draft_judged files Csv folder accepted.given.over.schema
+      (natural_draft natural) (λ tables. query_question (typed accepted)) in
+      ap (λ (given : Result Natural Refused). (read_then given next).verdict)
+      (natural_given accepted has)
 
-  run_aim : (accepted : Accepted files names) (folder : List ℕ) → HasKeys names.naming (Keyless files names accepted) → aim ≡ run_as names.naming folder
-      → (whole reading files names aim).verdict ≡ (tables_judged files Csv folder accepted.given.over.schema.tables tables_limit [] (run_verdict accepted)).verdict
+  run_aim : (accepted : Accepted files names) (folder : List ℕ)
+      → HasKeys names.naming (Keyless files names accepted) → aim ≡ run_as names.naming folder
+      → (whole reading files names aim).verdict
+      ≡ (tables_judged files Csv folder accepted.given.over.schema.tables tables_limit []
+      (run_verdict accepted)).verdict
   run_aim accepted folder has is =
       ap (λ (j : Judgement). j.verdict) (after_type accepted)
       ∙ ap (λ (a : Aim). (aim_judged reading.plain files a accepted.given.over.schema (typed accepted)).verdict) is
       ∙ runs_as names.naming accepted folder has
 
   -- the plan of a query that is run
-  pub run_planned : IsAimed → (folder : List ℕ) (given : GivenRun files names folder) → names.folder ≡ Some folder
+  pub run_planned : IsAimed → (folder : List ℕ) (given : GivenRun files names folder) → names.folder
+      ≡ Some folder
       → (whole reading files names aim).verdict
-      ≡ planned (drafted (run_draft given.accepted) (held_of given.accepted.given.over.schema.tables given.tables.rows)) (query_question (typed given.accepted))
+      ≡ planned (drafted (run_draft given.accepted)
+      (held_of given.accepted.given.over.schema.tables given.tables.rows))
+      (query_question (typed given.accepted))
   run_planned aims folder given is_run =
       run_aim given.accepted folder given.keyed (aims.runs folder is_run)
-      ∙ tables_given files folder (run_verdict given.accepted) given.accepted.given.over.schema.tables tables_limit [] given.tables.texts given.tables.rows given.tables.held given.tables.within given.tables.given
+      ∙ tables_given files folder (run_verdict given.accepted)
+      given.accepted.given.over.schema.tables tables_limit [] given.tables.texts given.tables.rows
+      given.tables.held given.tables.within given.tables.given
 
   -- a table that is looked for
   record LooksForTable (shape : TableShape) (name : List ℕ) (limit : ℕ) : Type 0 where
@@ -265,7 +308,8 @@ module _ (reading : Reading) (files : Files) (names : Names) (aim : Aim) where
     next : List Loaded → Verdict
     comes : (whole reading files names aim).verdict ≡ (fetched_then files name limit (table_next files folder shape behind limit done next)).verdict
 
-  table_looked : IsAimed → (shape : TableShape) (name : List ℕ) (limit : ℕ) → NextTable files names shape name limit → LooksForTable shape name limit
+  table_looked : IsAimed → (shape : TableShape) (name : List ℕ) (limit : ℕ)
+      → NextTable files names shape name limit → LooksForTable shape name limit
   table_looked aims shape name limit table =
       let next : List Loaded → Verdict = run_verdict table.accepted in
       let done = held_of table.before table.given.rows in
@@ -282,7 +326,9 @@ module _ (reading : Reading) (files : Files) (names : Names) (aim : Aim) where
       }
 
   -- a text that is looked for is fetched
-  looked_for : IsAimed → (name : List ℕ) (limit : ℕ) → LooksFor files names name limit → (next : List ℕ → Judgement) × ((whole reading files names aim).verdict ≡ (fetched_then files name limit next).verdict)
+  looked_for : IsAimed → (name : List ℕ) (limit : ℕ) → LooksFor files names name limit
+      → (next : List ℕ → Judgement)
+      × ((whole reading files names aim).verdict ≡ (fetched_then files name limit next).verdict)
   looked_for aims name limit (inl (named, most)) =
       let next : List ℕ → Judgement = λ text. read_then (schema_read reading.schemas text) (λ found. query_then reading files found names.query (aimed found)) in
       (next, ap₂ (λ (n : List ℕ) l. (fetched_then files n l next).verdict) (sym named) (sym most))
@@ -293,12 +339,15 @@ module _ (reading : Reading) (files : Files) (names : Names) (aim : Aim) where
       let looks = table_looked aims shape name limit table in
       (table_next files looks.folder shape looks.behind limit looks.done looks.next, looks.comes)
 
-  pub is_missing : IsAimed → (name : List ℕ) (limit : ℕ) → LooksFor files names name limit → bytes_at files name ≡ None → (whole reading files names aim).verdict ≡ missing name
+  pub is_missing : IsAimed → (name : List ℕ) (limit : ℕ) → LooksFor files names name limit
+      → bytes_at files name ≡ None → (whole reading files names aim).verdict ≡ missing name
   is_missing aims name limit looks absent =
       let found = looked_for aims name limit looks in
       found.1 ∙ missing_text files name limit found.0 absent
 
-  table_faulty : IsAimed → (shape : TableShape) (table name : List ℕ) (limit : ℕ) (text : List ℕ) (fault : TableFault) → table ≡ shape.name → NextTable files names shape name limit
+  table_faulty : IsAimed
+      → (shape : TableShape) (table name : List ℕ) (limit : ℕ) (text : List ℕ) (fault : TableFault)
+      → table ≡ shape.name → NextTable files names shape name limit
       → HeldWithin files name limit text → HasTableFault shape (records_of text) fault → (whole reading files names aim).verdict ≡ refused (TableRefused table fault)
   table_faulty aims shape table name limit text fault named looks held has =
       let found = table_looked aims shape name limit looks in
@@ -307,7 +356,8 @@ module _ (reading : Reading) (files : Files) (names : Names) (aim : Aim) where
       ∙ read_stops (rows_read Csv shape text) (TableRefused shape.name fault) _ (rows_faulty shape text fault has)
       ∙ ap (λ (n : List ℕ). refused (TableRefused n fault)) (sym named)
 
-  pub is_refused : IsAimed → (why : Refused) → AreRefused files names why → (whole reading files names aim).verdict ≡ refused why
+  pub is_refused : IsAimed → (why : Refused) → AreRefused files names why
+      → (whole reading files names aim).verdict ≡ refused why
   is_refused aims (TooLong name limit) (looks, longer) =
       let found = looked_for aims name limit looks in
       found.1 ∙ long_text files name limit found.0 longer
@@ -327,8 +377,10 @@ module _ (reading : Reading) (files : Files) (names : Names) (aim : Aim) where
       let asks = aims.asks_keys found.0 accepted.given.over.schema (typed accepted) in
       ap (λ (j : Judgement). j.verdict) (after_type accepted)
       ∙ ap (λ (j : Judgement). j.verdict) asks.1
-      ∙ read_stops (natural_read reading.plain accepted.given.over.schema (typed accepted)) (NoKey table) asks.0 (natural_lacks accepted table found.1)
-  is_refused aims (TableRefused table fault) (shape, named, name, limit, looks, (text, held, has)) = table_faulty aims shape table name limit text fault named looks held has
+      ∙ read_stops (natural_read reading.plain accepted.given.over.schema (typed accepted))
+      (NoKey table) asks.0 (natural_lacks accepted table found.1)
+  is_refused aims (TableRefused table fault) (shape, named, name, limit, looks, (text, held, has)) =
+      table_faulty aims shape table name limit text fault named looks held has
   is_refused aims (Sql fault) never = absurd never
   is_refused aims (IllScoped rule place) never = absurd never
   is_refused aims (JsonTable name fault) never = absurd never
@@ -336,13 +388,23 @@ module _ (reading : Reading) (files : Files) (names : Names) (aim : Aim) where
   is_refused aims (Links fault) never = absurd never
 
 -- the aims of the commands
-asks_keys_of : (plain : PlainReading) (files : Files) (n : Naming) (folder : List ℕ) → n ≡ keys → (schema : Schema) (query : TypedTerm)
-    → (next : Natural → Judgement) × (aim_judged plain files (run_as n folder) schema query ≡ read_then (natural_read plain schema query) next)
+asks_keys_of : (plain : PlainReading) (files : Files) (n : Naming) (folder : List ℕ) → n ≡ keys
+    → (schema : Schema) (query : TypedTerm)
+    → (next : Natural → Judgement)
+    × (aim_judged plain files (run_as n folder) schema query
+    ≡ read_then (natural_read plain schema query) next)
 unfolding aim_judged
 asks_keys_of plain files numbers folder by_keys schema query = absurd (cc)
-asks_keys_of plain files keys folder by_keys schema query = (λ natural. draft_judged files Csv folder schema (natural_draft natural) (λ tables. query_question query), refl)
+asks_keys_of plain files keys folder by_keys schema query = (
+  λ natural. draft_judged files Csv folder schema (natural_draft natural)
+      (λ tables. query_question query),
+  refl,
+)
 
-shown_asks_keys : (plain : PlainReading) (files : Files) (schema : Schema) (query : TypedTerm) → (next : Natural → Judgement) × (aim_judged plain files show_natural schema query ≡ read_then (natural_read plain schema query) next)
+shown_asks_keys : (plain : PlainReading) (files : Files) (schema : Schema) (query : TypedTerm)
+    → (next : Natural → Judgement)
+    × (aim_judged plain files show_natural schema query
+    ≡ read_then (natural_read plain schema query) next)
 unfolding aim_judged
 shown_asks_keys plain files schema query = (λ natural. at_once (keyed natural), refl)
 
@@ -352,21 +414,36 @@ aim_for None numbers = show_texts Showing.frames
 aim_for None keys = show_natural
 aim_for (Some folder) n = run_as n folder
 
-asks_keys_for : (plain : PlainReading) (files : Files) (folder : Option (List ℕ)) (n : Naming) → n ≡ keys → (schema : Schema) (query : TypedTerm)
-    → (next : Natural → Judgement) × (aim_judged plain files (aim_for folder n) schema query ≡ read_then (natural_read plain schema query) next)
+asks_keys_for : (plain : PlainReading) (files : Files) (folder : Option (List ℕ)) (n : Naming) → n
+    ≡ keys → (schema : Schema) (query : TypedTerm)
+    → (next : Natural → Judgement)
+    × (aim_judged plain files (aim_for folder n) schema query
+    ≡ read_then (natural_read plain schema query) next)
 asks_keys_for plain files None numbers by_keys schema query = absurd (cc)
 asks_keys_for plain files None keys by_keys schema query = shown_asks_keys plain files schema query
-asks_keys_for plain files (Some folder) n by_keys schema query = asks_keys_of plain files n folder by_keys schema query
+asks_keys_for plain files (Some folder) n by_keys schema query =
+    asks_keys_of plain files n folder by_keys schema query
 
-pub aims_at : (reading : Reading) (files : Files) (names : Names) → IsAimed reading files names (aim_for names.folder names.naming)
+pub aims_at : (reading : Reading) (files : Files) (names : Names)
+    → IsAimed reading files names (aim_for names.folder names.naming)
 aims_at reading files names = record {
   runs = λ folder is_run. ap (λ (f : Option (List ℕ)). aim_for f names.naming) is_run;
   asks_keys = asks_keys_for reading.plain files names.folder names.naming;
 }
 
 -- of texts that are shown in another way
-pub shows_at : (reading : Reading) (files : Files) (schema query : List ℕ) (showing : Showing) → IsAimed reading files (record { schema = schema; query = query; folder = None; naming = numbers }) (show_texts showing)
-shows_at reading files schema query showing = record { runs = λ folder is_run. absurd (cc); asks_keys = λ by_keys. absurd (cc) }
+pub shows_at : (reading : Reading) (files : Files) (schema query : List ℕ) (showing : Showing)
+    → IsAimed reading files (record {
+      schema = schema;
+      query = query;
+      folder = None;
+      naming =
+          numbers;
+    }) (show_texts showing)
+shows_at reading files schema query showing = record {
+  runs = λ folder is_run. absurd (cc);
+  asks_keys = λ by_keys. absurd (cc);
+}
 
 -- 3. they come to one of three
 
@@ -421,30 +498,49 @@ module _ (reading : Reading) (files : Files) (names : Names) where
       go (short text held) = spelled text held (reading.schemas.says text) (reading.schemas.right text) (reading.schemas.certain text)
 
   -- the tables have the keys that name bags, or one lacks it
-  keys_or_not : (accepted : Accepted files names) (n : Naming) → HasKeys n (Keyless files names accepted) ⊎ ((table : List ℕ) × LacksKey n (Keyless files names accepted) table)
+  keys_or_not : (accepted : Accepted files names) (n : Naming)
+      → HasKeys n (Keyless files names accepted) ⊎ ((table : List ℕ)
+      × LacksKey n (Keyless files names accepted) table)
   keys_or_not accepted numbers = inl tt
   keys_or_not accepted keys =
-      go (no_key accepted.given.over.schema.tables (normal_form accepted.given.over.schema.tables accepted.element (bare (reading.plain.says accepted.given.query)))) refl
+      go (no_key accepted.given.over.schema.tables
+      (normal_form accepted.given.over.schema.tables accepted.element
+      (bare (reading.plain.says accepted.given.query)))) refl
     where
-      found : (table : Option (List ℕ)) → no_key accepted.given.over.schema.tables (normal_form accepted.given.over.schema.tables accepted.element (bare (reading.plain.says accepted.given.query))) ≡ table → Keyless files names accepted table
+      found : (table : Option (List ℕ))
+          → no_key accepted.given.over.schema.tables
+          (normal_form accepted.given.over.schema.tables accepted.element
+          (bare (reading.plain.says accepted.given.query))) ≡ table
+          → Keyless files names accepted table
       found table is = record {
         plain = reading.plain.says accepted.given.query;
-        unfolds = reading.plain.right accepted.given.over.schema accepted.given.query (bag accepted.element) accepted.typed;
+        unfolds = reading.plain.right accepted.given.over.schema accepted.given.query
+            (bag accepted.element) accepted.typed;
         is = is;
       }
 
-      go : (table : Option (List ℕ)) → no_key accepted.given.over.schema.tables (normal_form accepted.given.over.schema.tables accepted.element (bare (reading.plain.says accepted.given.query))) ≡ table
-          → Keyless files names accepted None ⊎ ((table : List ℕ) × Keyless files names accepted (Some table))
+      go : (table : Option (List ℕ))
+          → no_key accepted.given.over.schema.tables
+          (normal_form accepted.given.over.schema.tables accepted.element
+          (bare (reading.plain.says accepted.given.query))) ≡ table
+          → Keyless files names accepted None ⊎ ((table : List ℕ)
+          × Keyless files names accepted (Some table))
       go None is = inl (found None is)
       go (Some table) is = inr (table, found (Some table) is)
 
   pub keyed_cases : names.naming ≡ keys → Cases files names (GivenKeys files names)
   keyed_cases by_keys = go accepted_cases
     where
-      keyed_or : (accepted : Accepted files names) → Keyless files names accepted None ⊎ ((table : List ℕ) × Keyless files names accepted (Some table)) → Cases files names (GivenKeys files names)
+      keyed_or : (accepted : Accepted files names)
+          → Keyless files names accepted None ⊎ ((table : List ℕ)
+          × Keyless files names accepted (Some table)) → Cases files names (GivenKeys files names)
       keyed_or accepted (inl has) = are_given (record { accepted = accepted; keyed = has })
       keyed_or accepted (inr (table, lacks)) =
-          are_refused (NoKey table) (accepted, subst (λ (n : Naming). LacksKey n (Keyless files names accepted) table) (sym by_keys) lacks)
+          are_refused (NoKey table) (
+            accepted,
+            subst (λ (n : Naming). LacksKey n (Keyless files names accepted) table) (sym by_keys)
+                lacks,
+          )
 
       go : Cases files names (Accepted files names) → Cases files names (GivenKeys files names)
       go (are_given accepted) = keyed_or accepted (keys_or_not accepted keys)
@@ -454,7 +550,9 @@ module _ (reading : Reading) (files : Files) (names : Names) where
   pub run_cases : (folder : List ℕ) → names.folder ≡ Some folder → Cases files names (GivenRun files names folder)
   run_cases folder is_run = go accepted_cases
     where
-      next_of : (accepted : Accepted files names) → HasKeys names.naming (Keyless files names accepted) → (stops : Stops files folder tables_limit accepted.given.over.schema.tables)
+      next_of : (accepted : Accepted files names)
+          → HasKeys names.naming (Keyless files names accepted)
+          → (stops : Stops files folder tables_limit accepted.given.over.schema.tables)
           → NextTable files names stops.shape (file_of folder stops.shape.name) (tables_limit - sum (map length stops.given.texts))
       next_of accepted has stops = record {
         accepted = accepted;
@@ -469,26 +567,47 @@ module _ (reading : Reading) (files : Files) (names : Names) where
         left = refl;
       }
 
-      stopped : (accepted : Accepted files names) → HasKeys names.naming (Keyless files names accepted) → (stops : Stops files folder tables_limit accepted.given.over.schema.tables)
+      stopped : (accepted : Accepted files names)
+          → HasKeys names.naming (Keyless files names accepted)
+          → (stops : Stops files folder tables_limit accepted.given.over.schema.tables)
           → (bytes_at files (file_of folder stops.shape.name) ≡ None)
           ⊎ (IsLonger (tables_limit - sum (map length stops.given.texts)) (bytes_at files (file_of folder stops.shape.name))
           ⊎ ((text : List ℕ) × HeldWithin files (file_of folder stops.shape.name) (tables_limit - sum (map length stops.given.texts)) text × (fault : TableFault) × HasTableFault stops.shape (records_of text) fault))
           → Cases files names (GivenRun files names folder)
       stopped accepted has stops (inl none_is) =
-          are_missing (file_of folder stops.shape.name) (tables_limit - sum (map length stops.given.texts)) (inr (inr (stops.shape, next_of accepted has stops))) none_is
+          are_missing (file_of folder stops.shape.name)
+          (tables_limit - sum (map length stops.given.texts))
+          (inr (inr (stops.shape, next_of accepted has stops))) none_is
       stopped accepted has stops (inr (inl longer)) =
-          are_refused (TooLong (file_of folder stops.shape.name) (tables_limit - sum (map length stops.given.texts))) (inr (inr (stops.shape, next_of accepted has stops)), longer)
+          are_refused (TooLong (file_of folder stops.shape.name)
+          (tables_limit - sum (map length stops.given.texts)))
+          (inr (inr (stops.shape, next_of accepted has stops)), longer)
       stopped accepted has stops (inr (inr (text, held, fault, wrong))) =
-          are_refused (TableRefused stops.shape.name fault)
-          (stops.shape, refl, file_of folder stops.shape.name, (tables_limit - sum (map length stops.given.texts)), next_of accepted has stops, (text, held, wrong))
+          are_refused (TableRefused stops.shape.name fault) (
+            stops.shape,
+            refl,
+            file_of folder stops.shape.name,
+            (tables_limit - sum (map length stops.given.texts)),
+            next_of accepted has stops,
+            (text, held, wrong),
+          )
 
-      tables : (accepted : Accepted files names) → HasKeys names.naming (Keyless files names accepted) → GivenTables files folder tables_limit accepted.given.over.schema.tables ⊎ Stops files folder tables_limit accepted.given.over.schema.tables
+      tables : (accepted : Accepted files names)
+          → HasKeys names.naming (Keyless files names accepted)
+          → GivenTables files folder tables_limit accepted.given.over.schema.tables ⊎ Stops files
+          folder tables_limit accepted.given.over.schema.tables
           → Cases files names (GivenRun files names folder)
-      tables accepted has (inl given) = are_given (record { accepted = accepted; keyed = has; tables = given })
+      tables accepted has (inl given) =
+          are_given (record { accepted = accepted; keyed = has; tables = given })
       tables accepted has (inr stops) = stopped accepted has stops stops.wrong
 
-      keyed_or : (accepted : Accepted files names) → HasKeys names.naming (Keyless files names accepted) ⊎ ((table : List ℕ) × LacksKey names.naming (Keyless files names accepted) table) → Cases files names (GivenRun files names folder)
-      keyed_or accepted (inl has) = tables accepted has (tables_or_stop files folder accepted.given.over.schema.tables tables_limit)
+      keyed_or : (accepted : Accepted files names)
+          → HasKeys names.naming (Keyless files names accepted) ⊎ ((table : List ℕ)
+          × LacksKey names.naming (Keyless files names accepted) table)
+          → Cases files names (GivenRun files names folder)
+      keyed_or accepted (inl has) =
+          tables accepted has (tables_or_stop files folder accepted.given.over.schema.tables
+          tables_limit)
       keyed_or accepted (inr (table, lacks)) = are_refused (NoKey table) (accepted, lacks)
 
       go : Cases files names (Accepted files names) → Cases files names (GivenRun files names folder)

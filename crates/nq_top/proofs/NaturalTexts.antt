@@ -1,6 +1,7 @@
 -- The texts of a query that name bags by keys: their draft, what is shown of them, and what the
 -- commands come to.
-use Rattle.std.proofs.Common.{◌≡◌, ℕ, zero, suc, List, [], ◌∷◌, Option, Some, None, Result, Ok, Err, IfSome, length, map, refl, sym, ap, ap₂, ◌∙◌, subst}
+use Rattle.std.proofs.Common.{◌≡◌, ℕ, zero, suc, List, [], ◌∷◌, Option, Some, None, Result, Ok, Err}
+use Rattle.std.proofs.Common.{IfSome, length, map, refl, sym, ap, ap₂, ◌∙◌, subst}
 use Rattle.std.proofs.lemmas.List.{length-map}
 use Rattle.nq_edge.specs.Edge.{Files}
 use Rattle.nq_model.specs.Numberings.{count_from}
@@ -11,8 +12,8 @@ use Rattle.nq_model.specs.Typing.{IsAccepted}
 use Rattle.nq_model.specs.declared.table.ColumnType.{ColumnType}
 use Rattle.nq_model.specs.declared.table.Schema.{Schema}
 use Rattle.nq_compile.specs.Shreds.{IsScopedText, StitchTo}
-use Rattle.nq_execute.specs.Keys.{keys_scheme}
-use Rattle.nq_execute.specs.Plans.{Finish, Indexes, Writing, ArePathsOf, AsksFor, columns_by}
+use Rattle.natural_keys.specs.Schemes.{keys_scheme}
+use Rattle.nq_execute.specs.Plans.{Finish, Indexes, Writing, ArePathsOf, AsksFor}
 use Rattle.nq_execute.proofs.Asks.{both_length}
 use Rattle.nq_ir.specs.Meanings.{EachBoth}
 use Rattle.nq_ir.specs.NormalForms.{element_type}
@@ -36,8 +37,10 @@ use Rattle.command_line.specs.declared.refusal.InputRefusal.TheVariants as input
 use Rattle.command_line.specs.declared.refusal.Refused.{Refused}
 use Rattle.command_line.specs.declared.refusal.Refused.TheVariants.{NoKey}
 use Rattle.nq_top.specs.Gathering.{Told}
-use Rattle.nq_top.specs.Judging.{Judgement, keyed, at_once, read_then, draft_judged, natural_judged, aim_judged}
-use Rattle.nq_top.specs.Natural.{Natural, ShowsNatural, StandsFor, keyed_as, natural_draft, natural_of, natural_read, natural_view}
+use Rattle.nq_top.specs.Judging.{Judgement, keyed, at_once, read_then, draft_judged, natural_judged}
+use Rattle.nq_top.specs.Judging.{aim_judged}
+use Rattle.nq_top.specs.Natural.{Natural, ShowsNatural, StandsFor, keyed_as, natural_draft}
+use Rattle.nq_top.specs.Natural.{natural_of, natural_read, natural_view}
 use Rattle.nq_top.specs.Plans.{Draft, CanServeOver, IsSoundOver, Question, question_to}
 use Rattle.nq_top.specs.Reading.{PlainReading, Reading, TypedTerm}
 use Rattle.nq_top.specs.Shown.{shown_form}

@@ -1,7 +1,10 @@
 -- Any two readings come to one judgement.
 use Rattle.std.proofs.Common.{◌≡◌, ◌+◌, ◌-◌, ℕ, List, [], ◌∷◌, ◌++◌, length, map, Some, None, Option, Result, Ok, Err, cond, nat_lt, refl, ap, subst, ◌∙◌}
 use Rattle.nq_edge.specs.Edge.{Files, bytes_at}
-use Rattle.command_line.specs.Commands.{Aim, run, run_natural, run_json, run_json_tables, stitch, stitch_json, check, show_types, show_normal, show_paths, show_natural, show_texts, Command, help, version, of_query, answer, generated, show_load}
+use Rattle.command_line.specs.Commands.{Aim, run, run_natural, run_json, run_json_tables, stitch}
+use Rattle.command_line.specs.Commands.{stitch_json, check, show_types, show_normal, show_paths}
+use Rattle.command_line.specs.Commands.{show_natural, show_texts, Command, help, version, of_query}
+use Rattle.command_line.specs.Commands.{answer, generated, show_load}
 use Rattle.command_line.specs.declared.refusal.Refused.{Refused}
 use Rattle.command_line.specs.declared.refusal.Refused.TheVariants.{TooLong, Query as QueryRefused, Schema as SchemaRefused}
 use Rattle.nq_model.specs.Terms.{PlacedTerm, bare}
@@ -19,7 +22,10 @@ use Rattle.nq_execute.specs.Plans.{Finish, Indexes, Writing}
 use Rattle.shred_types.specs.Columns.{columns_at}
 use Rattle.sql_profile.specs.declared.answer.Answer.{Answer}
 use Rattle.sql_profile.specs.declared.server.Loaded.{Loaded}
-use Rattle.nq_top.specs.Judging.{Judgement, Verdict, refused, planned, written, shown, keyed, linked, at_once, after, judged, fetched_then, read_then, text_then, loaded_as, tables_judged, answers_then, draft_judged, stitch_judged, aim_judged, judgement}
+use Rattle.nq_top.specs.Judging.{Judgement, Verdict, refused, planned, written, shown, keyed}
+use Rattle.nq_top.specs.Judging.{linked, at_once, after, judged, fetched_then, read_then, text_then}
+use Rattle.nq_top.specs.Judging.{loaded_as, tables_judged, answers_then, draft_judged}
+use Rattle.nq_top.specs.Judging.{stitch_judged, aim_judged, judgement}
 use Rattle.nq_top.specs.Limits.{text_limit, tables_limit}
 use Rattle.nq_top.specs.Lines.{file_by, answer_file_of}
 use Rattle.nq_top.specs.Natural.{Natural, keyed_as, natural_draft, natural_of, natural_read}
@@ -101,7 +107,8 @@ module _ (reading other : Reading) where
       ap Of (one_plain reading other schema term type accepted)
 
   -- and one list of texts by keys, or one table that lacks one
-  natural_same : (schema : Schema) (query : TypedTerm) → IsAccepted schema (bare query.term) query.type
+  natural_same : (schema : Schema) (query : TypedTerm)
+      → IsAccepted schema (bare query.term) query.type
       → natural_read reading.plain schema query ≡ natural_read other.plain schema query
   unfolding natural_read
   natural_same schema query accepted =
@@ -131,7 +138,9 @@ module _ (reading other : Reading) where
       tables_same files Csv folder schema.tables tables_limit [] _ _
       (λ tables. ap (λ (draft : Draft). planned (drafted draft tables) (question_to Writing.text query)) (draft_same Writing.text schema query.term query.type accepted))
   aim_same files (run_natural folder) schema query accepted =
-      ap (λ (given : Result Natural Refused). read_then given (λ natural. draft_judged files Csv folder schema (natural_draft natural) (λ tables. question_to Writing.text query)))
+      ap (λ (given : Result Natural Refused). read_then given
+      (λ natural. draft_judged files Csv folder schema (natural_draft natural)
+      (λ tables. question_to Writing.text query)))
       (natural_same schema query accepted)
   aim_same files (run_json folder) schema query accepted =
       tables_same files Csv folder schema.tables tables_limit [] _ _
@@ -147,7 +156,8 @@ module _ (reading other : Reading) where
       ap (λ (t : PlacedTerm). at_once (written (form_line (normal_form schema.tables (element_type query.type) (bare t))))) (one_plain reading other schema query.term query.type accepted)
   aim_same files show_paths schema query accepted = refl
   aim_same files show_natural schema query accepted =
-      ap (λ (given : Result Natural Refused). read_then given (λ natural. at_once (keyed natural))) (natural_same schema query accepted)
+      ap (λ (given : Result Natural Refused). read_then given (λ natural. at_once (keyed natural)))
+      (natural_same schema query accepted)
   aim_same files (show_texts showing) schema query accepted =
       ap (λ (t : PlacedTerm). at_once (shown showing (record {
         schema = schema;

@@ -97,7 +97,9 @@ both_rows P (t ∷ ts) [] h = absurd h
 both_rows P (t ∷ ts) (a ∷ answers) h = (h.0, both_rows P ts answers h.1)
 
 -- a text that is scoped over the schema may be asked over its tables
-pub asks_for : (schema : Schema) (tables : List Loaded) → shapes_of tables ≡ shapes_of_schema schema.tables → (types : List ColumnType) (text : List ℕ) → IsScopedText schema types text → AsksFor tables types text
+pub asks_for : (schema : Schema) (tables : List Loaded) → shapes_of tables
+    ≡ shapes_of_schema schema.tables → (types : List ColumnType) (text : List ℕ)
+    → IsScopedText schema types text → AsksFor tables types text
 asks_for schema tables shapes types text scoped = record {
   asked = record {
     tree = scoped.tree;
@@ -120,11 +122,13 @@ meant schema term type tables accepted =
     let reached = is_unfolding schema term type accepted in
     record { plain_term = unfolded term; unfolds = reached.unfolds; plain = reached.plain; is = refl }
 
-pub read_shapes : (schema : Schema) (tables : List Loaded) → AreReadFor schema.tables tables → shapes_of tables ≡ shapes_of_schema schema.tables
+pub read_shapes : (schema : Schema) (tables : List Loaded) → AreReadFor schema.tables tables
+    → shapes_of tables ≡ shapes_of_schema schema.tables
 read_shapes schema tables read =
     ap shapes_of read.is ∙ shapes_same schema.tables read.rows (as_many schema.tables read.rows read.stored)
 
-pub read_loadable : (schema : Schema) (tables : List Loaded) → IsProperSchema schema → AreReadFor schema.tables tables → CanLoad [] tables
+pub read_loadable : (schema : Schema) (tables : List Loaded) → IsProperSchema schema
+    → AreReadFor schema.tables tables → CanLoad [] tables
 read_loadable schema tables proper_schema read =
     subst (λ (ts : List Loaded). CanLoad [] ts) (sym read.is) (can_load schema proper_schema read.rows read.stored)
 

@@ -1,6 +1,7 @@
 -- The headline: what `run` and `show` of SQL texts come to, in the words of the grammars, the
 -- typing rules, the tables and the meaning.
-use Rattle.std.specs.Prelude.{◌≡◌, ◌≢◌, ◌≤◌, ◌-◌, ◌⊎◌, ⊤, ℕ, true, List, [], ◌∷◌, ◌++◌, codes, length, map, sum, zip, Option, Some, None, IfSome, Err}
+use Rattle.std.specs.Prelude.{◌≡◌, ◌≢◌, ◌≤◌, ◌-◌, ◌⊎◌, ⊤, ℕ, true, List, [], ◌∷◌, ◌++◌, codes}
+use Rattle.std.specs.Prelude.{length, map, sum, zip, Option, Some, None, IfSome, Err}
 use Rattle.std.specs.List.{AllZip}
 use Rattle.nq_model.specs.Canonical.{canonical_text}
 use Rattle.nq_model.specs.Databases.{database}
@@ -36,7 +37,10 @@ use Rattle.command_line.specs.Commands.{Showing, database_word}
 use Rattle.command_line.specs.Frames.{frames}
 use Rattle.command_line.specs.Refusals.{refused_status, refused_note}
 use Rattle.command_line.specs.declared.refusal.Refused.{Refused}
-use Rattle.command_line.specs.declared.refusal.Refused.TheVariants.{TooLong, Schema as SchemaRefused, Query as QueryRefused, IllTyped, NoKey, Table as TableRefused}
+use Rattle.command_line.specs.declared.refusal.Refused.TheVariants.{TooLong}
+use Rattle.command_line.specs.declared.refusal.Refused.TheVariants.{Schema as SchemaRefused}
+use Rattle.command_line.specs.declared.refusal.Refused.TheVariants.{Query as QueryRefused, IllTyped}
+use Rattle.command_line.specs.declared.refusal.Refused.TheVariants.{NoKey, Table as TableRefused}
 use Rattle.nq_top.specs.Limits.{text_limit, tables_limit, depth_limit}
 use Rattle.nq_top.specs.Lines.{file_of}
 use Rattle.nq_top.specs.Shown.{texts_by}

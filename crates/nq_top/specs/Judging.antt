@@ -11,7 +11,10 @@ use Rattle.database_scripts.specs.Loads.{load_text}
 use Rattle.shred_types.specs.Columns.{columns_at}
 use Rattle.sql_profile.specs.declared.answer.Answer.{Answer}
 use Rattle.sql_profile.specs.declared.server.Loaded.{Loaded}
-use Rattle.command_line.specs.Commands.{Showing, Aim, run, run_natural, run_json, run_json_tables, stitch, stitch_json, check, show_types, show_normal, show_paths, show_natural, show_texts, Command, help, version, of_query, answer, generated, show_load}
+use Rattle.command_line.specs.Commands.{Showing, Aim, run, run_natural, run_json, run_json_tables}
+use Rattle.command_line.specs.Commands.{stitch, stitch_json, check, show_types, show_normal}
+use Rattle.command_line.specs.Commands.{show_paths, show_natural, show_texts, Command, help}
+use Rattle.command_line.specs.Commands.{version, of_query, answer, generated, show_load}
 use Rattle.command_line.specs.Help.{help_text, version_text}
 use Rattle.command_line.specs.Paths.{paths_text}
 use Rattle.command_line.specs.declared.refusal.Refused.{Refused}

@@ -20,7 +20,7 @@ use Rattle.natural_compile.specs.declared.compiled.KeyedTexts.{KeyedTexts}
 use Rattle.command_line.specs.Frames.{frames}
 use Rattle.command_line.specs.declared.refusal.Refused.{Refused}
 use Rattle.command_line.specs.declared.refusal.Refused.TheVariants.{NoKey}
-use Rattle.nq_execute.specs.Keys.{keys_scheme}
+use Rattle.natural_keys.specs.Schemes.{keys_scheme}
 use Rattle.nq_execute.specs.Plans.{Finish, Indexes, Writing, columns_by}
 use Rattle.nq_top.specs.Plans.{Draft}
 use Rattle.nq_top.specs.Reading.{PlainReading, TypedTerm}

@@ -18,7 +18,8 @@ use Rattle.nq_execute.specs.Plans.{Plan, plan_view, IsServable}
 use Rattle.nq_execute.specs.declared.plan.Plan.{Plan as Asked}
 use Rattle.nq_top.specs.Foreign.{Stitches}
 use Rattle.nq_top.specs.Gathering.{Told, Judges, RefusalTells}
-use Rattle.nq_top.specs.Judging.{Judgement, Verdict, usage, missing, refused, written, shown, keyed, linked, planned}
+use Rattle.nq_top.specs.Judging.{Judgement, Verdict, usage, missing, refused, written, shown, keyed}
+use Rattle.nq_top.specs.Judging.{linked, planned}
 use Rattle.nq_top.specs.Natural.{ShowsNatural}
 use Rattle.nq_top.specs.Plans.{AreReadFor, Question, IsSound}
 use Rattle.nq_top.specs.Reading.{TypedTerm, SqlColumns, type_read}

@@ -14,7 +14,8 @@ use Rattle.nq_execute.specs.Serving.{ServerState, RefusalServes}
 use Rattle.nq_execute.specs.declared.refusal.ServerRefusal.{ServerRefusal}
 use Rattle.nq_top.specs.Foreign.{Stitches}
 use Rattle.nq_top.specs.Gathering.{Judges, RefusalTells}
-use Rattle.nq_top.specs.Judging.{Judgement, Verdict, usage, missing, refused, written, shown, keyed, linked, planned, judgement, held_for}
+use Rattle.nq_top.specs.Judging.{Judgement, Verdict, usage, missing, refused, written, shown, keyed}
+use Rattle.nq_top.specs.Judging.{linked, planned, judgement, held_for}
 use Rattle.nq_top.specs.Natural.{ShowsNatural}
 use Rattle.nq_top.specs.Plans.{Question}
 use Rattle.nq_top.specs.Reading.{Reading}

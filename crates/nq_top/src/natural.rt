@@ -1,7 +1,8 @@
 // The SQL texts that name bags by keys: what a server is asked, and what is shown.
-ghost use Rattle.std.specs.Prelude.{◌≡◌, IfOk, length};
+ghost use Rattle.std.specs.Prelude.{◌≡◌, IfOk};
 ghost use Rattle.nq_execute.specs.Plans.{text as canonical_way};
-ghost use Rattle.nq_top.specs.Natural.{ShowsNatural, StandsFor, natural_draft, natural_read, natural_view};
+ghost use Rattle.nq_top.specs.Natural.{ShowsNatural, StandsFor, natural_draft, natural_read};
+ghost use Rattle.nq_top.specs.Natural.{natural_view};
 ghost use Rattle.nq_top.specs.Plans.{CanServeOver, IsSoundOver, draft_view, question_to};
 ghost use Rattle.nq_top.specs.Reading.{PlainReading};
 ghost use Rattle.nq_top.specs.Steps.{IsQuery, MakesSays, ReadSays, typed_view};

@@ -99,7 +99,8 @@ const CASES: [Case; 35] = [
             "1 1 ;2 2 ;3 3 ;1 1 ;2 2 ;3 3 ;",
         ],
     },
-    // A sum as the key of the second source, and one that the first source gives, of a list with equal cells.
+    // A sum as the key of the second source, and one that the first source gives, of a list with
+    // equal cells.
     Case {
         text: r#"SELECT "x"."b" AS "b", "y"."b" AS "c" FROM "t" AS "x", "t" AS "y" WHERE ("x"."a" = ("y"."b" + 4))"#,
         answers: ["1 1 ;2 2 ;3 1 ;", "3 1 ;2 2 ;1 1 ;"],

@@ -30,8 +30,8 @@ rows_with_numbers schema tables =
     rows_in (database (numbered_schema schema).tables (numbered_tables tables))
 
 -- over the tables with numbers, the normal form of a term has the traced meaning of the term
-abbrev pub FormsTellTraces : Type 0
-FormsTellTraces =
+abbrev pub FormsHaveTraces : Type 0
+FormsHaveTraces =
     (schema : Schema) (element : TypeTree) (term : TermTree)
     → IsProperSchema schema → HasNoNumbers schema
     → IsPlainTerm term → IsProperTerm term → IsClosed term

@@ -6,7 +6,7 @@ ghost use Rattle.nq_model.specs.Canonical.{value_cmp};
 ghost use Rattle.nq_model.specs.Values.{Nested, Same};
 ghost use Rattle.traced_meaning.specs.Laws.{
   ErasesToMeaning,
-  FormsTellTraces,
+  FormsHaveTraces,
   NumberedSchemasAreProper,
   NumberedTablesFit,
 };
@@ -36,7 +36,7 @@ pub fn element_laws()
 /// their rows in a column more, which are tables of the schema with that column.
 pub fn trace_laws()
     ensures erases { ErasesToMeaning }
-    ensures forms { FormsTellTraces }
+    ensures forms { FormsHaveTraces }
     ensures proper { NumberedSchemasAreProper }
     ensures fit { NumberedTablesFit }
 {}

@@ -10,7 +10,9 @@ pub returns-in-IllScoped : goal.returns-in-IllScoped
 returns-in-IllScoped g c = rw c.in-IllScoped.is c.put_rule-in-IllScoped.ensures
 
 pub returns-in-NoKey : goal.returns-in-NoKey
-returns-in-NoKey g c = rw c.in-NoKey.is (rw c.as_str-in-NoKey.ensures.value at (rw c.as_bytes-in-NoKey.ensures.value at c.put_no_key.ensures))
+returns-in-NoKey g c =
+    rw c.in-NoKey.is (rw c.as_str-in-NoKey.ensures.value at
+    (rw c.as_bytes-in-NoKey.ensures.value at c.put_no_key.ensures))
 
 pub returns-in-Answer : goal.returns-in-Answer
 returns-in-Answer g c = rw c.in-Answer.is c.put_answer.ensures

@@ -1,6 +1,7 @@
 use Rattle.std.proofs.Common.{◌≡◌, List, map, ap, ap₂, sym, ◌∙◌}
 use Rattle.nq_ir.proofs.Forms.{body_rec, body_bag, form_is}
-use Rattle.nq_ir.specs.Trees.{BodyTree, FormTree, CompPart, body_tree, bodies_of, comps_of, comp_part}
+use Rattle.nq_ir.specs.Trees.{BodyTree, FormTree, CompPart, body_tree, bodies_of, comps_of}
+use Rattle.nq_ir.specs.Trees.{comp_part}
 use Rattle.nq_ir.specs.declared.normal.Body.{Body}
 use Rattle.nq_ir.specs.declared.normal.Comp.{Comp}
 use Rattle.nq_ir.specs.declared.normal.Normal.{roll-Normal, out-Normal}
@@ -42,7 +43,8 @@ body_traced-returns-in_ok-comps_traced-in-Bag t c =
     let listed : map comp_part c.in_ok-comps_traced-in-Bag.field-0
     ≡ map (part_traced (width here) (inside here)) (map comp_part parts) =
     c.in_ok-comps_traced-in-Bag.ensures
-    ∙ ap₂ (λ n (h : List BodyTree). map (part_traced n h) (map comp_part c.as_slice-in-Bag-2.result.now))
+    ∙ ap₂ (λ n (h : List BodyTree). map (part_traced n h)
+    (map comp_part c.as_slice-in-Bag-2.result.now))
     c.width-count.ensures again
     ∙ ap (λ (ps : List Comp). map (part_traced (width here) (inside here)) (map comp_part ps))
     c.as_slice-in-Bag-2.ensures in
@@ -52,5 +54,6 @@ body_traced-returns-in_ok-comps_traced-in-Bag t c =
     ∙ ap₂ (λ (y : TypeTree) (l : List CompPart). BodyTree.bag_body y (comps_of l)) element listed
     ∙ ap (BodyTree.bag_body (with_numbers (width here) (type_traced (inside here) of)))
     (sym (comps_listed (width here) (inside here) (map comp_part parts)))
-    ∙ ap (λ (z : FormTree). body_traced here (BodyTree.bag_body z.element z.comps)) (sym (form_is bag))
+    ∙ ap (λ (z : FormTree). body_traced here (BodyTree.bag_body z.element z.comps))
+    (sym (form_is bag))
     ∙ sym (ap (body_traced here) (ap body_tree c.in-Bag.is ∙ body_bag bag))

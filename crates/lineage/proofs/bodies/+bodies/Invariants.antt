@@ -11,4 +11,5 @@ invariant-bodies_traced-loop-field l =
 
 abbrev pub invariant-comps_traced-loop-comp : goal.invariant-comps_traced-loop-comp
 invariant-comps_traced-loop-comp l =
-    map comp_part l.made ≡ map (part_traced l.count (lent l.here)) (map comp_part (take l.comp-index l.comps))
+    map comp_part l.made ≡ map (part_traced l.count (lent l.here))
+    (map comp_part (take l.comp-index l.comps))

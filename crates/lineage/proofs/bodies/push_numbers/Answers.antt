@@ -1,4 +1,5 @@
-use Rattle.std.proofs.Common.{◌≡◌, ◌++◌, ◌+◌, ◌-◌, ◌∷◌, [], List, ap, ap₂, ◌∙◌, subst, arith, drop, slice_get}
+use Rattle.std.proofs.Common.{◌≡◌, ◌++◌, ◌+◌, ◌-◌, ◌∷◌, [], List, ap, ap₂, ◌∙◌, subst, arith, drop}
+use Rattle.std.proofs.Common.{slice_get}
 use Rattle.std.proofs.lemmas.List.{map-append}
 use Rattle.nq_ir.specs.Trees.{BodyTree, body_tree}
 use Rattle.nq_ir.specs.declared.normal.Body.{Body}

@@ -35,7 +35,8 @@ decoded-returns-in_ok-elements-in-Bag t c =
     ∙ ap bag_of (c.in_ok-elements-in-Bag.ensures
     ∙ ap₂ (λ (x : List ℕ) (y : List BodyTree). map (decoded_element es x y)
     (map nested c.as_slice-elements.result.now)) tags inner
-    ∙ ap (λ (vs : List Value). map (decoded_element es (tags_in here) (under whole_label (inside here)))
+    ∙ ap (λ (vs : List Value). map
+    (decoded_element es (tags_in here) (under whole_label (inside here)))
     (map nested vs)) c.as_slice-elements.ensures)
     ∙ sym (decoded_bag es here (map nested c.in-Bag.elements))
     ∙ sym (ap (decoded es here) (ap nested c.in-Bag.is ∙ nested_bag c.in-Bag.elements))

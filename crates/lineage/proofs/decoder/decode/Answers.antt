@@ -35,13 +35,15 @@ returns-clause-value c =
     ∙ ap (under whole_label) (ap lent c.as_slice.ensures.value ∙ bodies) in
     traced_bag c.in_ok-elements.elements
     ∙ ap bag_of (c.in_ok-elements.ensures
-    ∙ ap (λ (x : ByTag). map (decoded_element x c.as_slice-2.result.now (lent c.as_slice-3.result.now))
+    ∙ ap (λ (x : ByTag). map
+    (decoded_element x c.as_slice-2.result.now (lent c.as_slice-3.result.now))
     (map nested c.elements_in-elements.result.now)) c.as_slice-tables.ensures
     ∙ ap₂ (λ (x : List ℕ) (y : List BodyTree). map (decoded_element es x y)
     (map nested c.elements_in-elements.result.now)) (c.as_slice-2.ensures.value ∙ tags) inner
     ∙ ap (map (decoded_element es (own_tags cs) (under whole_label (own_bodies cs))))
     c.elements_in-elements.ensures)
-    ∙ ap Nested.bag (sym (elements_listed es (own_tags cs) (under whole_label (own_bodies cs)) (elements_in v)))
+    ∙ ap Nested.bag (sym (elements_listed es (own_tags cs) (under whole_label (own_bodies cs))
+    (elements_in v)))
 
 pub returns-clause-meaning : goal.returns-clause-meaning
 returns-clause-meaning c schema of ts w normal tables s =

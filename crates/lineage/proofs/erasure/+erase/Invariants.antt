@@ -6,7 +6,8 @@ use Rattle.lineage.proofs.erasure.+erase.Given as goal
 
 abbrev pub invariant-erase_fields-loop-field : goal.invariant-erase_fields-loop-field
 invariant-erase_fields-loop-field l =
-    fields_view l.values ≡ map (λ f. (f.0, erased f.1)) (traced_fields (take l.field-index l.fields))
+    fields_view l.values ≡ map (λ f. (f.0, erased f.1))
+    (traced_fields (take l.field-index l.fields))
 
 abbrev pub invariant-erase_elements-loop-element : goal.invariant-erase_elements-loop-element
 invariant-erase_elements-loop-element l =

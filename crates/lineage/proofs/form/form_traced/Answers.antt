@@ -20,8 +20,10 @@ returns c =
     ∙ ap (λ v. lent v ++ own_bodies (comps_of (map comp_part c.as_slice-comps.result.now)))
     c.new-inner.ensures.items
     ∙ ap (λ (ps : List Comp). own_bodies (comps_of (map comp_part ps))) c.as_slice-comps.ensures in
-    let first : lent c.as_slice.result.now ≡ own_bodies cs = ap lent c.as_slice.ensures.value ∙ all in
-    let again : lent c.as_slice-2.result.now ≡ own_bodies cs = ap lent c.as_slice-2.ensures.value ∙ all in
+    let first : lent c.as_slice.result.now ≡ own_bodies cs = ap lent c.as_slice.ensures.value
+    ∙ all in
+    let again : lent c.as_slice-2.result.now ≡ own_bodies cs = ap lent c.as_slice-2.ensures.value
+    ∙ all in
     let count : c.most_gens-count.result ≡ most_gens cs = c.most_gens-count.ensures
     ∙ ap (λ (ps : List Comp). most_gens (comps_of (map comp_part ps))) c.as_slice-comps.ensures in
     let element : type_tree c.in_ok-with_numbers.field-0
@@ -31,7 +33,8 @@ returns c =
     let listed : map comp_part c.in_ok-comps_traced.field-0
     ≡ map (part_traced (most_gens cs) (own_bodies cs)) (map comp_part parts) =
     c.in_ok-comps_traced.ensures
-    ∙ ap₂ (λ n (h : List BodyTree). map (part_traced n h) (map comp_part c.as_slice-comps.result.now))
+    ∙ ap₂ (λ n (h : List BodyTree). map (part_traced n h)
+    (map comp_part c.as_slice-comps.result.now))
     count again
     ∙ ap (λ (ps : List Comp). map (part_traced (most_gens cs) (own_bodies cs)) (map comp_part ps))
     c.as_slice-comps.ensures in

@@ -1,4 +1,5 @@
-use Rattle.std.proofs.Common.{◌≡◌, ◌≢◌, ◌<◌, All, length, take, get_or, List, refl, sym, ap, ◌∙◌, subst, arith}
+use Rattle.std.proofs.Common.{◌≡◌, ◌≢◌, ◌<◌, All, length, take, get_or, List, refl, sym, ap, ◌∙◌}
+use Rattle.std.proofs.Common.{subst, arith}
 use Rattle.std.proofs.lemmas.List.{take_all}
 use Rattle.std.proofs.lemmas.List.Elements.{All-more}
 use Rattle.nq_model.specs.Tables.{Columns}
@@ -42,6 +43,7 @@ returns c =
     let items = c.as_slice-shape-items.result.now in
     let i = c.loop-shape.shape-index in
     let all : take i items ≡ items = take_all i items (omega (arith, c.loop-shape-test.false)) in (
-      λ e. subst (All HasFree) c.as_slice-shape-items.ensures (subst (All HasFree) all c.loop-shape.invariant),
+      λ e. subst (All HasFree) c.as_slice-shape-items.ensures
+          (subst (All HasFree) all c.loop-shape.invariant),
       λ h. refl,
     )

@@ -5,5 +5,6 @@ use Rattle.lineage.proofs.places.push_field.Given as goal
 
 abbrev pub invariant-loop-field : goal.invariant-loop-field
 invariant-loop-field l =
-    (l.found ≡ l.initial.found) × (field_body l.label (bodies_of (bodies_view (drop l.field-index l.fields)))
+    (l.found ≡ l.initial.found)
+    × (field_body l.label (bodies_of (bodies_view (drop l.field-index l.fields)))
     ≡ field_body l.label (bodies_of (bodies_view l.fields)))

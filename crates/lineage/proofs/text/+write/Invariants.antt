@@ -10,5 +10,6 @@ invariant-write_fields-loop-place l =
 
 abbrev pub invariant-write_elements-loop-place : goal.invariant-write_elements-loop-place
 invariant-write_elements-loop-place l =
-    string_bytes l.text ++ elements_written l.place (elements_of (map nested (drop l.place l.elements)))
+    string_bytes l.text ++ elements_written l.place
+    (elements_of (map nested (drop l.place l.elements)))
     ≡ string_bytes l.initial.text ++ elements_written 0 (elements_of (map nested l.elements))

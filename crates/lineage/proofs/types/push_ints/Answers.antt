@@ -19,9 +19,13 @@ loop-place-preserved c =
     let new : fields_view c.push.new.self.items
     ≡ fields_view before ++ (row_label (k + 1), int) ∷ [] =
     ap fields_view c.in_ok-push.ensures.items
-    ∙ map-append (λ (f : Label × Ty). (f.0, type_tree f.1)) before ((c.in_ok-row_label.field-0, ty.Int) ∷ [])
+    ∙ map-append (λ (f : Label × Ty). (f.0, type_tree f.1)) before ((
+      c.in_ok-row_label.field-0,
+      ty.Int,
+    ) ∷ [])
     ∙ ap₂ (λ (l : Label) (a : TypeTree). fields_view before ++ (l, a) ∷ [])
     c.in_ok-row_label.ensures type_int in
-    pushed (fields_view before) (fields_view c.push.new.self.items) all k int (ints (n - (k + 1))) new
+    pushed (fields_view before) (fields_view c.push.new.self.items) all k int (ints (n - (k + 1)))
+    new
     (subst (λ (rs : List TypeTree). fields_view before ++ row_fields (k + 1) rs [] ≡ all)
     (ints_step n k (omega (arith, c.loop-place-test.true))) c.loop-place.invariant)

@@ -13,7 +13,8 @@ returns c =
     type_of_record c.in_ok-in_label_order.field-0
     ∙ ap (λ (fs : List (Label × TypeTree)). TypeTree.rec (field_types_of fs))
     (ap fields_view c.in_ok-in_label_order.ensures
-    ∙ element_built type_tree c.in_ok-from_str.field-0 c.in_ok-from_str-2.field-0 ty.Int c.args.value
+    ∙ element_built type_tree c.in_ok-from_str.field-0 c.in_ok-from_str-2.field-0 ty.Int
+    c.args.value
     (ints c.args.count) c.new-fields.result.items c.push.new.self.items c.push_ints.new.fields.items
     c.push-2.new.self.items c.new-fields.ensures.items c.in_ok-from_str.ensures
     c.in_ok-from_str-2.ensures c.in_ok-push.ensures.items c.in_ok-push_ints.ensures

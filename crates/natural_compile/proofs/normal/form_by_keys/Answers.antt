@@ -1,9 +1,5 @@
-use Rattle.std.proofs.Common.{◌≡◌, ◌∙◌, map}
-use Rattle.nq_model.specs.Numberings.{count_from}
-use Rattle.nq_model.specs.Types.{bag, type_tree}
-use Rattle.nq_ir.specs.Parts.{bags}
-use Rattle.nq_ir.specs.Trees.{FormTree, form_tree}
-use Rattle.natural_keys.specs.NaturalKeys.{natural_keys}
+use Rattle.nq_model.specs.Types.{type_tree}
+use Rattle.nq_ir.specs.Trees.{form_tree}
 use Rattle.natural_compile.proofs.Columns.{columns_are, form_read, form_scoped, within}
 use Rattle.natural_compile.proofs.normal.form_by_keys.Goals as goal
 

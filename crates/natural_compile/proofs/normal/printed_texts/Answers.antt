@@ -1,6 +1,7 @@
 use Rattle.std.proofs.Common.{◌≡◌, ◌<◌, length, get_or, rules}
 use Rattle.sql_profile.specs.Trees.{sql_tree}
-use Rattle.natural_compile.proofs.Printing.{printed_all, printed_more, spellable_at, spelled_all, spelled_more, spells_tree}
+use Rattle.natural_compile.proofs.Printing.{printed_all, printed_more, spellable_at, spelled_all}
+use Rattle.natural_compile.proofs.Printing.{spelled_more, spells_tree}
 use Rattle.natural_compile.proofs.normal.printed_texts.Goals as goal
 
 pub loop-text-preserved : goal.loop-text-preserved

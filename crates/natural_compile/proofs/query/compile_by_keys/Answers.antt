@@ -1,4 +1,4 @@
-use Rattle.std.proofs.Common.{◌≡◌, ℕ, List, None, ◌∙◌, map, sym, ap, ap₂, subst}
+use Rattle.std.proofs.Common.{◌≡◌, None, ◌∙◌, map, sym, ap₂, subst}
 use Rattle.std.proofs.lemmas.Result.{IfErr-weaker, IfOk-weaker}
 use Rattle.nq_model.specs.Numberings.{count_from}
 use Rattle.nq_model.specs.QueryMeaning.{Means}
@@ -7,7 +7,7 @@ use Rattle.nq_model.specs.Types.{TypeTree, bag, type_tree}
 use Rattle.nq_model.specs.Typing.{IsAccepted}
 use Rattle.nq_compile.specs.Reading.{SchemeReads}
 use Rattle.nq_compile.specs.Shreds.{StitchTo}
-use Rattle.nq_ir.specs.Parts.{bags, element_types}
+use Rattle.nq_ir.specs.Parts.{bags}
 use Rattle.nq_ir.specs.Trees.{FormTree, form_tree}
 use Rattle.stitcher.specs.Schemes.{Scheme}
 use Rattle.natural_keys.specs.NaturalKeys.{natural_keys}

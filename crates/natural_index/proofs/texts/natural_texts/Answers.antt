@@ -1,9 +1,9 @@
-use Rattle.std.proofs.Common.{◌≡◌, ℕ, List, None, Some, map, refl, sym, ap, ◌∙◌, subst, length, flat_map, Option}
-use Rattle.nq_model.specs.Types.{TypeTree, bag, type_tree}
+use Rattle.std.proofs.Common.{◌≡◌, List, None, Some, map, refl, sym, ap, ◌∙◌, subst, length}
+use Rattle.std.proofs.Common.{flat_map}
+use Rattle.nq_model.specs.Types.{TypeTree, type_tree}
 use Rattle.nq_model.proofs.Numberings.{length_map}
 use Rattle.nq_ir.specs.Shredded.{ShreddedTree, shredded_tree}
 use Rattle.nq_ir.specs.Trees.{FormTree, form_tree}
-use Rattle.nq_ir.specs.declared.base.Gen.{Gen}
 use Rattle.nq_ir.specs.declared.shredded.Shredded.{Shredded}
 use Rattle.sql_profile.specs.Trees.{SqlTree, sql_tree}
 use Rattle.stitcher.specs.Linked.{homes}

@@ -1,4 +1,4 @@
-use Rattle.std.proofs.Common.{◌≡◌, ℕ, ◌<◌, get_or, refl, ◌∙◌, length}
+use Rattle.std.proofs.Common.{ℕ, ◌<◌, get_or, refl, ◌∙◌, length}
 use Rattle.sql_profile.specs.Trees.{sql_tree}
 use Rattle.stitcher.specs.Schemes.{element_of}
 use Rattle.natural_keys.specs.Layouts.{layout_at}

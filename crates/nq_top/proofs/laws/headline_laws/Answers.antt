@@ -1,4 +1,5 @@
-use Rattle.nq_top.proofs.HeadlineCases.{accepted_or_not, given_or_not, keyed_or_not, one_refusal, refused_or_missing, given_not_refused}
+use Rattle.nq_top.proofs.HeadlineCases.{accepted_or_not, given_or_not, keyed_or_not, one_refusal}
+use Rattle.nq_top.proofs.HeadlineCases.{refused_or_missing, given_not_refused}
 use Rattle.nq_top.proofs.laws.headline_laws.Goals as goal
 
 pub returns : goal.returns
