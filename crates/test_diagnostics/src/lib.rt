@@ -6,6 +6,8 @@ mod excerpts;
 #[cfg(test)]
 mod expected;
 #[cfg(test)]
+mod explained;
+#[cfg(test)]
 mod places;
 #[cfg(test)]
 mod rules;

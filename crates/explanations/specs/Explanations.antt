@@ -1,0 +1,158 @@
+-- The explanation of a fault: what is said of its place, the line of the place with a caret under
+-- it, and then lines that tell more.
+use Rattle.std.specs.Prelude.{◌≡◌, ℕ, ◌≤◌, ⊤, if◌then◌else◌, List, ◌++◌, map, codes, ◌⊎◌}
+use Rattle.std.specs.Prelude.{slice_get, Option, Some, None, Result, Ok, Err}
+use Rattle.std.specs.Fmt.{decimal}
+use Rattle.nq_model.specs.OpenLists.{Fault}
+use Rattle.nq_model.specs.QueryTexts.{EndsOpen, HasTokens}
+use Rattle.nq_model.specs.QueryTokens.{Token}
+use Rattle.nq_model.specs.declared.memory.Memory.{Memory}
+use Rattle.nq_model.specs.declared.table.Schema.{Schema}
+use Rattle.schema_reader.specs.declared.fault.SchemaFault.{SchemaFault}
+use Rattle.schema_reader.specs.declared.fault.SchemaFault.TheVariants as reader
+use Rattle.query_syntax.specs.declared.fault.SyntaxFault.{SyntaxFault}
+use Rattle.query_syntax.specs.declared.fault.SyntaxFault.TheVariants as code
+use Rattle.query_syntax.specs.Symbols.{token_view}
+use Rattle.query_syntax.specs.declared.symbol.Token.{Token as Tokens}
+use Rattle.expected_tokens.specs.Expected.{Expects}
+use Rattle.expected_tokens.specs.declared.kinds.TokenKind.{TokenKind}
+use Rattle.diagnostics.specs.Excerpts.{excerpt_text}
+use Rattle.diagnostics.specs.Sentences.{schema_sentence, query_sentence}
+use Rattle.diagnostics.specs.TypingRules.{typing_number, typing_asks, typing_right}
+use Rattle.diagnostics.specs.declared.sentences.SchemaFaultKind.TheVariants as schema
+use Rattle.diagnostics.specs.declared.sentences.QueryFaultKind.{QueryFaultKind}
+use Rattle.diagnostics.specs.declared.sentences.QueryFaultKind.TheVariants as query
+use Rattle.diagnostics.specs.declared.typing_rules.TypingRule.{TypingRule}
+use Rattle.diagnostics.specs.declared.typing_rules.TypingRule.TheVariants as rule
+use Rattle.explanations.specs.Groups.{names}
+use Rattle.explanations.specs.Lists.{among, listed}
+use Rattle.explanations.specs.Sentences.{token_sentence, stop_sentence, name_sentence}
+use Rattle.explanations.specs.Words.{Around, around, kind_words}
+
+-- the names of the tables, in the order of the schema
+abbrev pub table_names : Schema → List (List ℕ)
+table_names schema = map (λ shape. shape.name) schema.tables
+
+-- 1. lines that tell more
+
+-- the words of the token at the place
+unfoldable pub found_line : List ℕ → List ℕ
+found_line found = codes "found: " ++ (found ++ codes "\n")
+
+-- the names of the kinds of tokens with which a query could have gone on
+unfoldable pub expected_line : List (List ℕ) → List ℕ
+expected_line expected =
+    codes "expected: " ++ (listed (codes " or ") (names expected) ++ codes "\n")
+
+-- the tables of the schema
+unfoldable pub tables_line : List (List ℕ) → List ℕ
+tables_line tables = codes "tables: " ++ (listed (codes " and ") tables ++ codes "\n")
+
+-- what to write for the name of a table
+unfoldable pub table_line : List ℕ → List ℕ
+table_line name = codes "write: table " ++ (name ++ codes "\n")
+
+-- the number of a typing rule, and a query that keeps it
+unfoldable pub rule_line : TypingRule → List ℕ
+rule_line broken =
+    codes "rule: " ++ (decimal (typing_number broken)
+    ++ (codes ", kept by: " ++ (typing_right broken ++ codes "\n")))
+
+-- 2. faults of queries
+
+-- where the text ceases to be a query
+unfoldable pub stopped_text : QueryFaultKind → List ℕ → List ℕ → ℕ → Around → List (List ℕ)
+    → List ℕ
+stopped_text kind file text place there expected =
+    excerpt_text file text place (stop_sentence kind there expected)
+    ++ (found_line there.found ++ expected_line expected)
+
+-- of a name that no variable has
+abbrev pub name_line : List (List ℕ) → List ℕ → List ℕ
+name_line tables name = if among tables name then table_line name else tables_line tables
+
+unfoldable pub unbound_text : List ℕ → List ℕ → ℕ → List (List ℕ) → List ℕ → List ℕ
+unbound_text file text place tables name =
+    excerpt_text file text place (name_sentence tables name) ++ name_line tables name
+
+-- of a typing rule; where it is that of tables, with those of the schema
+abbrev pub rule_lines : TypingRule → List (List ℕ) → List ℕ
+rule_lines rule.Table tables = tables_line tables
+rule_lines broken tables = rule_line broken
+
+unfoldable pub broken_text : List ℕ → List ℕ → ℕ → List (List ℕ) → TypingRule → List ℕ
+broken_text file text place tables broken =
+    excerpt_text file text place (typing_asks broken) ++ rule_lines broken tables
+
+-- 3. what is explained
+
+-- Of a text that ceases to be a query of this depth at a place: its tokens, and just the kinds of
+-- tokens with which a query could have gone on there.
+pub record Stopped (d : ℕ) (kind : QueryFaultKind) (file text : List ℕ) (place : ℕ) (made : List ℕ)
+    : Type 0 where
+  pub tokens : List Token
+  pub cut : HasTokens text tokens
+  pub kinds : List TokenKind
+  pub expects : Expects d tokens kinds
+  pub is : made ≡ stopped_text kind file text place (around place tokens) (map kind_words kinds)
+
+-- the same, where the text does cease to be one there
+abbrev pub ExplainsStop : ℕ → QueryFaultKind → List ℕ → List ℕ → ℕ → List ℕ → Type 0
+ExplainsStop d kind file text place made =
+    (fault : Fault) → EndsOpen d text fault place → Stopped d kind file text place made
+
+-- of a name of a text that has tokens
+abbrev pub ExplainsName : List ℕ → List ℕ → ℕ → List (List ℕ) → List ℕ → Type 0
+ExplainsName file text place tables made =
+    (tokens : List Token) → HasTokens text tokens
+    → made ≡ unbound_text file text place tables (around place tokens).found
+
+-- the tokens of a text, if it has any; want of memory is free
+abbrev pub TokensIn : Result (Option (List Tokens)) Memory → List ℕ → Type 0
+TokensIn (Ok (Some tokens)) text = HasTokens text (map token_view tokens)
+TokensIn (Ok None) text = (tokens : List Token) → HasTokens text tokens → ⊥
+TokensIn (Err e) text = ⊤
+
+-- the explanation of a fault of a query of this depth, over a schema with these tables; want of
+-- memory has none
+abbrev pub ExplainsSyntax : ℕ → List ℕ → List ℕ → List (List ℕ) → SyntaxFault → List ℕ → Type 0
+ExplainsSyntax d file text tables code.Memory made = ⊥
+ExplainsSyntax d file text tables (code.NotUtf8 place) made =
+    made ≡ excerpt_text file text place (query_sentence query.NotUtf8)
+ExplainsSyntax d file text tables (code.Token place) made =
+    made ≡ excerpt_text file text place (token_sentence (slice_get text place))
+ExplainsSyntax d file text tables (code.IntRange place) made =
+    made ≡ excerpt_text file text place (query_sentence query.IntRange)
+ExplainsSyntax d file text tables (code.Unexpected place) made =
+    ExplainsStop d query.Unexpected file text place made
+ExplainsSyntax d file text tables (code.Deep place) made =
+    ExplainsStop d query.Deep file text place made
+ExplainsSyntax d file text tables (code.Unbound place) made =
+    ExplainsName file text place tables made
+ExplainsSyntax d file text tables (code.TwiceLabel place) made =
+    made ≡ excerpt_text file text place (query_sentence query.TwiceLabel)
+
+-- the explanation of a broken typing rule, if the number is that of one
+abbrev pub ExplainsType : List ℕ → List ℕ → ℕ → List (List ℕ) → ℕ → List ℕ → Type 0
+ExplainsType file text place tables number made =
+    ((broken : TypingRule) × (typing_number broken ≡ number)
+    × (made ≡ broken_text file text place tables broken))
+    ⊎ (1 ≤ number → 26 ≤ number)
+
+-- the explanation of a fault of a schema; want of memory has none
+abbrev pub ExplainsSchema : List ℕ → List ℕ → SchemaFault → List ℕ → Type 0
+ExplainsSchema file text reader.Memory made = ⊥
+ExplainsSchema file text (reader.NotUtf8 place) made =
+    made ≡ excerpt_text file text place (schema_sentence schema.NotUtf8)
+ExplainsSchema file text (reader.Syntax place) made =
+    made ≡ excerpt_text file text place (schema_sentence schema.Syntax)
+ExplainsSchema file text (reader.TwiceTable place) made =
+    made ≡ excerpt_text file text place (schema_sentence schema.TwiceTable)
+ExplainsSchema file text (reader.TwiceColumn place) made =
+    made ≡ excerpt_text file text place (schema_sentence schema.TwiceColumn)
+ExplainsSchema file text (reader.NoColumn place) made =
+    made ≡ excerpt_text file text place (schema_sentence schema.NoColumn)
+ExplainsSchema file text (reader.KeyColumn place) made =
+    made ≡ excerpt_text file text place (schema_sentence schema.KeyColumn)
+ExplainsSchema file text (reader.OverLimit place) made =
+    made ≡ excerpt_text file text place (schema_sentence schema.OverLimit)

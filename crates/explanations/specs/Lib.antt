@@ -1,0 +1,6 @@
+pub mod Words
+pub mod Lists
+pub mod Groups
+pub mod Hints
+pub mod Sentences
+pub mod Explanations

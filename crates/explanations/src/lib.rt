@@ -1,0 +1,14 @@
+//! Explanations of faults of schemas and queries, for a person who knows SQL: the place, the line
+//! with a caret, and what could stand there.
+#![tactic(auto)]
+
+mod faults;
+mod groups;
+mod hints;
+mod lines;
+mod lists;
+mod sentences;
+mod stops;
+mod words;
+
+pub use faults::{explain_schema, explain_syntax, explain_type};
