@@ -1,5 +1,6 @@
 -- Pieces that are put behind one another.
-use Rattle.std.proofs.Common.{◌≡◌, ℕ, List, ◌++◌, Result, Ok, Err, OnOk, IfOk, ap, ◌∙◌, append_assoc}
+use Rattle.std.proofs.Common.{◌≡◌, ℕ, List, ◌++◌, Result, Ok, Err, OnOk, IfOk, ap, ◌∙◌}
+use Rattle.std.proofs.Common.{append_assoc}
 
 -- what follows of a success
 pub on_ok : {A E P Q : Type 0} (r : Result A E) → (P → Q) → OnOk r P → OnOk r Q

@@ -132,12 +132,16 @@ ExplainsSyntax d file text tables (code.Unbound place) made =
 ExplainsSyntax d file text tables (code.TwiceLabel place) made =
     made ≡ excerpt_text file text place (query_sentence query.TwiceLabel)
 
--- the explanation of a broken typing rule, if the number is that of one
+-- the explanation of the typing rule of this number, which a text breaks
+abbrev pub ExplainsRule : List ℕ → List ℕ → ℕ → List (List ℕ) → ℕ → List ℕ → Type 0
+ExplainsRule file text place tables number made =
+    (broken : TypingRule) × (typing_number broken ≡ number)
+    × (made ≡ broken_text file text place tables broken)
+
+-- the same, unless the number is that of no rule
 abbrev pub ExplainsType : List ℕ → List ℕ → ℕ → List (List ℕ) → ℕ → List ℕ → Type 0
 ExplainsType file text place tables number made =
-    ((broken : TypingRule) × (typing_number broken ≡ number)
-    × (made ≡ broken_text file text place tables broken))
-    ⊎ (1 ≤ number → 26 ≤ number)
+    ExplainsRule file text place tables number made ⊎ (1 ≤ number → 26 ≤ number)
 
 -- the explanation of a fault of a schema; want of memory has none
 abbrev pub ExplainsSchema : List ℕ → List ℕ → SchemaFault → List ℕ → Type 0

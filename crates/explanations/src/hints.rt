@@ -491,8 +491,8 @@ pub(crate) fn stop_hint(
     expected: &[&str],
     otherwise: &'static str,
 ) -> &'static str
-    ensures { result.now ≡ first_said (around_view around.entry).before (around_view around.entry).found
-        (words_view expected.now) otherwise.now stop_hints }
+    ensures { result.now ≡ first_said (around_view around.entry).before
+        (around_view around.entry).found (words_view expected.now) otherwise.now stop_hints }
 {
     first_said(around.before, around.found, expected, otherwise, &STOPS)
 }

@@ -1,8 +1,8 @@
 // Where a text ceases to be a query, and names that no variable has.
 ghost use Rattle.std.specs.Prelude.{◌≡◌, IfOk, map};
 ghost use Rattle.query_syntax.specs.Symbols.{token_view};
-ghost use Rattle.explanations.specs.Explanations.{ExplainsName, ExplainsStop, TokensIn, stopped_text};
-ghost use Rattle.explanations.specs.Explanations.{unbound_text};
+ghost use Rattle.explanations.specs.Explanations.{ExplainsName, ExplainsStop, TokensIn};
+ghost use Rattle.explanations.specs.Explanations.{stopped_text, unbound_text};
 ghost use Rattle.explanations.specs.Lists.{words_view};
 ghost use Rattle.explanations.specs.Words.{around, around_view, kind_words};
 
