@@ -1,6 +1,7 @@
 pub mod Words
 pub mod Lists
 pub mod Groups
+pub mod Naming
 pub mod Hints
 pub mod Sentences
 pub mod Explanations

@@ -5,6 +5,7 @@
 mod faults;
 mod groups;
 mod hints;
+mod laws;
 mod lines;
 mod lists;
 mod sentences;
@@ -12,3 +13,4 @@ mod stops;
 mod words;
 
 pub use faults::{explain_schema, explain_syntax, explain_type};
+pub use laws::naming_laws;
