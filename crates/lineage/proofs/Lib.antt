@@ -7,6 +7,7 @@ pub mod Sameness
 pub mod Telling
 pub mod Whole
 pub mod Views
+pub mod Recording
 pub mod Sorts
 pub mod Steps
 pub mod Texts

@@ -4,4 +4,5 @@ pub mod TraceForms
 pub mod ListedTables
 pub mod Decoding
 pub mod TracedTexts
+pub mod Recorded
 pub mod Laws

@@ -3,7 +3,9 @@ ghost use Rattle.std.specs.Prelude.{IfOk};
 ghost use Rattle.nq_model.specs.Tables.{IsProperSchema};
 
 use canon::{sort_deep, write};
-use lineage::{TraceForm, Traced, decode, erase, has_no_numbers, trace_form, write_traced};
+use lineage::{
+    TraceForm, Traced, decode, erase, has_no_numbers, recorded, trace_form, write_traced,
+};
 use normalise::normalise;
 use nq_model::{List, Memory, Schema, Value};
 use rows::Table;
@@ -75,4 +77,9 @@ pub fn text_of(alloc: Global, traced: Traced) -> Result<String, Memory> {
 pub fn plain_text_of(alloc: Global, traced: &Traced) -> Result<String, Memory> {
     let value: Value = erase(alloc, traced)?;
     line(alloc, write(alloc, &sort_deep(alloc, value)?)?)
+}
+
+/// The text of a traced value as a value of records, without its newline.
+pub fn records_text_of(alloc: Global, traced: Traced) -> Result<String, Memory> {
+    line(alloc, write(alloc, &recorded(alloc, traced)?)?)
 }

@@ -1,5 +1,5 @@
 // Queries with their lineage, worked out by hand.
-use crate::told::{plain_text_of, schema_of, text_of, traced};
+use crate::told::{plain_text_of, records_text_of, schema_of, text_of, traced};
 use nq_model::Memory;
 use std::process::Abort;
 use test_support::org;
@@ -136,6 +136,20 @@ fn erases_the_rows(rt: HostRuntime) -> Result<(), Memory> {
     assert_eq!(&rt;
         plain_text_of(alloc, &traced)?.as_str(),
         "{(d = 'Product', es = {'Alex', 'Bert'}), (d = 'Quality', es = {}), (d = 'Research', es = {}), (d = 'Sales', es = {'Erik'})}"
+    );
+    Ok(())
+}
+
+#[test]
+fn records_the_rows(rt: HostRuntime) -> Result<(), Memory> {
+    let alloc = rt.alloc();
+    let schema = org(alloc)?;
+    let query = "[(n = [1], e = for (e <- table employees) for (d <- table departments)
+        where (e.dept == d.name && e.name == 'Erik') [e.name])]";
+    let traced = traced(alloc, &schema, &TABLES, query)?;
+    assert_eq!(&rt;
+        records_text_of(alloc, traced)?.as_str(),
+        "{(rows = {}, value = (e = {(rows = {{'employees', 3}, {'departments', 4}}, value = 'Erik')}, n = {(rows = {}, value = 1)}))}"
     );
     Ok(())
 }
