@@ -10,6 +10,11 @@ use Rattle.nq_model.specs.declared.table.ColumnType.{ColumnType}
 use Rattle.nq_ir.specs.Meanings.{EachBoth}
 use Rattle.nq_ir.specs.NormalForms.{element_type}
 use Rattle.nq_ir.specs.Parts.{bags, element_types}
+use Rattle.nq_ir.specs.Trees.{FormTree, form_tree}
+use Rattle.lineage.specs.Decoding.{form_decoded}
+use Rattle.lineage.specs.ListedTables.{ByTag}
+use Rattle.lineage.specs.Recorded.{recorded}
+use Rattle.lineage.specs.TracedTexts.{traced_text}
 use Rattle.natural_keys.specs.declared.index.KeyIndex.{KeyIndex}
 use Rattle.shred_types.specs.Columns.{answer_columns}
 use Rattle.nq_json.specs.Json.{json_text}
@@ -29,6 +34,8 @@ use Rattle.nq_execute.specs.declared.plan.Indexes.{Indexes as IndexKinds}
 use Rattle.nq_execute.specs.declared.plan.Indexes.TheVariants as index
 use Rattle.nq_execute.specs.declared.plan.RowWriting.{RowWriting as RowWritings}
 use Rattle.nq_execute.specs.declared.plan.RowWriting.TheVariants as row_way
+use Rattle.nq_execute.specs.declared.plan.TraceWriting.{TraceWriting}
+use Rattle.nq_execute.specs.declared.plan.TraceWriting.TheVariants as trace_way
 use Rattle.nq_execute.specs.declared.plan.Writing.{Writing as Writings}
 use Rattle.nq_execute.specs.declared.plan.Writing.TheVariants as way
 use Rattle.nq_execute.specs.declared.plan.Plan.{Plan as Asked}
@@ -40,11 +47,13 @@ pub data Indexes : Type 0 where
   keys : Scheme KeyIndex → Indexes
 
 -- what is written of a value: its canonical text, its summary, or the JSON text of its canonical
--- form
+-- form; or what it tells as a value of a traced form whose generators range over these tables by
+-- tag, in a way
 pub data Writing : Type 0 where
   text : Writing
   summary : Writing
   json : Writing
+  traced : TraceWriting → ByTag → FormTree → Writing
 
 -- what is written of rows: a line for each, or one line of JSON, an array of arrays of cells
 pub data RowWriting : Type 0 where
@@ -73,6 +82,8 @@ abbrev pub writing_view : Writings → Writing
 writing_view way.Text = text
 writing_view way.Summary = summary
 writing_view way.Json = json
+writing_view (way.Traced form trace_writing) =
+    traced trace_writing form.tables (form_tree form.normal)
 
 abbrev pub row_writing_view : RowWritings → RowWriting
 row_writing_view row_way.Lines = lines
@@ -108,11 +119,18 @@ abbrev pub AreOfType : TypeTree → Indexes → Type 0
 AreOfType type numbers = ⊤
 AreOfType type (keys scheme) = scheme.elements ≡ element_types type
 
+-- what is written of a traced value: its text, or the JSON text of its canonical form, in which
+-- each element is a record of its rows and its value
+abbrev pub trace_text_by : TraceWriting → Nested → List ℕ
+trace_text_by trace_way.Text v = traced_text v
+trace_text_by trace_way.Json v = json_text (recorded (canonical v))
+
 -- what is written of a value of a type
 abbrev pub text_by : Writing → TypeTree → Nested → List ℕ
 text_by text type v = canonical_text v
 text_by summary type v = summary_of type v
 text_by json type v = json_text (canonical v)
+text_by (traced writing tables form) type v = trace_text_by writing (form_decoded tables form v)
 
 -- and of the value of answers
 unfoldable pub value_text : TypeTree → Indexes → Writing → List AnswerRows → List ℕ

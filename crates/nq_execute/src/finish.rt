@@ -10,13 +10,15 @@ ghost use Rattle.natural_keys.specs.Schemes.{keys_scheme};
 ghost use Rattle.nq_execute.specs.Plans.{AreOfType, CanFinish, columns_by, finish_view, finished};
 ghost use Rattle.nq_execute.specs.Plans.{indexes_view, keys as by_keys, numbers as by_numbers};
 ghost use Rattle.nq_execute.specs.Plans.{row_text_by, row_writing_view, text_by, value_by};
-ghost use Rattle.nq_execute.specs.Plans.{value_text, writing_view};
+ghost use Rattle.nq_execute.specs.Plans.{trace_text_by, value_text, writing_view};
+ghost use Rattle.lineage.specs.TracedTrees.{traced};
 ghost use Rattle.nq_execute.specs.Serving.{Fit};
 
-use crate::plan::{Finish, Indexes, RowWriting, Writing};
+use crate::plan::{Finish, Indexes, RowWriting, TraceWriting, Writing};
 use crate::summary::summarise;
 use answer_text::answer_text;
 use canon::{row_places, sort_deep, write, write_row_lines};
+use lineage::{Traced, decode, recorded, write_traced};
 use natural_keys::NaturalKeys;
 use nq_json::{write_json, write_json_rows};
 use nq_model::{ColumnType, List, Memory, Ty, Value};
@@ -54,6 +56,19 @@ fn value_by_keys(
     stitch(alloc, keys, of, &answers)
 }
 
+// What is written of a traced value.
+fn trace_text_by(alloc: Global, way: TraceWriting, told: Traced) -> Result<List<u8>, Memory>
+    ensures { IfOk result (λ text. text ≡ trace_text_by way (traced told)) }
+{
+    match way {
+        TraceWriting::Text => write_traced(alloc, told),
+        TraceWriting::Json => {
+            let value = recorded(alloc, told)?;
+            write_json(alloc, &value)
+        }
+    }
+}
+
 // What is written of a value.
 fn text_by(alloc: Global, of: &Ty, writing: &Writing, value: Value) -> Result<List<u8>, Memory>
     ensures { IfOk result (λ text.
@@ -68,6 +83,10 @@ fn text_by(alloc: Global, of: &Ty, writing: &Writing, value: Value) -> Result<Li
         Writing::Json => {
             let sorted = sort_deep(alloc, value)?;
             write_json(alloc, &sorted)
+        }
+        Writing::Traced(form, way) => {
+            let told = decode(alloc, form, &value)?;
+            trace_text_by(alloc, *way, told)
         }
     }
 }
@@ -88,7 +107,7 @@ fn numbered_text(
 {
     match writing {
         Writing::Text => answer_text(alloc, of, answers),
-        Writing::Summary | Writing::Json => {
+        Writing::Summary | Writing::Json | Writing::Traced(_, _) => {
             let value = value_by_numbers(alloc, of, answers)?;
             text_by(alloc, of, writing, value)
         }
