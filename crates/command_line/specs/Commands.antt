@@ -5,6 +5,8 @@ use Rattle.database_scripts.specs.declared.database.Database.{Database}
 use Rattle.database_scripts.specs.declared.database.Database.TheVariants.{Postgres, Sqlite}
 use Rattle.generated_inputs.specs.Sizes.{size_of}
 use Rattle.nq_execute.specs.Plans.{RowWriting, lines, arrays}
+use Rattle.nq_execute.specs.declared.plan.TraceWriting.{TraceWriting}
+use Rattle.nq_execute.specs.declared.plan.TraceWriting.TheVariants as trace_way
 
 -- how the SQL texts that shred a query are shown: each in a frame that tells its path and its
 -- length; or all as a line of JSON, with the type of the query and the columns of each answer; or
@@ -16,14 +18,16 @@ pub data Showing : Type 0 where
 
 -- What is done with a query that is accepted. Its value over the table texts of a folder is
 -- written, or written by texts that name bags by keys, or written as JSON, or that over the JSON
--- tables of a folder; or the value of answers of a folder, made elsewhere, is written, or written
--- as JSON; or that it is accepted; or its type; or its normal form; or the paths of its type; or
--- the SQL texts that name bags by keys are shown; or those that shred it, in a way.
+-- tables of a folder; or each of its elements with the table rows that made it, in a way; or the
+-- value of answers of a folder, made elsewhere, is written, or written as JSON; or that it is
+-- accepted; or its type; or its normal form; or the paths of its type; or the SQL texts that name
+-- bags by keys are shown; or those that shred it, in a way.
 pub data Aim : Type 0 where
   run : List ℕ → Aim
   run_natural : List ℕ → Aim
   run_json : List ℕ → Aim
   run_json_tables : List ℕ → Aim
+  lineage : TraceWriting → List ℕ → Aim
   stitch : List ℕ → Aim
   stitch_json : List ℕ → Aim
   check : Aim
@@ -90,29 +94,34 @@ of_show what second third =
     (option_map (λ database. show_load database third) (database_of second))
     (option_map (λ aim. of_query aim second third) (shown what))
 
--- `run SCHEMA QUERY DIR`, `answer SCHEMA SQLFILE DIR` or `stitch SCHEMA QUERY DIR`; or a form of
--- `show`
+-- `run SCHEMA QUERY DIR`, `lineage SCHEMA QUERY DIR`, `answer SCHEMA SQLFILE DIR` or
+-- `stitch SCHEMA QUERY DIR`; or a form of `show`
 abbrev pub four_words : List ℕ → List ℕ → List ℕ → List ℕ → Option Command
 four_words word second third fourth =
     cond (bytes_eq word (codes "run")) (Some (of_query (run fourth) second third))
+    (cond (bytes_eq word (codes "lineage"))
+    (Some (of_query (lineage trace_way.Text fourth) second third))
     (cond (bytes_eq word (codes "answer")) (Some (answer lines second third fourth))
     (cond (bytes_eq word (codes "stitch")) (Some (of_query (stitch fourth) second third))
-    (cond (bytes_eq word (codes "show")) (of_show second third fourth) None)))
+    (cond (bytes_eq word (codes "show")) (of_show second third fourth) None))))
 
--- what `json` makes of `run`, of `answer` and of `stitch` with their three names
+-- what `json` makes of `run`, of `lineage`, of `answer` and of `stitch` with their three names
 abbrev pub as_json : List ℕ → List ℕ → List ℕ → List ℕ → Option Command
 as_json word schema text folder =
     cond (bytes_eq word (codes "run")) (Some (of_query (run_json folder) schema text))
+    (cond (bytes_eq word (codes "lineage"))
+    (Some (of_query (lineage trace_way.Json folder) schema text))
     (cond (bytes_eq word (codes "answer")) (Some (answer arrays schema text folder))
-    (cond (bytes_eq word (codes "stitch")) (Some (of_query (stitch_json folder) schema text)) None))
+    (cond (bytes_eq word (codes "stitch")) (Some (of_query (stitch_json folder) schema text))
+    None)))
 
 -- what `natural` makes of `run` with its three names
 abbrev pub as_natural : List ℕ → List ℕ → List ℕ → List ℕ → Option Command
 as_natural word schema query folder =
     cond (bytes_eq word (codes "run")) (Some (of_query (run_natural folder) schema query)) None
 
--- `run json SCHEMA QUERY DIR`, `answer json SCHEMA SQLFILE DIR` or `stitch json SCHEMA QUERY DIR`;
--- or `run natural SCHEMA QUERY DIR`
+-- `run json SCHEMA QUERY DIR`, `lineage json SCHEMA QUERY DIR`, `answer json SCHEMA SQLFILE DIR` or
+-- `stitch json SCHEMA QUERY DIR`; or `run natural SCHEMA QUERY DIR`
 abbrev pub five_words : List ℕ → List ℕ → List ℕ → List ℕ → List ℕ → Option Command
 five_words word form schema text folder =
     cond (bytes_eq form (codes "json")) (as_json word schema text folder)
@@ -155,6 +164,7 @@ aim_asks (run folder) = true
 aim_asks (run_natural folder) = true
 aim_asks (run_json folder) = true
 aim_asks (run_json_tables folder) = true
+aim_asks (lineage writing folder) = true
 aim_asks (stitch folder) = false
 aim_asks (stitch_json folder) = false
 aim_asks check = false

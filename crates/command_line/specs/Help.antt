@@ -10,6 +10,8 @@ help_text =
     ++ (codes "nq run natural SCHEMA QUERY DIR      writes it by SQL texts that name bags by keys\n"
     ++ (codes "nq run json SCHEMA QUERY DIR         writes the value of the query as JSON\n"
     ++ (codes "nq run json tables SCHEMA QUERY DIR  writes it as JSON over JSON tables\n"
+    ++ (codes "nq lineage SCHEMA QUERY DIR          writes each element with its table rows\n"
+    ++ (codes "nq lineage json SCHEMA QUERY DIR     writes the elements and their rows as JSON\n"
     ++ (codes "nq answer SCHEMA SQLFILE DIR         writes the rows of the SQL text\n"
     ++ (codes "nq answer json SCHEMA SQLFILE DIR    writes the rows of the SQL text as JSON\n"
     ++ (codes "nq stitch SCHEMA QUERY DIR           writes the value of answers made elsewhere\n"
@@ -31,7 +33,7 @@ help_text =
     ++ (codes "SCHEMA, QUERY and SQLFILE are files. The table t is the file DIR/t.csv, and as a\n"
     ++ (codes "JSON table DIR/t.json. The answer to the SQL text K is the file DIR/K.csv.\n"
     ++ (codes "DATABASE is postgres or sqlite.\n"
-    ++ codes "README.md explains the statuses, under Commands.\n"))))))))))))))))))))))))))
+    ++ codes "README.md explains the statuses, under Commands.\n"))))))))))))))))))))))))))))
 
 -- the name and the version of the program
 unfoldable pub version_text : List ℕ

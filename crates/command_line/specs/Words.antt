@@ -1,8 +1,9 @@
 -- The words of a command as the program has them.
 use Rattle.std.specs.Prelude.{⊤}
 use Rattle.command_line.specs.Commands.{Showing, Aim, run, run_natural, run_json, run_json_tables}
-use Rattle.command_line.specs.Commands.{stitch, stitch_json, check, show_types, show_normal}
-use Rattle.command_line.specs.Commands.{show_paths, show_natural, show_texts, Command, help}
+use Rattle.command_line.specs.Commands.{lineage, stitch, stitch_json, check, show_types}
+use Rattle.command_line.specs.Commands.{show_normal, show_paths, show_natural, show_texts}
+use Rattle.command_line.specs.Commands.{Command, help}
 use Rattle.command_line.specs.Commands.{version, of_query, answer, generated, show_load}
 use Rattle.generated_inputs.specs.Sizes.{IsSize}
 use Rattle.command_line.specs.declared.words.Aim.{Aim as Aims}
@@ -23,6 +24,7 @@ aim_view (aim.Run folder) = run folder.now
 aim_view (aim.RunNatural folder) = run_natural folder.now
 aim_view (aim.RunJson folder) = run_json folder.now
 aim_view (aim.RunJsonTables folder) = run_json_tables folder.now
+aim_view (aim.Lineage writing folder) = lineage writing folder.now
 aim_view (aim.Stitch folder) = stitch folder.now
 aim_view (aim.StitchJson folder) = stitch_json folder.now
 aim_view aim.Check = check

@@ -18,6 +18,8 @@ nq run SCHEMA QUERY DIR              writes the value of the query
 nq run natural SCHEMA QUERY DIR      writes it by SQL texts that name bags by keys
 nq run json SCHEMA QUERY DIR         writes the value of the query as JSON
 nq run json tables SCHEMA QUERY DIR  writes it as JSON over JSON tables
+nq lineage SCHEMA QUERY DIR          writes each element with its table rows
+nq lineage json SCHEMA QUERY DIR     writes the elements and their rows as JSON
 nq answer SCHEMA SQLFILE DIR         writes the rows of the SQL text
 nq answer json SCHEMA SQLFILE DIR    writes the rows of the SQL text as JSON
 nq stitch SCHEMA QUERY DIR           writes the value of answers made elsewhere

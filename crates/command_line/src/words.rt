@@ -7,7 +7,7 @@ ghost use Rattle.command_line.specs.Words.{HasSize, aim_view, command_view};
 
 use database_scripts::Database;
 use generated_inputs::size_of;
-use nq_execute::RowWriting;
+use nq_execute::{RowWriting, TraceWriting};
 
 /// How the SQL texts that shred a query are shown.
 #[derive(Clone, Copy)]
@@ -32,6 +32,9 @@ pub enum Aim<'a> {
     RunJson(&'a str),
     /// Its value is written as JSON, over the JSON tables of the folder of this name.
     RunJsonTables(&'a str),
+    /// Each element of its value is written with the table rows that made it, in a way, over the
+    /// table texts of the folder of this name.
+    Lineage(TraceWriting, &'a str),
     /// The value of the answers of the folder of this name is written.
     Stitch(&'a str),
     /// The value of the answers of the folder of this name is written as JSON.
@@ -171,6 +174,9 @@ fn four_words<'a>(
 {
     if word == "run" {
         Some(Command::OfQuery(Aim::Run(fourth), second, third))
+    } else if word == "lineage" {
+        let aim = Aim::Lineage(TraceWriting::Text, fourth);
+        Some(Command::OfQuery(aim, second, third))
     } else if word == "answer" {
         Some(Command::Answer(RowWriting::Lines, second, third, fourth))
     } else if word == "stitch" {
@@ -190,6 +196,9 @@ fn as_json<'a>(word: &str, schema: &'a str, text: &'a str, folder: &'a str) -> O
 {
     if word == "run" {
         Some(Command::OfQuery(Aim::RunJson(folder), schema, text))
+    } else if word == "lineage" {
+        let aim = Aim::Lineage(TraceWriting::Json, folder);
+        Some(Command::OfQuery(aim, schema, text))
     } else if word == "answer" {
         Some(Command::Answer(RowWriting::Arrays, schema, text, folder))
     } else if word == "stitch" {

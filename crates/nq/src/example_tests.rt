@@ -64,6 +64,13 @@ where (empty(
 [d.name]
 "#;
 
+const COMPANY_KNOWN: &str =
+    r#"# A mistake: the clients that each department knows, where `||` stands for `&&`. `nq lineage` shows which rows slipped in.
+for (d <- table departments)
+[(department = d.name,
+  known = for (c <- table contacts) where (c.dept == d.name || c.client) [c.name])]
+"#;
+
 const COMPANY_ORG: &str = r#"# The people of a company, what they do, and whom they know.
 table departments (name: text, key (name));
 table employees (dept: text, name: text, salary: int, key (name));
@@ -104,7 +111,7 @@ for (d <- table departments)
 "#;
 
 // The runs in examples/company.
-const COMPANY: [Wanted; 6] = [
+const COMPANY: [Wanted; 7] = [
     Wanted {
         words: &["run", "org", "colleagues", "data"],
         room: 2000,
@@ -153,6 +160,14 @@ const COMPANY: [Wanted; 6] = [
 "#,
         note: "",
     },
+    Wanted {
+        words: &["lineage", "org", "known", "data"],
+        room: 2000,
+        status: 0,
+        out: r#"{(department = 'Product', known = {'Pam' @ [contacts 1], 'Pat' @ [contacts 2], 'Sue' @ [contacts 7]}) @ [departments 1], (department = 'Quality', known = {'Pat' @ [contacts 2], 'Sue' @ [contacts 7]}) @ [departments 2], (department = 'Research', known = {'Pat' @ [contacts 2], 'Rob' @ [contacts 3], 'Roy' @ [contacts 4], 'Sue' @ [contacts 7]}) @ [departments 3], (department = 'Sales', known = {'Pat' @ [contacts 2], 'Sam' @ [contacts 5], 'Sid' @ [contacts 6], 'Sue' @ [contacts 7]}) @ [departments 4]}
+"#,
+        note: "",
+    },
 ];
 
 // The files of examples/company.
@@ -189,6 +204,7 @@ fn files_of_company(alloc: Global) -> Result<HeldInputs, Fail> {
         COMPANY_DATA_TASKS_CSV.as_bytes(),
     )?;
     put(alloc, &mut files, "idle", COMPANY_IDLE.as_bytes())?;
+    put(alloc, &mut files, "known", COMPANY_KNOWN.as_bytes())?;
     put(alloc, &mut files, "org", COMPANY_ORG.as_bytes())?;
     put(alloc, &mut files, "outliers", COMPANY_OUTLIERS.as_bytes())?;
     put(alloc, &mut files, "people", COMPANY_PEOPLE.as_bytes())?;

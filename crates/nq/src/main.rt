@@ -66,6 +66,8 @@ mod hostile_tests;
 #[cfg(test)]
 mod json_tests;
 #[cfg(test)]
+mod lineage_tests;
+#[cfg(test)]
 mod natural_tests;
 #[cfg(test)]
 mod nested_tests;

@@ -199,6 +199,63 @@ fn check_lent(
     check_run_lent(rt, alloc, &mut server, inputs, wanted)
 }
 
+// What answers tell that are no honest server's: whatever fits is written.
+const TRACED: [Script; 6] = [
+    Script {
+        answers: &[&["0 1 1 2 Moon"]],
+        out: "{(name = 'Moon') @ [departments 2]}\n",
+        ..MOON
+    },
+    // No comprehension has this tag.
+    Script {
+        answers: &[&["0 1 7 2 Moon"]],
+        out: "{(name = 'Moon') @ []}\n",
+        ..MOON
+    },
+    // No row has this number.
+    Script {
+        answers: &[&["0 1 1 -5 Moon"]],
+        out: "{(name = 'Moon') @ [departments -5]}\n",
+        ..MOON
+    },
+    // The tag of a comprehension at another path.
+    Script {
+        query: TWICE,
+        answers: &[&["0 1 1 1 P 1 1"], &["1 1 2 4 Alex", "1 1 1 4 Bert"]],
+        out: "{(d = 'P', es = {'Alex' @ [employees 4], 'Bert' @ []}) @ [departments 1]}\n",
+        ..MOON
+    },
+    Script {
+        answers: &[&["0 1 1 2 5"]],
+        note: "nq: bad answer: text 1 row 1 column 5\n",
+        ..MISFIT
+    },
+    Script {
+        query: TWICE,
+        answers: &[&["0 1 1 1 P 1 1"]],
+        status: 9,
+        note: "nq: server failed: text 2\n",
+        ..MISFIT
+    },
+];
+
+#[test]
+fn traces_what_a_script_answers(rt: HostRuntime) -> Result<(), Fail> {
+    let alloc = rt.alloc();
+    for script in &TRACED {
+        let wanted = Wanted {
+            words: &["lineage", "org", "q", "data"],
+            status: script.status,
+            out: script.out,
+            note: script.note,
+            ..FAILED
+        };
+        check_handed(&rt, alloc, script, &wanted)?;
+        check_lent(&rt, alloc, script, &wanted)?;
+    }
+    Ok(())
+}
+
 #[test]
 fn writes_what_a_script_answers(rt: HostRuntime) -> Result<(), Fail> {
     let alloc = rt.alloc();

@@ -1,5 +1,5 @@
 -- The inputs of a command are given, refused for one reason, or one of them is missing.
-use Rattle.std.proofs.Common.{◌≡◌, ◌⊎◌, ℕ, List, Some, sym, ◌∙◌, inl, inr}
+use Rattle.std.proofs.Common.{◌≡◌, ◌⊎◌, ℕ, List, Option, Some, sym, ap, ◌∙◌, inl, inr}
 use Rattle.nq_edge.specs.Edge.{Files}
 use Rattle.nq_execute.specs.Plans.{Plan}
 use Rattle.nq_top.specs.Headline.{keys, Names, Accepted, GivenKeys, GivenRun, IsMissing}
@@ -57,8 +57,8 @@ module _ (files : Files) (names : Names) where
   pub given_not_refused : (folder : List ℕ) → names.folder ≡ Some folder → GivenRun files names folder → (why : Refused) → AreRefused files names why → ⊥
   unfolding verdict
   given_not_refused folder is_run given why wrong =
-      go (run_planned one_reading files names (aim_for names.folder names.naming)
-      (aims_at one_reading files names) folder given is_run)
+      go (run_planned one_reading files names (aim_for names.folder names.naming) folder given
+      (ap (λ (f : Option (List ℕ)). aim_for f names.naming) is_run))
     where
       go : {plan : Plan} {question : Question}
           → (whole one_reading files names (aim_for names.folder names.naming)).verdict

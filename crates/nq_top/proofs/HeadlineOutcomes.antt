@@ -6,6 +6,7 @@ use Rattle.nq_model.specs.Databases.{FilledTable, database}
 use Rattle.nq_model.specs.QueryMeaning.{Means}
 use Rattle.nq_model.specs.Terms.{PlacedTerm, bare}
 use Rattle.nq_model.specs.Types.{bag}
+use Rattle.nq_model.specs.Unfolding.{Unfolds}
 use Rattle.nq_model.specs.Values.{Nested}
 use Rattle.nq_model.specs.declared.table.Schema.{Schema}
 use Rattle.nq_model.proofs.Unfolding.{reached_once}
@@ -17,13 +18,19 @@ use Rattle.nq_ir.specs.Paths.{paths}
 use Rattle.nq_ir.specs.Trees.{FormTree}
 use Rattle.nq_edge.specs.Edge.{Files, TellsMore, bytes_at}
 use Rattle.nq_edge.specs.Lines.{PutsLine}
+use Rattle.traced_meaning.specs.Traces.{trace}
+use Rattle.nq_execute.specs.Plans.{trace_text_by}
+use Rattle.nq_execute.specs.declared.plan.TraceWriting.{TraceWriting}
+use Rattle.nq_execute.specs.declared.plan.TraceWriting.TheVariants.{Text, Json}
+use Rattle.lineage_compile.specs.Tables.{with_numbers}
 use Rattle.nq_execute.specs.Plans.{Plan}
 use Rattle.nq_execute.specs.declared.refusal.ServerRefusal.TheVariants as server
 use Rattle.database_scripts.specs.declared.database.Database.TheVariants.{Postgres, Sqlite}
 use Rattle.sql_profile.specs.Servers.{held_of}
 use Rattle.sql_profile.proofs.HeldTables.{held_filled}
-use Rattle.command_line.specs.Commands.{Showing, Aim, Command, of_query, show_natural, show_texts}
-use Rattle.command_line.specs.Commands.{command_of}
+use Rattle.sql_profile.specs.declared.server.Loaded.{Loaded}
+use Rattle.command_line.specs.Commands.{Showing, Aim, Command, of_query, lineage, show_natural}
+use Rattle.command_line.specs.Commands.{show_texts, command_of}
 use Rattle.command_line.specs.Frames.{frames}
 use Rattle.command_line.specs.Noting.{Notes}
 use Rattle.command_line.specs.Refusals.{refused_status, refused_note, status_of}
@@ -33,8 +40,8 @@ use Rattle.command_line.specs.declared.refusal.Refusal.TheVariants as refusal
 use Rattle.nq_top.specs.Calls.{Comes}
 use Rattle.nq_top.specs.Headline.{Naming, numbers, keys, Names, Accepted, GivenKeys}
 use Rattle.nq_top.specs.Headline.{GivenRun, LooksFor, AreRefused, Outcome, IsServed, RunComes}
-use Rattle.nq_top.specs.Headline.{ShowComes, NaturalComes, run_words, show_words, OfRun, OfShow}
-use Rattle.nq_top.specs.Headline.{OfNatural}
+use Rattle.nq_top.specs.Headline.{LineageComes, ShowComes, NaturalComes, run_words}
+use Rattle.nq_top.specs.Headline.{lineage_words, show_words, OfRun, OfLineage, OfShow, OfNatural}
 use Rattle.nq_top.specs.Judging.{Judgement, Verdict, usage, missing, refused, shown, keyed, planned}
 use Rattle.nq_top.specs.Judging.{at_once, read_then, aim_judged, judgement}
 use Rattle.nq_top.specs.Natural.{Natural, ShowsNatural}
@@ -44,8 +51,9 @@ use Rattle.nq_top.specs.Shown.{Shown, Shows, shown_texts, texts_by, shown_by, Sh
 use Rattle.nq_top.specs.Theorem.{Answer, Gives, Writes, Tells, PutsAll, PutsAt, IsDone, IsDue, HasFailed, Completes, Serves, Runs, Ends}
 use Rattle.nq_top.specs.World.{SinkState, World, command_in}
 use Rattle.nq_top.proofs.HeadlineQueries.{whole, typed, run_as, run_draft, keyed_of, natural_given}
-use Rattle.nq_top.proofs.HeadlineQueries.{after_type, aims_at, shows_at, run_planned, is_missing}
-use Rattle.nq_top.proofs.HeadlineQueries.{is_refused, Cases, are_given, are_refused, are_missing}
+use Rattle.nq_top.proofs.HeadlineQueries.{after_type, aims_at, shows_at, traces_at, run_planned}
+use Rattle.nq_top.proofs.HeadlineQueries.{lineage_planned, lineage_verdict, is_missing, is_refused}
+use Rattle.nq_top.proofs.HeadlineQueries.{Cases, are_given, are_refused, are_missing}
 use Rattle.nq_top.proofs.HeadlineQueries.{accepted_cases, keyed_cases, run_cases}
 use Rattle.nq_top.proofs.Readings.{one_reading}
 use Rattle.nq_top.proofs.Statuses.{no_fault}
@@ -199,6 +207,13 @@ unfolding command_of
 command_run numbers words s q d is = ap command_of is
 command_run keys words s q d is = ap command_of is
 
+command_lineage : (writing : TraceWriting) (words : List (List ℕ)) (s q d : List ℕ)
+    → words ≡ lineage_words writing s q d
+    → command_of words ≡ Some (of_query (lineage writing d) s q)
+unfolding command_of
+command_lineage Text words s q d is = ap command_of is
+command_lineage Json words s q d is = ap command_of is
+
 command_natural : (words : List (List ℕ)) (s q : List ℕ) → words
     ≡ codes "show" ∷ codes "natural" ∷ s ∷ q ∷ [] → command_of words
     ≡ Some (of_query show_natural s q)
@@ -289,7 +304,7 @@ run_promised n files s q d before after old new status promise =
     let j : Judgement = whole reading files names aim in
     let aims = aims_at reading files names in
     let Given : Type 0 = GivenRun files names d in
-    let planned_is = λ (given : Given). run_planned reading files names aim aims d given refl in
+    let planned_is = λ (given : Given). run_planned reading files names aim d given refl in
     let F : Verdict → Type 0 = λ v. IsDue (Serves before.server after.server) v in
     let G : List ℕ → Verdict → Type 0 = λ text v. Gives before.server after.server v text in
     outcome files names Given j before after old new status promise.answer promise.is (promise.tells reading)
@@ -304,7 +319,68 @@ run_promised n files s q d before after old new status promise =
     meant reading files names aim d given wrote_it.text before after (gives.settled is_honest)
     wrote_it.puts)
 
--- 5. `show` of SQL texts
+-- 5. `lineage`
+
+module _ (writing : TraceWriting) (files : Files) (names : Names) (folder : List ℕ)
+    (given : GivenRun files names folder) where
+  abbrev tables_held : List Loaded
+  tables_held = held_of given.accepted.given.over.schema.tables given.tables.rows
+
+  abbrev traced_question : Question
+  traced_question = Question.traced writing tables_held given.accepted.given.query
+
+  traced_put : (text : List ℕ) (before after : World)
+      → Settles (with_numbers tables_held) traced_question text → PutsAll before after text
+      → (plain : PlacedTerm) × Unfolds given.accepted.given.query plain
+      × TellsMore before.out.written after.out.written
+      (trace_text_by writing
+      (trace (database given.accepted.given.over.schema.tables given.tables.rows) []
+      (bare plain)))
+  traced_put text before after (numbered, traced) puts = (
+    traced.plain,
+    traced.unfolds,
+    subst (λ (t : List ℕ). TellsMore before.out.written after.out.written t)
+        (traced.is ∙ ap (λ (filled : List FilledTable).
+        trace_text_by writing (trace filled [] (bare traced.plain)))
+        (held_filled given.accepted.given.over.schema.tables given.tables.rows)) puts,
+  )
+
+lineage_promised : (writing : TraceWriting) (files : Files) (s q d : List ℕ)
+    (before after : World) (old new : SinkState) (status : ℕ)
+    → Promised (record {
+      schema = s;
+      query = q;
+      folder = Some d;
+      naming =
+          numbers;
+    }) (lineage writing d) files before after old new status
+    → LineageComes before after old new status writing files s q d
+lineage_promised writing files s q d before after old new status promise =
+    let names : Names = record { schema = s; query = q; folder = Some d; naming = numbers } in
+    let reading = one_reading in
+    let aim : Aim = lineage writing d in
+    let j : Judgement = whole reading files names aim in
+    let aims = traces_at reading files writing s q d in
+    let Given : Type 0 = GivenRun files names d in
+    let planned_is = λ (given : Given).
+    lineage_planned reading files names aim writing d given refl in
+    let F : Verdict → Type 0 = λ v. IsDue (Serves before.server after.server) v in
+    let G : List ℕ → Verdict → Type 0 = λ text v. Gives before.server after.server v text in
+    outcome files names Given j before after old new status promise.answer promise.is
+    (promise.tells reading) (run_cases reading files names d refl)
+    (is_refused reading files names aim aims) (is_missing reading files names aim aims)
+    _ (IsServed before after) promise.notes promise.puts (promise.completes reading)
+    (λ still. still.0)
+    (λ still given. subst F (sym (planned_is given))
+    (record { not_failed = still.1; fair = inl still.2 }))
+    (λ given why e. not_planned j.verdict _ (traced_question writing files names d given) why
+    (planned_is given) e)
+    (λ given wrote_it is_honest.
+    let gives = subst (G wrote_it.text) (planned_is given) wrote_it.gives in
+    traced_put writing files names d given wrote_it.text before after (gives.settled is_honest)
+    wrote_it.puts)
+
+-- 6. `show` of SQL texts
 
 module _ (reading : Reading) (files : Files) (names : Names) (showing : Showing) (accepted : Accepted files names) where
   abbrev shown_of : Shown
@@ -346,7 +422,7 @@ show_promised showing files s q before after old new status promise =
     (λ given why e. not_shown j.verdict showing (shown_of reading files names showing given) why (shown_is given) e)
     (λ given wrote_it. texts_put reading files names showing given wrote_it.text before after (subst (G wrote_it.text) (shown_is given) wrote_it.gives) wrote_it.puts)
 
--- 6. `show natural`
+-- 7. `show natural`
 
 not_keyed : (v : Verdict) (natural : Natural) (why : Refused) → v ≡ keyed natural → v ≡ refused why
     → ⊥
@@ -421,7 +497,7 @@ natural_promised files s q before after old new status promise =
     (λ given wrote_it. frames_put reading files names given wrote_it.text before after
     (subst (G wrote_it.text) (shown_is given) wrote_it.gives) wrote_it.puts)
 
--- 7. the calls
+-- 8. the calls
 
 module _ (words : List (String Global)) (before after : World) (old new : SinkState) (status : ℕ) (ends : Ends old new status (λ answer. Runs (command_in words) before after answer)) where
   abbrev spelled : List (List ℕ)
@@ -439,6 +515,20 @@ module _ (words : List (String Global)) (before after : World) (old new : SinkSt
             n;
       }) (run_as n d) files before after old new status
       (command_run n spelled s q d words_are) is ends)
+
+  of_lineage : (held : Option Files) → before.inputs.held ≡ held
+      → OfLineage spelled held (LineageComes before after old new status)
+  of_lineage None is = tt
+  of_lineage (Some files) is = λ writing s q d words_are.
+      lineage_promised writing files s q d before after old new status
+      (promised (command_in words) (record {
+        schema = s;
+        query = q;
+        folder = Some d;
+        naming =
+            numbers;
+      }) (lineage writing d) files before after old new status
+      (command_lineage writing spelled s q d words_are) is ends)
 
   of_show : (held : Option Files) → before.inputs.held ≡ held → OfShow spelled held (ShowComes before after old new status)
   of_show None is = tt
@@ -471,6 +561,7 @@ module _ (words : List (String Global)) (before after : World) (old new : SinkSt
   comes = record {
     ends = ends;
     runs = of_run before.inputs.held refl;
+    traces = of_lineage before.inputs.held refl;
     shows =
         of_show before.inputs.held refl;
     names = of_natural before.inputs.held refl;

@@ -33,8 +33,10 @@ use Rattle.command_line.specs.declared.refusal.Refused.TheVariants.{Query as Que
 use Rattle.command_line.specs.declared.refusal.Refused.TheVariants.{NoKey, Table as TableRefused}
 use Rattle.command_line.specs.declared.refusal.Refused.TheVariants.{Sql, IllScoped, JsonTable}
 use Rattle.command_line.specs.declared.refusal.Refused.TheVariants.{Answer, Links}
-use Rattle.command_line.specs.Commands.{Showing, Aim, run, run_natural, show_natural, show_texts}
-use Rattle.command_line.specs.Commands.{of_query}
+use Rattle.command_line.specs.Commands.{Showing, Aim, run, run_natural, lineage, show_natural}
+use Rattle.command_line.specs.Commands.{show_texts, of_query}
+use Rattle.lineage_compile.specs.Tables.{with_numbers}
+use Rattle.nq_execute.specs.declared.plan.TraceWriting.{TraceWriting}
 use Rattle.nq_top.specs.Headline.{Naming, numbers, keys, Names, HeldWithin, GivenSchema, GivenQuery}
 use Rattle.nq_top.specs.Headline.{Accepted, Keyless, HasKeys, LacksKey, GivenKeys, GivenTables}
 use Rattle.nq_top.specs.Headline.{GivenRun, NextTable, LooksFor, AreRefused}
@@ -44,11 +46,12 @@ use Rattle.nq_top.specs.Judging.{draft_judged, aim_judged, tables_judged, comman
 use Rattle.nq_top.specs.Limits.{text_limit, tables_limit, depth_limit}
 use Rattle.nq_top.specs.Lines.{file_of}
 use Rattle.nq_top.specs.Natural.{Natural, keyed_as, natural_draft, natural_of, natural_read}
-use Rattle.nq_top.specs.Plans.{Draft, drafted, query_draft, query_question}
+use Rattle.nq_top.specs.Plans.{Draft, drafted, Question, query_draft, query_question}
 use Rattle.nq_top.specs.Reading.{PlainReading, Reading, ReadsQuery, TypedTerm, refused_as}
 use Rattle.nq_top.specs.Reading.{schema_read, term_read, type_read, typed_as, typed_over}
 use Rattle.nq_top.specs.Reading.{query_read, ill_typed, rows_read}
 use Rattle.nq_top.specs.Shown.{shown_form}
+use Rattle.nq_top.specs.Traced.{lineage_draft}
 use Rattle.nq_top.specs.declared.tables.TableTexts.TheVariants.{Csv}
 use Rattle.nq_top.proofs.Steps.{read_next}
 use Rattle.nq_top.proofs.QueryReadings.{fault_of, says_term, says_fault}
@@ -209,11 +212,19 @@ module _ (reading : Reading) (files : Files) (names : Names) (aim : Aim) where
       (text_given files names.query (λ text. query_read reading.queries schema text) (aimed schema) given.text given.held (typed accepted)
       (query_given reading schema given.text given.query (bag accepted.element) given.spells accepted.typed))
 
-  -- the aim is that of the names: a query is run over the folder that they give, by texts that name
-  -- bags as they say; and
-  -- where those name them by keys, the tables need keys
+  -- after the query the tables of a folder are read, and something comes of them
+  abbrev pub ReadsTables : Accepted files names → List ℕ → (List Loaded → Verdict) → Type 0
+  ReadsTables accepted folder next =
+      (aimed accepted.given.over.schema (typed accepted)).verdict
+      ≡ (tables_judged files Csv folder accepted.given.over.schema.tables tables_limit []
+      next).verdict
+
+  -- The aim is that of the names. Where they give a folder, its tables are read, once the tables
+  -- have the keys that name bags; and where keys do, the tables need them.
   pub record IsAimed : Type 0 where
-    pub runs : (folder : List ℕ) → names.folder ≡ Some folder → aim ≡ run_as names.naming folder
+    pub runs : (folder : List ℕ) → names.folder ≡ Some folder → (accepted : Accepted files names)
+        → HasKeys names.naming (Keyless files names accepted)
+        → (next : List Loaded → Verdict) × ReadsTables accepted folder next
     pub asks_keys : names.naming ≡ keys → (schema : Schema) (query : TypedTerm)
         → (next : Natural → Judgement)
         × (aimed schema query ≡ read_then (natural_read reading.plain schema query) next)
@@ -277,28 +288,67 @@ module _ (reading : Reading) (files : Files) (names : Names) (aim : Aim) where
       ap (λ (given : Result Natural Refused). (read_then given next).verdict)
       (natural_given accepted has)
 
-  run_aim : (accepted : Accepted files names) (folder : List ℕ)
-      → HasKeys names.naming (Keyless files names accepted) → aim ≡ run_as names.naming folder
-      → (whole reading files names aim).verdict
-      ≡ (tables_judged files Csv folder accepted.given.over.schema.tables tables_limit []
-      (run_verdict accepted)).verdict
-  run_aim accepted folder has is =
-      ap (λ (j : Judgement). j.verdict) (after_type accepted)
-      ∙ ap (λ (a : Aim). (aim_judged reading.plain files a accepted.given.over.schema (typed accepted)).verdict) is
+  pub runs_by : (folder : List ℕ) → aim ≡ run_as names.naming folder
+      → (accepted : Accepted files names) → HasKeys names.naming (Keyless files names accepted)
+      → ReadsTables accepted folder (run_verdict accepted)
+  runs_by folder is accepted has =
+      ap (λ (a : Aim).
+      (aim_judged reading.plain files a accepted.given.over.schema (typed accepted)).verdict) is
       ∙ runs_as names.naming accepted folder has
 
+  -- a lineage
+  abbrev pub lineage_verdict : TraceWriting → Accepted files names → List Loaded → Verdict
+  lineage_verdict writing accepted tables =
+      planned
+      (drafted (lineage_draft writing reading.plain accepted.given.over.schema (typed accepted))
+      (with_numbers tables)) (Question.traced writing tables accepted.given.query)
+
+  pub traces_by : (writing : TraceWriting) (folder : List ℕ) → aim ≡ lineage writing folder
+      → (accepted : Accepted files names)
+      → ReadsTables accepted folder (lineage_verdict writing accepted)
+  unfolding aim_judged
+  traces_by writing folder is accepted =
+      ap (λ (a : Aim).
+      (aim_judged reading.plain files a accepted.given.over.schema (typed accepted)).verdict) is
+
+  tables_next : (accepted : Accepted files names) (folder : List ℕ) (next : List Loaded → Verdict)
+      → ReadsTables accepted folder next
+      → (whole reading files names aim).verdict
+      ≡ (tables_judged files Csv folder accepted.given.over.schema.tables tables_limit []
+      next).verdict
+  tables_next accepted folder next reads =
+      ap (λ (j : Judgement). j.verdict) (after_type accepted) ∙ reads
+
+  -- tables that are given come to what comes of them
+  pub given_planned : (folder : List ℕ) (given : GivenRun files names folder)
+      (next : List Loaded → Verdict) → ReadsTables given.accepted folder next
+      → (whole reading files names aim).verdict
+      ≡ next (held_of given.accepted.given.over.schema.tables given.tables.rows)
+  given_planned folder given next reads =
+      tables_next given.accepted folder next reads
+      ∙ tables_given files folder next given.accepted.given.over.schema.tables tables_limit []
+      given.tables.texts given.tables.rows given.tables.held given.tables.within given.tables.given
+
   -- the plan of a query that is run
-  pub run_planned : IsAimed → (folder : List ℕ) (given : GivenRun files names folder) → names.folder
-      ≡ Some folder
+  pub run_planned : (folder : List ℕ) (given : GivenRun files names folder)
+      → aim ≡ run_as names.naming folder
       → (whole reading files names aim).verdict
       ≡ planned (drafted (run_draft given.accepted)
       (held_of given.accepted.given.over.schema.tables given.tables.rows))
       (query_question (typed given.accepted))
-  run_planned aims folder given is_run =
-      run_aim given.accepted folder given.keyed (aims.runs folder is_run)
-      ∙ tables_given files folder (run_verdict given.accepted)
-      given.accepted.given.over.schema.tables tables_limit [] given.tables.texts given.tables.rows
-      given.tables.held given.tables.within given.tables.given
+  run_planned folder given is =
+      given_planned folder given (run_verdict given.accepted)
+      (runs_by folder is given.accepted given.keyed)
+
+  -- that of a lineage
+  pub lineage_planned : (writing : TraceWriting) (folder : List ℕ)
+      (given : GivenRun files names folder) → aim ≡ lineage writing folder
+      → (whole reading files names aim).verdict
+      ≡ lineage_verdict writing given.accepted
+      (held_of given.accepted.given.over.schema.tables given.tables.rows)
+  lineage_planned writing folder given is =
+      given_planned folder given (lineage_verdict writing given.accepted)
+      (traces_by writing folder is given.accepted)
 
   -- a table that is looked for
   record LooksForTable (shape : TableShape) (name : List ℕ) (limit : ℕ) : Type 0 where
@@ -311,7 +361,8 @@ module _ (reading : Reading) (files : Files) (names : Names) (aim : Aim) where
   table_looked : IsAimed → (shape : TableShape) (name : List ℕ) (limit : ℕ)
       → NextTable files names shape name limit → LooksForTable shape name limit
   table_looked aims shape name limit table =
-      let next : List Loaded → Verdict = run_verdict table.accepted in
+      let runs = aims.runs table.folder table.is_run table.accepted table.keyed in
+      let next : List Loaded → Verdict = runs.0 in
       let done = held_of table.before table.given.rows in
       record {
         folder = table.folder;
@@ -319,7 +370,7 @@ module _ (reading : Reading) (files : Files) (names : Names) (aim : Aim) where
         done = done;
         next = next;
         comes =
-            run_aim table.accepted table.folder table.keyed (aims.runs table.folder table.is_run)
+            tables_next table.accepted table.folder next runs.1
             ∙ ap (λ (shapes : List TableShape). (tables_judged files Csv table.folder shapes tables_limit [] next).verdict) table.tables
             ∙ tables_reach files table.folder next table.before shape table.after tables_limit [] table.given.texts table.given.rows table.given.held table.given.within table.given.given
             ∙ ap₂ (λ (n : List ℕ) l. (fetched_then files n l (table_next files table.folder shape table.after l done next)).verdict) (sym table.named) (sym table.left);
@@ -427,7 +478,12 @@ asks_keys_for plain files (Some folder) n by_keys schema query =
 pub aims_at : (reading : Reading) (files : Files) (names : Names)
     → IsAimed reading files names (aim_for names.folder names.naming)
 aims_at reading files names = record {
-  runs = λ folder is_run. ap (λ (f : Option (List ℕ)). aim_for f names.naming) is_run;
+  runs = λ folder is_run accepted has.
+      let aim = aim_for names.folder names.naming in (
+        run_verdict reading files names aim accepted,
+        runs_by reading files names aim folder
+            (ap (λ (f : Option (List ℕ)). aim_for f names.naming) is_run) accepted has,
+      );
   asks_keys = asks_keys_for reading.plain files names.folder names.naming;
 }
 
@@ -441,9 +497,37 @@ pub shows_at : (reading : Reading) (files : Files) (schema query : List ℕ) (sh
           numbers;
     }) (show_texts showing)
 shows_at reading files schema query showing = record {
-  runs = λ folder is_run. absurd (cc);
+  runs = λ folder is_run accepted has. absurd (cc);
   asks_keys = λ by_keys. absurd (cc);
 }
+
+-- of a lineage
+pub traces_at : (reading : Reading) (files : Files) (writing : TraceWriting)
+    (schema query folder : List ℕ)
+    → IsAimed reading files (record {
+      schema = schema;
+      query = query;
+      folder = Some folder;
+      naming =
+          numbers;
+    }) (lineage writing folder)
+traces_at reading files writing schema query folder =
+    let names : Names = record {
+      schema = schema;
+      query = query;
+      folder = Some folder;
+      naming =
+          numbers;
+    } in
+    record {
+      runs = λ own is_run accepted has.
+          let same : folder ≡ own = cc in (
+            lineage_verdict reading files names (lineage writing folder) writing accepted,
+            traces_by reading files names (lineage writing folder) writing own
+                (ap (lineage writing) same) accepted,
+          );
+      asks_keys = λ by_keys. absurd (cc);
+    }
 
 -- 3. they come to one of three
 

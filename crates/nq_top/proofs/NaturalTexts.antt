@@ -55,7 +55,7 @@ use Rattle.nq_top.proofs.Steps.{read_next, read_refused, tells_nothing}
 
 -- 1. what compiling says
 
-each_both : {A B : Type 0} (P Q : A → B → Type 0) → ((a : A) (b : B) → P a b → Q a b)
+pub each_both : {A B : Type 0} (P Q : A → B → Type 0) → ((a : A) (b : B) → P a b → Q a b)
     → (xs : List A) (ys : List B) → EachBoth P xs ys → EachBoth Q xs ys
 each_both P Q go [] ys h = h
 each_both P Q go (x ∷ xs) [] h = absurd h

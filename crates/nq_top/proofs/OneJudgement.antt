@@ -1,10 +1,10 @@
 -- Any two readings come to one judgement.
 use Rattle.std.proofs.Common.{◌≡◌, ◌+◌, ◌-◌, ℕ, List, [], ◌∷◌, ◌++◌, length, map, Some, None, Option, Result, Ok, Err, cond, nat_lt, refl, ap, subst, ◌∙◌}
 use Rattle.nq_edge.specs.Edge.{Files, bytes_at}
-use Rattle.command_line.specs.Commands.{Aim, run, run_natural, run_json, run_json_tables, stitch}
-use Rattle.command_line.specs.Commands.{stitch_json, check, show_types, show_normal, show_paths}
-use Rattle.command_line.specs.Commands.{show_natural, show_texts, Command, help, version, of_query}
-use Rattle.command_line.specs.Commands.{answer, generated, show_load}
+use Rattle.command_line.specs.Commands.{Aim, run, run_natural, run_json, run_json_tables, lineage}
+use Rattle.command_line.specs.Commands.{stitch, stitch_json, check, show_types, show_normal}
+use Rattle.command_line.specs.Commands.{show_paths, show_natural, show_texts, Command, help}
+use Rattle.command_line.specs.Commands.{version, of_query, answer, generated, show_load}
 use Rattle.command_line.specs.declared.refusal.Refused.{Refused}
 use Rattle.command_line.specs.declared.refusal.Refused.TheVariants.{TooLong, Query as QueryRefused, Schema as SchemaRefused}
 use Rattle.nq_model.specs.Terms.{PlacedTerm, bare}
@@ -19,6 +19,7 @@ use Rattle.nq_ir.specs.Paths.{paths}
 use Rattle.nq_compile.specs.Texts.{texts_of}
 use Rattle.generated_inputs.specs.Generated.{generated_schema, generated_query, generated_type, generated_tables}
 use Rattle.nq_execute.specs.Plans.{Finish, Indexes, Writing}
+use Rattle.nq_execute.specs.declared.plan.TraceWriting.{TraceWriting}
 use Rattle.shred_types.specs.Columns.{columns_at}
 use Rattle.sql_profile.specs.declared.answer.Answer.{Answer}
 use Rattle.sql_profile.specs.declared.server.Loaded.{Loaded}
@@ -29,11 +30,14 @@ use Rattle.nq_top.specs.Judging.{stitch_judged, aim_judged, judgement}
 use Rattle.nq_top.specs.Limits.{text_limit, tables_limit}
 use Rattle.nq_top.specs.Lines.{file_by, answer_file_of}
 use Rattle.nq_top.specs.Natural.{Natural, keyed_as, natural_draft, natural_of, natural_read}
-use Rattle.nq_top.specs.Plans.{Draft, drafted, draft_to, question_to, generated_question}
+use Rattle.nq_top.specs.Plans.{Draft, drafted, Question, draft_to, question_to}
+use Rattle.nq_top.specs.Plans.{generated_question}
 use Rattle.nq_top.specs.Reading.{Reading, TypedTerm, refused_as, schema_read, term_read, type_read, typed_as, typed_over, query_read, sql_read, tree_read, rows_read, answer_read, links_read}
 use Rattle.natural_index.specs.Naming.{no_key}
 use Rattle.nq_ir.specs.Trees.{FormTree}
 use Rattle.nq_top.specs.Shown.{form_line, shown_texts}
+use Rattle.nq_top.specs.Traced.{lineage_draft, traced_draft}
+use Rattle.lineage_compile.specs.Tables.{with_numbers}
 use Rattle.nq_top.specs.declared.tables.TableTexts.{TableTexts}
 use Rattle.nq_top.specs.declared.tables.TableTexts.TheVariants.{Csv, Json}
 use Rattle.nq_top.proofs.Readings.{one_schema, one_query, one_sql, one_plain}
@@ -117,6 +121,17 @@ module _ (reading other : Reading) where
       keyed_as (natural_of schema query form) (no_key schema.tables form) in
       ap Of (one_plain reading other schema query.term query.type accepted)
 
+  -- and one draft of its lineage
+  lineage_same : (writing : TraceWriting) (schema : Schema) (query : TypedTerm)
+      → IsAccepted schema (bare query.term) query.type
+      → lineage_draft writing reading.plain schema query
+      ≡ lineage_draft writing other.plain schema query
+  unfolding lineage_draft
+  lineage_same writing schema query accepted =
+      ap (λ (t : PlacedTerm). traced_draft writing schema
+      (normal_form schema.tables (element_type query.type) (bare t)))
+      (one_plain reading other schema query.term query.type accepted)
+
   stitch_same : (writing : Writing) (files : Files) (folder : List ℕ) (schema : Schema) (query : TypedTerm) → IsAccepted schema (bare query.term) query.type
       → stitch_judged writing reading.plain files folder schema query ≡ stitch_judged writing other.plain files folder schema query
   unfolding shown_texts
@@ -148,6 +163,10 @@ module _ (reading other : Reading) where
   aim_same files (run_json_tables folder) schema query accepted =
       tables_same files Json folder schema.tables tables_limit [] _ _
       (λ tables. ap (λ (draft : Draft). planned (drafted draft tables) (question_to Writing.json query)) (draft_same Writing.json schema query.term query.type accepted))
+  aim_same files (lineage writing folder) schema query accepted =
+      tables_same files Csv folder schema.tables tables_limit [] _ _
+      (λ tables. ap (λ (draft : Draft). planned (drafted draft (with_numbers tables))
+      (Question.traced writing tables query.term)) (lineage_same writing schema query accepted))
   aim_same files (stitch folder) schema query accepted = stitch_same Writing.text files folder schema query accepted
   aim_same files (stitch_json folder) schema query accepted = stitch_same Writing.json files folder schema query accepted
   aim_same files check schema query accepted = refl

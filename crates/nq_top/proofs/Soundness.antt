@@ -20,7 +20,11 @@ use Rattle.nq_model.specs.declared.table.ColumnType.{ColumnType}
 use Rattle.nq_model.specs.declared.table.Schema.{Schema}
 use Rattle.nq_model.specs.declared.table.TableShape.{TableShape}
 use Rattle.nq_model.proofs.ProperTypes.{ordered_type}
+use Rattle.nq_model.proofs.Unfolding.{reached_once}
 use Rattle.nq_model.proofs.ValueTypes.{one_meaning}
+use Rattle.traced_meaning.specs.Traces.{trace}
+use Rattle.nq_execute.specs.Plans.{trace_text_by}
+use Rattle.nq_execute.specs.declared.plan.TraceWriting.{TraceWriting}
 use Rattle.nq_compile.specs.Shreds.{IsScopedText, Shreds}
 use Rattle.nq_compile.specs.Texts.{texts_of}
 use Rattle.nq_ir.specs.Meanings.{EachBoth}
@@ -46,7 +50,8 @@ use Rattle.nq_execute.specs.Loading.{CanLoad}
 use Rattle.nq_execute.specs.Plans.{Finish, Indexes, Writing, RowWriting, value_by, text_by, value_text, finished, AsksFor, ArePathsOf}
 use Rattle.nq_execute.specs.Serving.{Allowed}
 use Rattle.nq_execute.proofs.Writings.{text_same}
-use Rattle.nq_top.specs.Plans.{AreReadFor, Draft, draft_to, sql_draft, Question, IsWritten, IsAllowed, CanServeOver, IsSoundOver, ReadBy}
+use Rattle.nq_top.specs.Plans.{AreReadFor, Draft, draft_to, sql_draft, Question, IsTraced}
+use Rattle.nq_top.specs.Plans.{IsWritten, IsAllowed, CanServeOver, IsSoundOver, ReadBy}
 use Rattle.nq_top.specs.Reading.{PlainReading, type_read}
 use Rattle.nq_top.specs.Shown.{shown_texts}
 use Rattle.nq_top.proofs.Showings.{ResultIs, TextsAre, TextsShred, read_accepted, bag_again}
@@ -91,7 +96,7 @@ both_mapped P Q f go [] ys h = h
 both_mapped P Q f go (x ∷ xs) [] h = absurd h
 both_mapped P Q f go (x ∷ xs) (y ∷ ys) h = (go x y h.0, both_mapped P Q f go xs ys h.1)
 
-both_rows : (P : List ℕ → AnswerRows → Type 0) (texts : List (List ℕ)) (answers : List Answer) → EachBoth (λ text answer. P text answer.rows) texts answers → EachBoth P texts (rows_of answers)
+pub both_rows : (P : List ℕ → AnswerRows → Type 0) (texts : List (List ℕ)) (answers : List Answer) → EachBoth (λ text answer. P text answer.rows) texts answers → EachBoth P texts (rows_of answers)
 both_rows P [] answers h = ap rows_of h
 both_rows P (t ∷ ts) [] h = absurd h
 both_rows P (t ∷ ts) (a ∷ answers) h = (h.0, both_rows P ts answers h.1)
@@ -237,8 +242,16 @@ module _ (schema : Schema) (term : PlacedTerm) (type : TypeTree) (texts : List (
           → ◌≡◌ {A = Draft} (record { texts = ss; columns = cs; finish = Finish.value type Indexes.numbers writing }) (record { texts = ts; columns = ds; finish = Finish.value own Indexes.numbers writing })
       same_draft cs ds ss ts e f g = cc
 
--- one text is written of a query over given tables
+-- one text is written of a query over given tables, and one of its lineage
 pub one_text : (writing : Writing) (type : TypeTree) (tables : List Loaded) (term : PlacedTerm) (text other : List ℕ)
     → IsWritten writing type tables term text → IsWritten writing type tables term other → text ≡ other
 one_text writing type tables term text other a b =
     a.is ∙ ap (text_by writing type) (one_meaning (map filled_of tables) term a.value b.value a.means b.means) ∙ sym b.is
+
+pub one_trace : (writing : TraceWriting) (tables : List Loaded) (term : PlacedTerm)
+    (text other : List ℕ) → IsTraced writing tables term text → IsTraced writing tables term other
+    → text ≡ other
+one_trace writing tables term text other a b =
+    a.is ∙ ap (λ (t : PlacedTerm).
+    trace_text_by writing (trace (map filled_of tables) [] (bare t)))
+    (reached_once a.unfolds b.unfolds) ∙ sym b.is

@@ -1,7 +1,8 @@
 -- What a call on words comes to.
 use Rattle.std.specs.Prelude.{ℕ, List, String, map, string_bytes}
 use Rattle.std.specs.declared.alloc.Global.{Global}
-use Rattle.nq_top.specs.Headline.{NaturalComes, OfNatural, OfRun, OfShow, RunComes, ShowComes}
+use Rattle.nq_top.specs.Headline.{LineageComes, NaturalComes, OfLineage, OfNatural, OfRun, OfShow}
+use Rattle.nq_top.specs.Headline.{RunComes, ShowComes}
 use Rattle.nq_top.specs.Theorem.{Runs, Ends}
 use Rattle.nq_top.specs.World.{SinkState, World, command_in}
 
@@ -14,6 +15,9 @@ pub record Comes (words : List (String Global)) (before after : World) (old new 
   -- rules, the tables and the meaning,
   pub runs : OfRun (map (λ word. string_bytes word) words) before.inputs.held
       (RunComes before after old new status)
+  -- `lineage` and `lineage json`,
+  pub traces : OfLineage (map (λ word. string_bytes word) words) before.inputs.held
+      (LineageComes before after old new status)
   -- and `show` of SQL texts,
   pub shows : OfShow (map (λ word. string_bytes word) words) before.inputs.held
       (ShowComes before after old new status)

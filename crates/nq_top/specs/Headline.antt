@@ -1,5 +1,5 @@
--- The headline: what `run` and `show` of SQL texts come to, in the words of the grammars, the
--- typing rules, the tables and the meaning.
+-- The headline: what `run`, `lineage` and `show` of SQL texts come to, in the words of the
+-- grammars, the typing rules, the tables and the meaning.
 use Rattle.std.specs.Prelude.{◌≡◌, ◌≢◌, ◌≤◌, ◌-◌, ◌⊎◌, ⊤, ℕ, true, List, [], ◌∷◌, ◌++◌, codes}
 use Rattle.std.specs.Prelude.{length, map, sum, zip, Option, Some, None, IfSome, Err}
 use Rattle.std.specs.List.{AllZip}
@@ -33,6 +33,10 @@ use Rattle.schema_reader.specs.declared.fault.SchemaFault.TheVariants.{Memory as
 use Rattle.sql_profile.specs.Servers.{RoseBelow}
 use Rattle.table_reader.specs.Faults.{GivesRows, HasFault}
 use Rattle.table_reader.specs.Records.{records_of}
+use Rattle.traced_meaning.specs.Traces.{trace}
+use Rattle.nq_execute.specs.Plans.{trace_text_by}
+use Rattle.nq_execute.specs.declared.plan.TraceWriting.{TraceWriting}
+use Rattle.nq_execute.specs.declared.plan.TraceWriting.TheVariants as trace_way
 use Rattle.command_line.specs.Commands.{Showing, database_word}
 use Rattle.command_line.specs.Frames.{frames}
 use Rattle.command_line.specs.Refusals.{refused_status, refused_note}
@@ -230,6 +234,26 @@ RunComes before after old new status naming files schema query folder =
     × TellsMore before.out.written after.out.written (canonical_text value))
     (IsServed before after) before after old new status
 
+-- `lineage` writes the text of the traced meaning of the plain term to which the query unfolds,
+-- over the tables, where the server is honest, and `lineage json` writes it as JSON.
+abbrev pub LineageComes : World → World → SinkState → SinkState → ℕ
+    → TraceWriting → Files → List ℕ → List ℕ → List ℕ → Type 0
+LineageComes before after old new status writing files schema query folder =
+    let names : Names = record {
+      schema = schema;
+      query = query;
+      folder = Some folder;
+      naming = numbers;
+    } in
+    Outcome files names (GivenRun files names folder)
+    (λ given. before.server.honest ≡ true → (plain : PlacedTerm)
+    × Unfolds given.accepted.given.query plain
+    × TellsMore before.out.written after.out.written
+    (trace_text_by writing
+    (trace (database given.accepted.given.over.schema.tables given.tables.rows) []
+    (bare plain))))
+    (IsServed before after) before after old new status
+
 -- `show` of SQL texts writes in its way what is written of texts that shred the query.
 abbrev pub ShowComes : World → World → SinkState → SinkState → ℕ
     → Showing → Files → List ℕ → List ℕ → Type 0
@@ -276,6 +300,20 @@ abbrev pub OfRun : List (List ℕ) → Option Files
 OfRun words held P =
     IfSome held (λ files. (naming : Naming) (schema query folder : List ℕ)
     → words ≡ run_words naming schema query folder → P naming files schema query folder)
+
+-- the words that write the lineage of a query in a way
+abbrev pub lineage_words : TraceWriting → List ℕ → List ℕ → List ℕ → List (List ℕ)
+lineage_words trace_way.Text schema query folder =
+    codes "lineage" ∷ schema ∷ query ∷ folder ∷ []
+lineage_words trace_way.Json schema query folder =
+    codes "lineage" ∷ codes "json" ∷ schema ∷ query ∷ folder ∷ []
+
+-- the words are those, over files that are held
+abbrev pub OfLineage : List (List ℕ) → Option Files
+    → (TraceWriting → Files → List ℕ → List ℕ → List ℕ → Type 0) → Type 0
+OfLineage words held P =
+    IfSome held (λ files. (writing : TraceWriting) (schema query folder : List ℕ)
+    → words ≡ lineage_words writing schema query folder → P writing files schema query folder)
 
 -- the words that show SQL texts in a way, over a schema and a query of these names
 abbrev pub show_words : Showing → List ℕ → List ℕ → List (List ℕ)

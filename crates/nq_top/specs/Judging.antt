@@ -12,14 +12,17 @@ use Rattle.shred_types.specs.Columns.{columns_at}
 use Rattle.sql_profile.specs.declared.answer.Answer.{Answer}
 use Rattle.sql_profile.specs.declared.server.Loaded.{Loaded}
 use Rattle.command_line.specs.Commands.{Showing, Aim, run, run_natural, run_json, run_json_tables}
-use Rattle.command_line.specs.Commands.{stitch, stitch_json, check, show_types, show_normal}
-use Rattle.command_line.specs.Commands.{show_paths, show_natural, show_texts, Command, help}
+use Rattle.command_line.specs.Commands.{lineage, stitch, stitch_json, check, show_types}
+use Rattle.command_line.specs.Commands.{show_normal, show_paths, show_natural, show_texts}
+use Rattle.command_line.specs.Commands.{Command, help}
 use Rattle.command_line.specs.Commands.{version, of_query, answer, generated, show_load}
 use Rattle.command_line.specs.Help.{help_text, version_text}
 use Rattle.command_line.specs.Paths.{paths_text}
 use Rattle.command_line.specs.declared.refusal.Refused.{Refused}
 use Rattle.command_line.specs.declared.refusal.Refused.TheVariants.{TooLong}
 use Rattle.nq_execute.specs.Plans.{Writing, RowWriting, Plan}
+use Rattle.nq_execute.specs.declared.plan.TraceWriting.{TraceWriting}
+use Rattle.lineage_compile.specs.Tables.{with_numbers}
 use Rattle.nq_top.specs.Foreign.{Foreign, foreign_to}
 use Rattle.nq_top.specs.Limits.{text_limit, tables_limit}
 use Rattle.nq_top.specs.Lines.{file_by, answer_file_of, accepted_line, type_line}
@@ -27,6 +30,7 @@ use Rattle.nq_top.specs.Natural.{Natural, natural_draft, natural_read}
 use Rattle.nq_top.specs.Plans.{Draft, drafted, Question, draft_to, question_to, sql_draft, generated_plan, generated_question}
 use Rattle.nq_top.specs.Reading.{PlainReading, Reading, TypedTerm, SqlColumns, schema_read, query_read, rows_read, sql_read, answer_read, links_read}
 use Rattle.nq_top.specs.Shown.{Shown, shown_form, form_line, shown_texts}
+use Rattle.nq_top.specs.Traced.{lineage_draft}
 use Rattle.nq_top.specs.declared.tables.TableTexts.{TableTexts}
 use Rattle.nq_top.specs.declared.tables.TableTexts.TheVariants.{Csv, Json}
 
@@ -144,6 +148,15 @@ natural_judged plain files folder schema query =
     (λ natural. draft_judged files Csv folder schema (natural_draft natural)
     (λ tables. question_to Writing.text query))
 
+-- the traced meaning of a query over the tables of a folder, which the server holds with the
+-- numbers of their rows, written in a way
+abbrev pub lineage_judged : TraceWriting → PlainReading → Files → List ℕ → Schema → TypedTerm
+    → Judgement
+lineage_judged writing plain files folder schema query =
+    tables_judged files Csv folder schema.tables tables_limit []
+    (λ tables. planned (drafted (lineage_draft writing plain schema query) (with_numbers tables))
+    (Question.traced writing tables query.term))
+
 -- the value of the answers of a folder to the texts that are shown for a query, written in a way
 abbrev pub stitch_judged : Writing → PlainReading → Files → List ℕ → Schema → TypedTerm → Judgement
 stitch_judged writing plain files folder schema query =
@@ -161,6 +174,8 @@ aim_judged plain files (run_json folder) schema query =
     run_judged Writing.json Csv plain files folder schema query
 aim_judged plain files (run_json_tables folder) schema query =
     run_judged Writing.json Json plain files folder schema query
+aim_judged plain files (lineage writing folder) schema query =
+    lineage_judged writing plain files folder schema query
 aim_judged plain files (stitch folder) schema query =
     stitch_judged Writing.text plain files folder schema query
 aim_judged plain files (stitch_json folder) schema query =

@@ -3,8 +3,9 @@ use Rattle.std.specs.Prelude.{◌≡◌, ℕ, List, [], ◌∷◌, map}
 use Rattle.nq_model.specs.Databases.{database}
 use Rattle.nq_model.specs.QueryMeaning.{Means}
 use Rattle.nq_model.specs.SchemaTables.{AreTablesOf}
-use Rattle.nq_model.specs.Terms.{PlacedTerm}
+use Rattle.nq_model.specs.Terms.{PlacedTerm, bare}
 use Rattle.nq_model.specs.Types.{TypeTree}
+use Rattle.nq_model.specs.Unfolding.{Unfolds}
 use Rattle.nq_model.specs.Values.{Nested, Same}
 use Rattle.nq_model.specs.declared.table.Cell.{Cell}
 use Rattle.nq_model.specs.declared.table.ColumnType.{ColumnType}
@@ -19,8 +20,13 @@ use Rattle.sql_profile.specs.Tokens.{First}
 use Rattle.sql_profile.specs.declared.answer.Answer.{Answer}
 use Rattle.sql_profile.specs.declared.server.Loaded.{Loaded}
 use Rattle.stitcher.specs.Stitching.{rows_of}
+use Rattle.traced_meaning.specs.Traces.{trace}
+use Rattle.lineage_compile.specs.Tables.{with_numbers}
 use Rattle.generated_inputs.specs.Generated.{generated_schema, generated_query, generated_type, generated_tables}
-use Rattle.nq_execute.specs.Plans.{Finish, Indexes, Writing, RowWriting, Plan, finished, finish_view, value_by, text_by, row_text_by, IsServable}
+use Rattle.nq_execute.specs.Plans.{Finish, Indexes, Writing, RowWriting, Plan, finished}
+use Rattle.nq_execute.specs.Plans.{finish_view, value_by, text_by, trace_text_by, row_text_by}
+use Rattle.nq_execute.specs.Plans.{IsServable}
+use Rattle.nq_execute.specs.declared.plan.TraceWriting.{TraceWriting}
 use Rattle.nq_top.specs.declared.plans.Draft.{Draft as Drafts}
 use Rattle.nq_execute.specs.Serving.{Allowed}
 use Rattle.nq_top.specs.Reading.{PlainReading, TypedTerm}
@@ -77,10 +83,11 @@ sql_draft writing text types =
     record { texts = text ∷ []; columns = types ∷ []; finish = Finish.rows writing }
 
 -- what a server is asked for: the value of a query of this type, or the rows of an SQL text, each
--- written in a way
+-- written in a way; or the traced meaning of a query over these tables, written in a way
 pub data Question : Type 0 where
   value : Writing → TypeTree → PlacedTerm → Question
   sql : RowWriting → List ℕ → Question
+  traced : TraceWriting → List Loaded → PlacedTerm → Question
 
 abbrev pub question_to : Writing → TypedTerm → Question
 question_to writing query = Question.value writing query.type query.term
@@ -114,10 +121,21 @@ pub record IsAllowed (writing : RowWriting) (tables : List Loaded) (asked : List
   pub allowed : TextAllows First tables asked answer
   pub is : text ≡ row_text_by writing answer
 
--- the text is an answer to the question over the tables
+-- the text is what is written of the traced meaning, over the tables, of the plain term to which
+-- the query unfolds
+pub record IsTraced (writing : TraceWriting) (tables : List Loaded) (query : PlacedTerm)
+    (text : List ℕ) : Type 0 where
+  pub plain : PlacedTerm
+  pub unfolds : Unfolds query plain
+  pub is : text ≡ trace_text_by writing (trace (map filled_of tables) [] (bare plain))
+
+-- the text is an answer to the question over the tables; those of a traced meaning have the numbers
+-- of their rows
 abbrev pub Settles : List Loaded → Question → List ℕ → Type 0
 Settles tables (Question.value writing type term) text = IsWritten writing type tables term text
 Settles tables (Question.sql writing asked) text = IsAllowed writing tables asked text
+Settles tables (Question.traced writing own term) text =
+    (tables ≡ with_numbers own) × IsTraced writing own term text
 
 -- whatever answers SQL allows to the texts of a plan, each by itself, what is written of them is an
 -- answer to the question

@@ -3,7 +3,9 @@ ghost use Rattle.std.specs.Prelude.{◌≡◌, true, IfOk, IfSome, Some, List};
 ghost use Rattle.command_line.specs.Commands.{aim_asks, asks_server};
 ghost use Rattle.command_line.specs.Words.{aim_view, command_view, HasSize};
 ghost use Rattle.sql_profile.specs.declared.server.Loaded.{Loaded as Held};
+ghost use Rattle.traced_meaning.specs.NumberedTables.{HasNoNumbers};
 ghost use Rattle.nq_top.specs.Judging.{aim_judged, draft_judged, judgement, held_for};
+ghost use Rattle.nq_top.specs.Judging.{lineage_judged};
 ghost use Rattle.nq_top.specs.Plans.{Question, draft_view, CanServeOver, IsSoundOver};
 ghost use Rattle.nq_top.specs.Reading.{Reading};
 ghost use Rattle.nq_top.specs.Steps.{InputCounts, GatherTells, CanServe, gathered_asks, IsQuery, typed_view};
@@ -15,10 +17,12 @@ use crate::show::{normal_text, shown_text, type_line};
 use crate::stitch::gather_stitched;
 use crate::tables::{TABLES_LIMIT, TableTexts, gather_tables};
 use crate::texts::TypedQuery;
+use crate::traced::lineage_draft;
 use command_line::{Aim, Command, InputRefusal, help_text, paths_text, version_text};
 use database_scripts::load_script;
+use lineage_compile::number_tables;
 use nq_edge::Inputs;
-use nq_execute::{Plan, Writing};
+use nq_execute::{Plan, TraceWriting, Writing};
 use nq_model::{List, Schema};
 use std::alloc::Global;
 
@@ -62,6 +66,40 @@ fn gather_draft<I: Inputs>(
     Ok(Gathered::Plan(plan_of(draft, tables)))
 }
 
+// Reads the tables for the lineage of a query, and numbers their rows.
+fn gather_lineage<I: Inputs>(
+    alloc: Global,
+    inputs: &mut I,
+    folder: &str,
+    schema: &Schema,
+    query: TypedQuery,
+    writing: TraceWriting,
+) -> Result<Gathered, InputRefusal>
+    requires query { IsQuery schema.now (typed_view query) }
+    requires free { HasNoNumbers schema.now }
+    ensures counts { InputCounts (I.faults inputs.old) (I.faults inputs.new) result }
+    ensures servable { IfOk result CanServe }
+    ensures asks { IfOk result (λ gathered. gathered_asks gathered ≡ true) }
+    ensures tells { IfSome (I.held inputs.old) (λ files. (reading : Reading) →
+        GatherTells (lineage_judged writing reading.plain files folder.now schema.now
+        (typed_view query))
+        (I.fetched inputs.old) (I.fetched inputs.new) result) }
+{
+    let draft = lineage_draft(alloc, schema, query, writing)?;
+    let shapes = schema.tables.as_slice();
+    let tables = gather_tables(
+        alloc,
+        inputs,
+        TableTexts::Csv,
+        folder,
+        shapes,
+        TABLES_LIMIT,
+        List::new(alloc),
+    )?;
+    let numbered = number_tables(alloc, tables.as_slice())?;
+    Ok(Gathered::Plan(plan_of(draft, numbered)))
+}
+
 // What a query that was read comes to.
 #[tactic(auto, using(crate::proofs::Steps::fetch_rules), unfolding(crate::specs::Judging::aim_judged))]
 fn gather_aim<I: Inputs>(
@@ -71,7 +109,8 @@ fn gather_aim<I: Inputs>(
     schema: &Schema,
     query: TypedQuery,
 ) -> Result<Gathered, InputRefusal>
-    requires { IsQuery schema.now (typed_view query) }
+    requires query { IsQuery schema.now (typed_view query) }
+    requires free { HasNoNumbers schema.now }
     ensures counts { InputCounts (I.faults inputs.old) (I.faults inputs.new) result }
     ensures servable { IfOk result CanServe }
     ensures asks { IfOk result (λ gathered.
@@ -97,6 +136,9 @@ fn gather_aim<I: Inputs>(
         Aim::RunJsonTables(folder) => {
             let draft = query_draft(alloc, schema, query, Writing::Json)?;
             gather_draft(alloc, inputs, TableTexts::Json, folder, schema, draft)
+        }
+        Aim::Lineage(writing, folder) => {
+            gather_lineage(alloc, inputs, folder, schema, query, writing)
         }
         Aim::Stitch(folder) => {
             gather_stitched(alloc, inputs, folder, schema, query, Writing::Text)

@@ -4,6 +4,7 @@ ghost use Rattle.nq_compile.specs.Shreds.{IsScopedText};
 ghost use Rattle.nq_edge.specs.Edge.{bytes_at};
 ghost use Rattle.nq_model.specs.Tables.{IsProperSchema};
 ghost use Rattle.nq_model.specs.declared.table.Schema.{Schema as SchemaTree};
+ghost use Rattle.traced_meaning.specs.NumberedTables.{HasNoNumbers};
 ghost use Rattle.nq_top.specs.Judging.{Judgement, schema_then, query_then, sql_then};
 ghost use Rattle.nq_top.specs.Limits.{text_limit};
 ghost use Rattle.nq_top.specs.Reading.{Reading, TypedTerm, SqlColumns};
@@ -67,6 +68,7 @@ pub fn read_schema<I: Inputs>(
     ensures counts { InputCounts (I.faults inputs.old) (I.faults inputs.new) result }
     ensures same { I.held inputs.new ≡ I.held inputs.old }
     ensures proper { IfOk result IsProperSchema }
+    ensures free { IfOk result HasNoNumbers }
     ensures leads { IfSome (I.held inputs.old) (λ files.
         (reading : Reading) (next : SchemaTree → Judgement)
         → StepTells (schema_then reading files name.now next) next

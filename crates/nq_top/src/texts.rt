@@ -7,6 +7,7 @@ ghost use Rattle.nq_model.specs.Tables.{Columns, IsProperSchema, types_of};
 ghost use Rattle.nq_model.specs.Terms.{placed, bare};
 ghost use Rattle.nq_model.specs.Types.{type_tree};
 ghost use Rattle.sql_profile.specs.Scope.{IsWellScoped, judge, shapes_of_schema};
+ghost use Rattle.traced_meaning.specs.NumberedTables.{HasNoNumbers};
 ghost use Rattle.sql_profile.specs.Trees.{placed as placed_sql, sql_tree};
 ghost use Rattle.nq_top.specs.Reading.{SchemaReading, QueryReading, SqlReading, schema_read, term_read, type_read, query_read, scoped_as, sql_read};
 ghost use Rattle.nq_top.specs.Steps.{ReadSays, IsQuery, typed_view, sql_view, schema_refusal, query_refusal, sql_refusal};
@@ -89,6 +90,7 @@ pub fn schema_of(alloc: Global, text: &[u8]) -> Result<Schema, InputRefusal>
     ensures says { (reading : SchemaReading)
         → ReadSays (λ found. found) (schema_read reading text.now) result }
     ensures proper { IfOk result IsProperSchema }
+    ensures free { IfOk result HasNoNumbers }
 {
     match read_schema(alloc, text) {
         Ok(schema) => Ok(schema),
