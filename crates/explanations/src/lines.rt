@@ -1,6 +1,5 @@
 // The lines of an explanation that tell more than its place.
 ghost use Rattle.std.specs.Prelude.{◌≡◌, ◌++◌, IfOk, OnOk, map};
-ghost use Rattle.diagnostics.specs.TypingRules.{typing_number, typing_right};
 ghost use Rattle.explanations.specs.Explanations.{expected_line, found_line, name_line, rule_line};
 ghost use Rattle.explanations.specs.Explanations.{rule_lines, table_line, table_names, tables_line};
 ghost use Rattle.explanations.specs.Lists.{words_view};

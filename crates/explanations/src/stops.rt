@@ -1,6 +1,5 @@
 // Where a text ceases to be a query, and names that no variable has.
 ghost use Rattle.std.specs.Prelude.{◌≡◌, IfOk, map};
-ghost use Rattle.query_syntax.specs.Symbols.{token_view};
 ghost use Rattle.explanations.specs.Explanations.{ExplainsName, ExplainsStop, TokensIn};
 ghost use Rattle.explanations.specs.Explanations.{stopped_text, unbound_text};
 ghost use Rattle.explanations.specs.Lists.{words_view};

@@ -1,6 +1,6 @@
 -- Traced values as values of records alone: each element is a record of its rows, in order, each a
 -- bag of its table and its number, and of its value.
-use Rattle.std.specs.Prelude.{List, [], ◌∷◌, codes, false, map}
+use Rattle.std.specs.Prelude.{[], ◌∷◌, codes, false, map}
 use Rattle.nq_model.specs.Meaning.{elements_in}
 use Rattle.nq_model.specs.NamedRows.{Label}
 use Rattle.nq_model.specs.Values.{Nested, base, rec, bag, Fields, none, field, Elements, end, more}

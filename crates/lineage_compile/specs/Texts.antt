@@ -11,7 +11,7 @@ use Rattle.nq_model.specs.Databases.{database}
 use Rattle.nq_model.specs.SchemaTables.{AreTablesOf}
 use Rattle.nq_model.specs.Tables.{IsProperSchema}
 use Rattle.nq_model.specs.Terms.{TermTree}
-use Rattle.nq_model.specs.Types.{TypeTree, bag, type_tree}
+use Rattle.nq_model.specs.Types.{bag, type_tree}
 use Rattle.nq_model.specs.Values.{Nested, Same}
 use Rattle.nq_model.specs.declared.table.Cell.{Cell}
 use Rattle.nq_model.specs.declared.table.Schema.{Schema}

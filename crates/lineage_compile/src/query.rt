@@ -1,5 +1,5 @@
 // From a query to the texts of its traced form.
-ghost use Rattle.std.specs.Prelude.{◌≡◌, IfOk};
+ghost use Rattle.std.specs.Prelude.{IfOk};
 ghost use Rattle.nq_ir.specs.NormalForms.{normal_form};
 ghost use Rattle.nq_model.specs.Proper.{IsProperTerm};
 ghost use Rattle.nq_model.specs.Tables.{IsProperSchema};

@@ -37,18 +37,24 @@ module _ (files : Files) (kind : TableTexts) (folder : List ℕ) (schema : Schem
   abbrev OfAll : (Judgement → Type 0) → Type 0
   OfAll P = P (tables_judged files kind folder schema.tables tables_limit [] next)
 
-  pub of_all : (P : Judgement → Type 0) → P (tables_judged files kind folder shapes tables_limit done next) → OfAll P
+  pub of_all : (P : Judgement → Type 0)
+      → P (tables_judged files kind folder shapes tables_limit done next) → OfAll P
   of_all P told =
       subst (λ (d : List Loaded). P (tables_judged files kind folder schema.tables tables_limit d next)) empty
       (subst (λ (s : List TableShape). P (tables_judged files kind folder s tables_limit done next)) same told)
 
   -- a table text is refused, or an input fails
-  pub tables_stop : (r : InputRefusal) → RefusalTells (tables_judged files kind folder shapes tables_limit done next) old new r → OfAll (λ j. RefusalTells j old new r)
+  pub tables_stop : (r : InputRefusal)
+      → RefusalTells (tables_judged files kind folder shapes tables_limit done next) old new r
+      → OfAll (λ j. RefusalTells j old new r)
   tables_stop r told = of_all (λ j. RefusalTells j old new r) told
 
   -- the plan is the one that the tables come to
-  pub tables_go : (tables : List Loaded) (plan : Plan) (question : Question) (asked : Asked) → TablesTell (tables_judged files kind folder shapes tables_limit done next) next old new (Ok tables)
-      → next tables ≡ planned plan question → HoldsPlan plan question asked → OfAll (λ j. Accepts j (gathered.Plan asked) old new)
+  pub tables_go : (tables : List Loaded) (plan : Plan) (question : Question) (asked : Asked)
+      → TablesTell (tables_judged files kind folder shapes tables_limit done next) next old new
+      (Ok tables)
+      → next tables ≡ planned plan question → HoldsPlan plan question asked
+      → OfAll (λ j. Accepts j (gathered.Plan asked) old new)
   tables_go tables plan question asked told comes holds =
       let judges = of_all (λ j. TablesTell j next old new (Ok tables)) told in
       record {

@@ -293,8 +293,7 @@ run_promised : (n : Naming) (files : Files) (s q d : List ℕ) (before after : W
       schema = s;
       query = q;
       folder = Some d;
-      naming =
-          n;
+      naming = n;
     }) (run_as n d) files before after old new status
     → RunComes before after old new status n files s q d
 run_promised n files s q d before after old new status promise =
@@ -351,8 +350,7 @@ lineage_promised : (writing : TraceWriting) (files : Files) (s q d : List ℕ)
       schema = s;
       query = q;
       folder = Some d;
-      naming =
-          numbers;
+      naming = numbers;
     }) (lineage writing d) files before after old new status
     → LineageComes before after old new status writing files s q d
 lineage_promised writing files s q d before after old new status promise =
@@ -401,8 +399,7 @@ show_promised : (showing : Showing) (files : Files) (s q : List ℕ) (before aft
       schema = s;
       query = q;
       folder = None;
-      naming =
-          numbers;
+      naming = numbers;
     }) (show_texts showing) files before after old new status
     → ShowComes before after old new status showing files s q
 show_promised showing files s q before after old new status promise =
@@ -472,8 +469,7 @@ natural_promised : (files : Files) (s q : List ℕ) (before after : World) (old 
       schema = s;
       query = q;
       folder = None;
-      naming =
-          keys;
+      naming = keys;
     }) show_natural files before after old new status
     → NaturalComes before after old new status files s q
 natural_promised files s q before after old new status promise =
@@ -511,8 +507,7 @@ module _ (words : List (String Global)) (before after : World) (old new : SinkSt
         schema = s;
         query = q;
         folder = Some d;
-        naming =
-            n;
+        naming = n;
       }) (run_as n d) files before after old new status
       (command_run n spelled s q d words_are) is ends)
 
@@ -525,8 +520,7 @@ module _ (words : List (String Global)) (before after : World) (old new : SinkSt
         schema = s;
         query = q;
         folder = Some d;
-        naming =
-            numbers;
+        naming = numbers;
       }) (lineage writing d) files before after old new status
       (command_lineage writing spelled s q d words_are) is ends)
 
@@ -538,8 +532,7 @@ module _ (words : List (String Global)) (before after : World) (old new : SinkSt
         schema = s;
         query = q;
         folder = None;
-        naming =
-            numbers;
+        naming = numbers;
       }) (show_texts showing) files before after old new status
       (command_show showing spelled s q words_are) is ends)
 
@@ -552,8 +545,7 @@ module _ (words : List (String Global)) (before after : World) (old new : SinkSt
         schema = s;
         query = q;
         folder = None;
-        naming =
-            keys;
+        naming = keys;
       }) show_natural files before after old new status
       (command_natural spelled s q words_are) is ends)
 
@@ -562,7 +554,6 @@ module _ (words : List (String Global)) (before after : World) (old new : SinkSt
     ends = ends;
     runs = of_run before.inputs.held refl;
     traces = of_lineage before.inputs.held refl;
-    shows =
-        of_show before.inputs.held refl;
+    shows = of_show before.inputs.held refl;
     names = of_natural before.inputs.held refl;
   }

@@ -96,7 +96,9 @@ both_mapped P Q f go [] ys h = h
 both_mapped P Q f go (x ∷ xs) [] h = absurd h
 both_mapped P Q f go (x ∷ xs) (y ∷ ys) h = (go x y h.0, both_mapped P Q f go xs ys h.1)
 
-pub both_rows : (P : List ℕ → AnswerRows → Type 0) (texts : List (List ℕ)) (answers : List Answer) → EachBoth (λ text answer. P text answer.rows) texts answers → EachBoth P texts (rows_of answers)
+pub both_rows : (P : List ℕ → AnswerRows → Type 0) (texts : List (List ℕ))
+    (answers : List Answer) → EachBoth (λ text answer. P text answer.rows) texts answers
+    → EachBoth P texts (rows_of answers)
 both_rows P [] answers h = ap rows_of h
 both_rows P (t ∷ ts) [] h = absurd h
 both_rows P (t ∷ ts) (a ∷ answers) h = (h.0, both_rows P ts answers h.1)

@@ -10,7 +10,7 @@ use Rattle.nq_model.specs.Terms.{PlacedTerm, bare}
 use Rattle.nq_model.specs.Types.{TypeTree, bag, type_tree}
 use Rattle.nq_model.specs.Typing.{IsAccepted}
 use Rattle.nq_model.specs.Unfolding.{Unfolds}
-use Rattle.nq_model.specs.Values.{Nested}
+use Rattle.nq_model.specs.Values.{Nested, Same}
 use Rattle.nq_model.specs.declared.table.Cell.{Cell}
 use Rattle.nq_model.specs.declared.table.ColumnType.{ColumnType}
 use Rattle.nq_model.specs.declared.table.Schema.{Schema}
@@ -19,7 +19,6 @@ use Rattle.nq_compile.specs.Shreds.{IsScopedText}
 use Rattle.nq_execute.specs.Plans.{Finish, Indexes, Writing, ArePathsOf, AsksFor, value_text}
 use Rattle.nq_execute.specs.Plans.{trace_text_by}
 use Rattle.nq_execute.specs.declared.plan.TraceWriting.{TraceWriting}
-use Rattle.nq_execute.proofs.Writings.{traced_same}
 use Rattle.nq_ir.specs.Meanings.{EachBoth}
 use Rattle.nq_ir.specs.NormalForms.{element_type, normal_form}
 use Rattle.nq_ir.specs.Parts.{element_types}
@@ -173,9 +172,10 @@ module _ (fit : NumberedTablesFit) (schema : Schema) (query : TypedTerm)
       }
 
   -- and it is sound for the traced meaning of the query
-  pub traced_sound : IsSoundNumbered writing schema own_draft query.term
+  pub traced_sound : ((v w : Nested) → Same v w → trace_text_by writing v ≡ trace_text_by writing w)
+      → IsSoundNumbered writing schema own_draft query.term
   unfolding value_text read_numbered
-  traced_sound tables read few answers allowed =
+  traced_sound one_text tables read few answers allowed =
       let numbered = read_numbered fit schema is_query.proper_schema tables read few in
       let Q : List Loaded → Type 0 = λ ts.
       EachBoth (TextAllows First ts) made.texts (rows_of answers) in
@@ -197,8 +197,7 @@ module _ (fit : NumberedTablesFit) (schema : Schema) (query : TypedTerm)
               own.tables
               ∙ ap (λ (f : FormTree). T (listed form.comps) f (type_tree made.result)) own.normal
               ∙ ap (T (listed form.comps) (form_traced form)) own.result
-              ∙ traced_same writing (V (listed form.comps) (form_traced form) (bag element)) traced
-              told
+              ∙ one_text (V (listed form.comps) (form_traced form) (bag element)) traced told
               ∙ ap (λ (d : List FilledTable). trace_text_by writing (trace d [] (bare plain)))
               (sym filled);
         },

@@ -10,7 +10,7 @@ ghost use Rattle.nq_top.specs.Traced.{CanServeNumbered, IsSoundNumbered, lineage
 use crate::plans::Draft;
 use crate::texts::TypedQuery;
 use lineage_compile::compile_lineage;
-use nq_execute::{Finish, Indexes, TraceWriting, Writing};
+use nq_execute::{Finish, Indexes, TraceWriting, Writing, writing_laws};
 use nq_model::{Memory, Schema};
 use std::alloc::Global;
 use traced_meaning::trace_laws;
@@ -32,6 +32,7 @@ pub fn lineage_draft(
         draft_view draft ≡ lineage_draft writing plain schema.now (typed_view query)) }
 {
     trace_laws();
+    writing_laws();
     let made = compile_lineage(alloc, schema, query.term)?;
     Ok(Draft {
         texts: made.texts,

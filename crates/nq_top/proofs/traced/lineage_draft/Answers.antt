@@ -25,6 +25,7 @@ pub returns-clause-sound : goal.returns-clause-sound
 returns-clause-sound c =
     traced_sound c.trace_laws.ensures.fit c.args.schema.now (typed_view c.args.query)
     c.requires.query c.in_ok-made.made c.in_ok-made.ensures c.args.writing
+    (c.writing_laws.ensures.traces c.args.writing)
 
 pub returns-clause-is : goal.returns-clause-is
 returns-clause-is c =
