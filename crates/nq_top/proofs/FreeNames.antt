@@ -1,16 +1,14 @@
--- No column of a schema that a text spells has the name of the column of numbers.
+-- No column has the name of the column of numbers where a query can spell all names.
 use Rattle.std.proofs.Common.{◌≡◌, ◌≢◌, List, [], ◌∷◌, All, subst}
 use Rattle.std.proofs.lemmas.List.Elements.{All-from_recursion}
 use Rattle.std.specs.List.{AllByRecursion as Each}
 use Rattle.nq_model.specs.NamedRows.{Label}
 use Rattle.nq_model.specs.Proper.{IsQueryWord}
-use Rattle.nq_model.specs.SchemaTexts.{Spells}
 use Rattle.nq_model.specs.SchemaTokens.{IsWord}
 use Rattle.nq_model.specs.Tables.{Columns, names_of}
 use Rattle.nq_model.specs.declared.table.Schema.{Schema}
 use Rattle.nq_model.specs.declared.table.TableShape.{TableShape}
-use Rattle.schema_reader.proofs.Names.{HasQueryWords}
-use Rattle.schema_reader.proofs.Verdicts.{spelled_words}
+use Rattle.schema_reader.specs.Words.{HasQueryWords, HaveQueryWords}
 use Rattle.traced_meaning.specs.NumberedTables.{HasNoNumbers, number_column}
 
 -- that name is no word
@@ -34,8 +32,8 @@ free_shapes (s ∷ shapes) words = (
   free_shapes shapes words.1,
 )
 
-pub free_names : (text : List _) (schema : Schema) → Spells text schema → HasNoNumbers schema
-free_names text schema spells =
+pub free_names : (schema : Schema) → HaveQueryWords schema → HasNoNumbers schema
+free_names schema words =
     All-from_recursion
     (λ (shape : TableShape). All (λ column. column.0 ≢ number_column) shape.columns) schema.tables
-    (free_shapes schema.tables (spelled_words text schema spells))
+    (free_shapes schema.tables words)

@@ -16,7 +16,7 @@ use command_line::{InputRefusal, Refused};
 use nq_model::{ColumnType, List, Schema, Term, Ty};
 use nq_parser::{SyntaxFault, parse};
 use nq_types::{CheckFault, check};
-use schema_reader::{SchemaFault, read_schema};
+use schema_reader::{SchemaFault, read_schema, schema_laws};
 use sql_profile::SqlText;
 use sql_reader::{SqlFault, read_sql};
 use sql_scope::{ScopeFault, scope};
@@ -92,6 +92,7 @@ pub fn schema_of(alloc: Global, text: &[u8]) -> Result<Schema, InputRefusal>
     ensures proper { IfOk result IsProperSchema }
     ensures free { IfOk result HasNoNumbers }
 {
+    schema_laws();
     match read_schema(alloc, text) {
         Ok(schema) => Ok(schema),
         Err(fault) => Err(schema_refusal(fault)),

@@ -4,11 +4,11 @@ use Rattle.std.specs.List.{AllByRecursion as Each, AllZip, flat_map, slice_index
 use Rattle.std.proofs.lemmas.List.Elements.{All-from_recursion}
 use Rattle.nq_model.specs.Orders.{AreDistinct}
 use Rattle.nq_model.specs.Proper.{IsQueryWord}
-use Rattle.nq_model.specs.declared.table.TableShape.{TableShape}
 use Rattle.nq_model.specs.Tables.{names_of, IsProperName, IsProperShape, IsProperSchema}
 use Rattle.nq_model.specs.SchemaTokens.{Mark, Symbol, Token, IsWord, is_word_byte}
 use Rattle.nq_model.specs.SchemaTexts.{Name, WrittenColumn, WrittenTable, Slot, Fills, mark_slot, with_commas, column_slots, key_slots, table_slots, schema_slots, IsSymbol, shape_of, schema_of, Fault, FaultAt, StandsBehind, table_names, column_names, key_names}
 use Rattle.schema_reader.specs.Shapes.{has}
+use Rattle.schema_reader.specs.Words.{HasQueryWords, HaveQueryWords}
 use Rattle.schema_reader.proofs.Truths.{Truth, yes', no', truth}
 use Rattle.schema_reader.proofs.Cuts.{Ascend, AreSymbols}
 use Rattle.schema_reader.proofs.Conditions.{Rise, names_in, contains_here, contains_there, has_is, has_from}
@@ -190,10 +190,6 @@ tables_words [] w = tt
 tables_words (t ∷ ts) w =
     (each_front (λ n. IsWord n.text) (names_in t) (flat_map names_in ts) w, tables_words ts (each_back (λ n. IsWord n.text) (names_in t) (flat_map names_in ts) w))
 
--- the names of a table and of its columns
-abbrev pub HasQueryWords : TableShape → Type 0
-HasQueryWords shape = IsQueryWord shape.name × Each IsQueryWord (names_of shape.columns)
-
 module _ (tables : List WrittenTable) (words : AreWords (flat_map names_in tables)) (faultless : (f : Fault) (p : ℕ) → FaultAt tables f p → ⊥) where
   no_twin_column : (t : WrittenTable) → Contains tables t → AreDistinct (column_names t.columns)
   no_twin_column t c = distinct_from (column_names t.columns) (λ before x s k.
@@ -291,5 +287,5 @@ module _ (tables : List WrittenTable) (words : AreWords (flat_map names_in table
             (each_map IsQueryWord (λ d. d.name.text) t.columns (columns_query_words t (stands_contains tables before t s) (each_front (λ n. IsWord n.text) (map (λ d. d.name) t.columns) t.key w.1))),
       )
 
-  pub schema_query_words : Each HasQueryWords (schema_of tables).tables
+  pub schema_query_words : HaveQueryWords (schema_of tables)
   schema_query_words = each_map HasQueryWords shape_of tables (each_from (λ t. HasQueryWords (shape_of t)) tables shape_query_words)

@@ -9,11 +9,12 @@ use Rattle.nq_model.specs.SchemaTokens.{Token, tokens_from, end_token, HasTokens
 use Rattle.nq_model.specs.SchemaTexts.{WrittenTable, IsSymbol, WritesTables, IsSyntaxPlace, Fault, rank, FaultAt, NotLater, HasFault, Spells, schema_of}
 use Rattle.nq_model.specs.declared.table.Schema.{Schema}
 use Rattle.schema_reader.specs.Shapes.{tables_fault}
+use Rattle.schema_reader.specs.Words.{HaveQueryWords}
 use Rattle.schema_reader.proofs.Truths.{Truth, yes', no', truth, Found, nothing', something', found}
 use Rattle.schema_reader.proofs.Cuts.{Ascend, Ascend-append, AreSymbols, Each-append, tokens_ascend, tokens_symbols}
 use Rattle.schema_reader.proofs.Syntax.{cut_far, Judged, faulty, written, judged, one_place, one_tables, no_syntax_fault}
 use Rattle.schema_reader.proofs.Conditions.{Rise, names_in, walk_none, walk_some}
-use Rattle.schema_reader.proofs.Names.{HasQueryWords, schema_rise, schema_words, schema_proper, schema_query_words}
+use Rattle.schema_reader.proofs.Names.{schema_rise, schema_words, schema_proper, schema_query_words}
 
 -- what is known of the tokens of a text
 pub record Ordered (tokens : List Token) : Type 0 where
@@ -48,10 +49,10 @@ spelled_proper text schema s =
     subst IsProperSchema (sym s.same) (schema_proper s.tables (schema_words s.tables s.written.0 s.written.2.filled o.symbols) s.faultless)
 
 -- the names of a spelled schema are words of at most 64 bytes
-pub spelled_words : (text : List ℕ) (schema : Schema) → Spells text schema → Each HasQueryWords schema.tables
+pub spelled_words : (text : List ℕ) (schema : Schema) → Spells text schema → HaveQueryWords schema
 spelled_words text schema s =
     let o = text_ordered text s.written.0 s.written.1 in
-    subst (λ (z : Schema). Each HasQueryWords z.tables) (sym s.same) (schema_query_words s.tables (schema_words s.tables s.written.0 s.written.2.filled o.symbols) s.faultless)
+    subst HaveQueryWords (sym s.same) (schema_query_words s.tables (schema_words s.tables s.written.0 s.written.2.filled o.symbols) s.faultless)
 
 -- where the walk finds no fault the text spells the schema
 pub spells : (text : List ℕ) (tables : List WrittenTable) → IsUtf8 text → WritesTables text tables → tables_fault [] tables ≡ None → Spells text (schema_of tables)

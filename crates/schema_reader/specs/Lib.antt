@@ -4,3 +4,4 @@ pub mod Views
 pub mod Reading
 pub mod Shapes
 pub mod Answers
+pub mod Words

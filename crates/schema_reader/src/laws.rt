@@ -3,8 +3,10 @@ ghost use Rattle.std.specs.Prelude.{◌≡◌, ℕ, List, ◌⊎◌};
 ghost use Rattle.nq_model.specs.SchemaTexts.{Fault, HasFault, Spells};
 ghost use Rattle.nq_model.specs.Tables.{IsProperSchema};
 ghost use Rattle.nq_model.specs.declared.table.Schema.{Schema};
+ghost use Rattle.schema_reader.specs.Words.{HaveQueryWords};
 
-/// Each text either spells one schema, which is proper, or has one fault at one place.
+/// Each text either spells one schema, which is proper and whose names a query can spell, or has
+/// one fault at one place.
 pub fn schema_laws()
     ensures some { (text : List ℕ)
         → ((schema : Schema) × Spells text schema)
@@ -18,4 +20,6 @@ pub fn schema_laws()
         → (f ≡ g) × (place ≡ other) }
     ensures proper { (text : List ℕ) (schema : Schema) → Spells text schema
         → IsProperSchema schema }
+    ensures words { (text : List ℕ) (schema : Schema) → Spells text schema
+        → HaveQueryWords schema }
 {}

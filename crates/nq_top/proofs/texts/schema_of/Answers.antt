@@ -17,4 +17,6 @@ returns-in-Err-clause-says c = λ reading.
     (schema_refused reading c.args.text.now c.read_schema.result c.in-Err.fault c.read_schema.ensures.spelled c.read_schema.ensures.faulty c.in-Err.is)
 
 pub returns-in-Ok-clause-free : goal.returns-in-Ok-clause-free
-returns-in-Ok-clause-free c = free_names c.args.text.now c.in-Ok.schema c.in-Ok.ensures.ok.1
+returns-in-Ok-clause-free c =
+    free_names c.in-Ok.schema
+    (c.schema_laws.ensures.words c.args.text.now c.in-Ok.schema c.in-Ok.ensures.ok.1)

@@ -1,4 +1,5 @@
 use Rattle.schema_reader.proofs.Verdicts.{one_holds, not_both, one_schema, one_fault, spelled_proper}
+use Rattle.schema_reader.proofs.Verdicts.{spelled_words}
 use Rattle.schema_reader.proofs.laws.schema_laws.Goals as goal
 
 pub returns-clause-some : goal.returns-clause-some
@@ -15,3 +16,6 @@ returns-clause-one_fault c = one_fault
 
 pub returns-clause-proper : goal.returns-clause-proper
 returns-clause-proper c = spelled_proper
+
+pub returns-clause-words : goal.returns-clause-words
+returns-clause-words c = spelled_words
