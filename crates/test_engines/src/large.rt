@@ -57,6 +57,10 @@ const INNER_BY_QUERY: &str =
 const AROUND_ALONE: &str =
     r#"SELECT "x"."a" AS "a" FROM "t" AS "x" WHERE (NOT EXISTS (SELECT 1 AS "o" FROM "e" AS "y" WHERE ("x"."a" < 100)))"#;
 
+// Every row, where both tables have even numbers alone: then no number is one more than another.
+const NONE_MEET: &str =
+    r#"SELECT "x"."a" AS "a" FROM "t" AS "x" WHERE (NOT EXISTS (SELECT 1 AS "o" FROM "t" AS "y", "e" AS "z" WHERE ("y"."a" = ("z"."a" + 1))))"#;
+
 // Each row with the count of the rows of its number, and with the sum of their numbers.
 const COUNTED: &str =
     r#"SELECT ("x"."a" + (SELECT COUNT(*) FROM "t" AS "y" WHERE ("y"."a" = "x"."a"))) AS "a" FROM "t" AS "x""#;
@@ -154,6 +158,18 @@ fn conditions_on_one_source(rt: HostRuntime) -> Result<(), Fail> {
     assert!(&rt; rise(&inner.rows, HALF, 0, 1));
     let around = ask(alloc, &mut server, &schema, AROUND_ALONE)?;
     assert!(&rt; rise(&around.rows, 99_900, 100, 1));
+    Ok(())
+}
+
+#[test]
+fn emptiness_of_a_join(rt: HostRuntime) -> Result<(), Fail> {
+    let alloc = rt.alloc();
+    let schema = schema(alloc)?;
+    let even = pairs(alloc, HALF, 2)?;
+    let mut server: Box<dyn SqlServer> = Box::new(alloc, FastServer::new(alloc))?;
+    load_both(alloc, &mut server, even.as_slice(), even.as_slice())?;
+    let all = ask(alloc, &mut server, &schema, NONE_MEET)?;
+    assert!(&rt; rise(&all.rows, HALF, 0, 2));
     Ok(())
 }
 
