@@ -3,10 +3,12 @@ use Rattle.std.specs.Prelude.{ℕ, Bool, true, false, List, [], ◌∷◌, codes
 use Rattle.std.specs.Str.{bytes_eq}
 use Rattle.database_scripts.specs.declared.database.Database.{Database}
 use Rattle.database_scripts.specs.declared.database.Database.TheVariants.{Postgres, Sqlite}
+use Rattle.diagnostics.specs.declared.rule_texts.Rule.{Rule}
 use Rattle.generated_inputs.specs.Sizes.{size_of}
 use Rattle.nq_execute.specs.Plans.{RowWriting, lines, arrays}
 use Rattle.nq_execute.specs.declared.plan.TraceWriting.{TraceWriting}
 use Rattle.nq_execute.specs.declared.plan.TraceWriting.TheVariants as trace_way
+use Rattle.command_line.specs.Rules.{scope_of, typing_of}
 
 -- how the SQL texts that shred a query are shown: each in a frame that tells its path and its
 -- length; or all as a line of JSON, with the type of the query and the columns of each answer; or
@@ -40,7 +42,8 @@ pub data Aim : Type 0 where
 -- a text on the program is written; or a query is put to an aim: the names of a schema and of the
 -- query; or the rows of an SQL text are written in a way: the names of a schema, of the text and of
 -- a folder; or the summary of a query over generated tables of a size; or the script by which a
--- database loads the tables of a schema
+-- database loads the tables of a schema; or the type of a query, or what is wrong with it or with
+-- its schema: the names of both; or what a rule asks
 pub data Command : Type 0 where
   help : Command
   version : Command
@@ -48,6 +51,8 @@ pub data Command : Type 0 where
   answer : RowWriting → List ℕ → List ℕ → List ℕ → Command
   generated : ℕ → Command
   show_load : Database → List ℕ → Command
+  explain : List ℕ → List ℕ → Command
+  explain_rule : Rule → Command
 
 -- `--help` or `--version`
 abbrev pub one_word : List ℕ → Option Command
@@ -60,10 +65,23 @@ abbrev pub two_words : List ℕ → List ℕ → Option Command
 two_words word size =
     cond (bytes_eq word (codes "gen")) (option_map generated (size_of size)) None
 
--- `check SCHEMA QUERY`
+-- what `explain` makes of `rule N`; or of SCHEMA QUERY
+abbrev pub of_explain : List ℕ → List ℕ → Option Command
+of_explain schema query =
+    cond (bytes_eq schema (codes "rule")) (option_map explain_rule (typing_of query))
+    (Some (explain schema query))
+
+-- what it makes of `sql rule N`
+abbrev pub of_explain_sql : List ℕ → List ℕ → List ℕ → Option Command
+of_explain_sql what kind number =
+    cond (bytes_eq what (codes "sql"))
+    (cond (bytes_eq kind (codes "rule")) (option_map explain_rule (scope_of number)) None) None
+
+-- `check SCHEMA QUERY`; or a form of `explain`
 abbrev pub three_words : List ℕ → List ℕ → List ℕ → Option Command
 three_words word schema query =
-    cond (bytes_eq word (codes "check")) (Some (of_query check schema query)) None
+    cond (bytes_eq word (codes "check")) (Some (of_query check schema query))
+    (cond (bytes_eq word (codes "explain")) (of_explain schema query) None)
 
 -- the word of a database
 abbrev pub database_word : Database → List ℕ
@@ -95,7 +113,7 @@ of_show what second third =
     (option_map (λ aim. of_query aim second third) (shown what))
 
 -- `run SCHEMA QUERY DIR`, `lineage SCHEMA QUERY DIR`, `answer SCHEMA SQLFILE DIR` or
--- `stitch SCHEMA QUERY DIR`; or a form of `show`
+-- `stitch SCHEMA QUERY DIR`; or a form of `show` or of `explain`
 abbrev pub four_words : List ℕ → List ℕ → List ℕ → List ℕ → Option Command
 four_words word second third fourth =
     cond (bytes_eq word (codes "run")) (Some (of_query (run fourth) second third))
@@ -103,7 +121,8 @@ four_words word second third fourth =
     (Some (of_query (lineage trace_way.Text fourth) second third))
     (cond (bytes_eq word (codes "answer")) (Some (answer lines second third fourth))
     (cond (bytes_eq word (codes "stitch")) (Some (of_query (stitch fourth) second third))
-    (cond (bytes_eq word (codes "show")) (of_show second third fourth) None))))
+    (cond (bytes_eq word (codes "show")) (of_show second third fourth)
+    (cond (bytes_eq word (codes "explain")) (of_explain_sql second third fourth) None)))))
 
 -- what `json` makes of `run`, of `lineage`, of `answer` and of `stitch` with their three names
 abbrev pub as_json : List ℕ → List ℕ → List ℕ → List ℕ → Option Command
@@ -182,3 +201,5 @@ asks_server (Some (of_query aim schema query)) = aim_asks aim
 asks_server (Some (answer writing schema text folder)) = true
 asks_server (Some (generated size)) = true
 asks_server (Some (show_load database schema)) = false
+asks_server (Some (explain schema query)) = false
+asks_server (Some (explain_rule rule)) = false

@@ -18,6 +18,9 @@ help_text =
     ++ (codes "nq stitch json SCHEMA QUERY DIR      writes the value of answers as JSON\n"
     ++ (codes "nq gen N                             writes a summary over tables of size N\n"
     ++ (codes "nq check SCHEMA QUERY                writes ok where the query is accepted\n"
+    ++ (codes "nq explain SCHEMA QUERY              writes its type, or explains its first fault\n"
+    ++ (codes "nq explain rule N                    writes what typing rule N asks, with examples\n"
+    ++ (codes "nq explain sql rule N                writes what rule N of SQL texts asks\n"
     ++ (codes "nq show types SCHEMA QUERY           writes the type of the query\n"
     ++ (codes "nq show normal SCHEMA QUERY          writes the normal form of the query\n"
     ++ (codes "nq show paths SCHEMA QUERY           writes a line for each bag of the type\n"
@@ -33,7 +36,7 @@ help_text =
     ++ (codes "SCHEMA, QUERY and SQLFILE are files. The table t is the file DIR/t.csv, and as a\n"
     ++ (codes "JSON table DIR/t.json. The answer to the SQL text K is the file DIR/K.csv.\n"
     ++ (codes "DATABASE is postgres or sqlite.\n"
-    ++ codes "README.md explains the statuses, under Commands.\n"))))))))))))))))))))))))))))
+    ++ codes "README.md explains the statuses, under Commands.\n")))))))))))))))))))))))))))))))
 
 -- the name and the version of the program
 unfoldable pub version_text : List ℕ

@@ -1,3 +1,4 @@
+pub mod Rules
 pub mod Commands
 pub mod Help
 pub mod Words

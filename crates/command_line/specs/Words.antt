@@ -4,7 +4,8 @@ use Rattle.command_line.specs.Commands.{Showing, Aim, run, run_natural, run_json
 use Rattle.command_line.specs.Commands.{lineage, stitch, stitch_json, check, show_types}
 use Rattle.command_line.specs.Commands.{show_normal, show_paths, show_natural, show_texts}
 use Rattle.command_line.specs.Commands.{Command, help}
-use Rattle.command_line.specs.Commands.{version, of_query, answer, generated, show_load}
+use Rattle.command_line.specs.Commands.{version, of_query, answer, generated, show_load, explain}
+use Rattle.command_line.specs.Commands.{explain_rule}
 use Rattle.generated_inputs.specs.Sizes.{IsSize}
 use Rattle.command_line.specs.declared.words.Aim.{Aim as Aims}
 use Rattle.command_line.specs.declared.words.Aim.TheVariants as aim
@@ -42,6 +43,8 @@ command_view (words.Answer writing schema text folder) =
     answer (row_writing_view writing) schema.now text.now folder.now
 command_view (words.Generated size) = generated size
 command_view (words.ShowLoad database schema) = show_load database schema.now
+command_view (words.Explain schema query) = explain schema.now query.now
+command_view (words.ExplainRule rule) = explain_rule rule
 
 -- a size is one for which tables are generated
 abbrev pub HasSize : Words → Type 0
@@ -51,3 +54,5 @@ HasSize (words.OfQuery aim schema query) = ⊤
 HasSize (words.Answer writing schema text folder) = ⊤
 HasSize (words.Generated size) = IsSize size
 HasSize (words.ShowLoad database schema) = ⊤
+HasSize (words.Explain schema query) = ⊤
+HasSize (words.ExplainRule rule) = ⊤

@@ -8,6 +8,7 @@ mod laws;
 mod note;
 mod paths;
 mod refusal;
+mod rules;
 mod status;
 mod words;
 

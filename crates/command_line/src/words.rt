@@ -1,11 +1,14 @@
 // The words of the command line.
 ghost use Rattle.std.specs.Prelude.{◌≡◌, IfSome, map, option_map, string_bytes};
 ghost use Rattle.command_line.specs.Commands.{one_word, two_words, three_words, database_of, shown};
-ghost use Rattle.command_line.specs.Commands.{of_show, four_words, as_json, as_natural, five_words};
+ghost use Rattle.command_line.specs.Commands.{of_explain, of_explain_sql, of_show, four_words};
+ghost use Rattle.command_line.specs.Commands.{as_json, as_natural, five_words};
 ghost use Rattle.command_line.specs.Commands.{over_tables, as_script, six_words, command_of};
 ghost use Rattle.command_line.specs.Words.{HasSize, aim_view, command_view};
 
+use crate::rules::{scope_of, typing_of};
 use database_scripts::Database;
+use diagnostics::Rule;
 use generated_inputs::size_of;
 use nq_execute::{RowWriting, TraceWriting};
 
@@ -67,6 +70,10 @@ pub enum Command<'a> {
     Generated(u64),
     /// A database, and the name of the schema whose tables it is to load.
     ShowLoad(Database, &'a str),
+    /// The names of the schema and of the query, whose type or whose first fault is explained.
+    Explain(&'a str, &'a str),
+    /// What a rule asks, with examples.
+    ExplainRule(Rule),
 }
 
 // The command of one word.
@@ -97,6 +104,38 @@ fn two_words<'a>(word: &str, size: &str) -> Option<Command<'a>>
     }
 }
 
+// What `explain` makes of two words.
+fn of_explain<'a>(schema: &'a str, query: &'a str) -> Option<Command<'a>>
+    ensures is { option_map command_view result ≡ of_explain schema.now query.now }
+    ensures sized { IfSome result HasSize }
+{
+    if schema != "rule" {
+        return Some(Command::Explain(schema, query));
+    }
+    match typing_of(query) {
+        Some(rule) => Some(Command::ExplainRule(rule)),
+        None => None,
+    }
+}
+
+// What it makes of three.
+fn of_explain_sql<'a>(what: &str, kind: &str, number: &str) -> Option<Command<'a>>
+    ensures is { option_map command_view result
+        ≡ of_explain_sql what.now kind.now number.now }
+    ensures sized { IfSome result HasSize }
+{
+    if what != "sql" {
+        return None;
+    }
+    if kind != "rule" {
+        return None;
+    }
+    match scope_of(number) {
+        Some(rule) => Some(Command::ExplainRule(rule)),
+        None => None,
+    }
+}
+
 // The command of three words.
 fn three_words<'a>(word: &str, schema: &'a str, query: &'a str) -> Option<Command<'a>>
     ensures is { option_map command_view result ≡ three_words word.now schema.now query.now }
@@ -104,6 +143,8 @@ fn three_words<'a>(word: &str, schema: &'a str, query: &'a str) -> Option<Comman
 {
     if word == "check" {
         Some(Command::OfQuery(Aim::Check, schema, query))
+    } else if word == "explain" {
+        of_explain(schema, query)
     } else {
         None
     }
@@ -183,6 +224,8 @@ fn four_words<'a>(
         Some(Command::OfQuery(Aim::Stitch(fourth), second, third))
     } else if word == "show" {
         of_show(second, third, fourth)
+    } else if word == "explain" {
+        of_explain_sql(second, third, fourth)
     } else {
         None
     }

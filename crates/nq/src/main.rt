@@ -60,6 +60,8 @@ mod drop_tests;
 #[cfg(test)]
 mod example_tests;
 #[cfg(test)]
+mod explain_tests;
+#[cfg(test)]
 mod generated_tests;
 #[cfg(test)]
 mod hostile_tests;

@@ -47,6 +47,9 @@ nq stitch SCHEMA QUERY DIR           writes the value of answers made elsewhere
 nq stitch json SCHEMA QUERY DIR      writes the value of answers as JSON
 nq gen N                             writes a summary over tables of size N
 nq check SCHEMA QUERY                writes ok where the query is accepted
+nq explain SCHEMA QUERY              writes its type, or explains its first fault
+nq explain rule N                    writes what typing rule N asks, with examples
+nq explain sql rule N                writes what rule N of SQL texts asks
 nq show types SCHEMA QUERY           writes the type of the query
 nq show normal SCHEMA QUERY          writes the normal form of the query
 nq show paths SCHEMA QUERY           writes a line for each bag of the type
@@ -298,6 +301,7 @@ const ROWS: [Row; 43] = [
     Row {
         words: &["--help"],
         failing: &[1],
+        room: 4000,
         out: HELP,
         ..CHECK
     },

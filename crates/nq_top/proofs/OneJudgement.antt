@@ -4,7 +4,8 @@ use Rattle.nq_edge.specs.Edge.{Files, bytes_at}
 use Rattle.command_line.specs.Commands.{Aim, run, run_natural, run_json, run_json_tables, lineage}
 use Rattle.command_line.specs.Commands.{stitch, stitch_json, check, show_types, show_normal}
 use Rattle.command_line.specs.Commands.{show_paths, show_natural, show_texts, Command, help}
-use Rattle.command_line.specs.Commands.{version, of_query, answer, generated, show_load}
+use Rattle.command_line.specs.Commands.{version, of_query, answer, generated, show_load, explain}
+use Rattle.command_line.specs.Commands.{explain_rule}
 use Rattle.command_line.specs.declared.refusal.Refused.{Refused}
 use Rattle.command_line.specs.declared.refusal.Refused.TheVariants.{TooLong, Query as QueryRefused, Schema as SchemaRefused}
 use Rattle.nq_model.specs.Terms.{PlacedTerm, bare}
@@ -26,7 +27,9 @@ use Rattle.sql_profile.specs.declared.server.Loaded.{Loaded}
 use Rattle.nq_top.specs.Judging.{Judgement, Verdict, refused, planned, written, shown, keyed}
 use Rattle.nq_top.specs.Judging.{linked, at_once, after, judged, fetched_then, read_then, text_then}
 use Rattle.nq_top.specs.Judging.{loaded_as, tables_judged, answers_then, draft_judged}
-use Rattle.nq_top.specs.Judging.{stitch_judged, aim_judged, judgement}
+use Rattle.nq_top.specs.Judging.{stitch_judged, aim_judged, typed_or_explained}
+use Rattle.nq_top.specs.Judging.{schema_explained}
+use Rattle.nq_top.specs.Judging.{judgement}
 use Rattle.nq_top.specs.Limits.{text_limit, tables_limit}
 use Rattle.nq_top.specs.Lines.{file_by, answer_file_of}
 use Rattle.nq_top.specs.Natural.{Natural, keyed_as, natural_draft, natural_of, natural_read}
@@ -197,6 +200,24 @@ module _ (reading other : Reading) where
   unfolding sql_read
   sql_same schema text = ap (tree_read schema text) (one_sql reading other text)
 
+  -- and one explanation of a query and of a schema
+  schema_explained_same : (files : Files) (query name text : List ℕ) (given : Result Schema Refused)
+      → schema_explained reading files query name text given
+      ≡ schema_explained other files query name text given
+  schema_explained_same files query name text (Err r) = refl
+  schema_explained_same files query name text (Ok schema) =
+      fetched_same files query text_limit _ _
+      (λ asked. ap
+      (λ (r : Result TypedTerm Refused). at_once (typed_or_explained schema query asked r))
+      (query_same schema asked))
+
+  explain_same : (files : Files) (schema query : List ℕ) (text : List ℕ)
+      → schema_explained reading files query schema text (schema_read reading.schemas text)
+      ≡ schema_explained other files query schema text (schema_read other.schemas text)
+  explain_same files schema query text =
+      schema_explained_same files query schema text (schema_read reading.schemas text)
+      ∙ ap (schema_explained other files query schema text) (schema_same text)
+
   generated_typed : IsAccepted generated_schema (bare generated_query) generated_type
   unfolding generated_schema generated_query generated_type
   generated_typed = judged_accepted generated_schema generated_query generated_type refl
@@ -212,5 +233,8 @@ module _ (reading other : Reading) where
       text_same files schema _ _ _ _ schema_same
       (λ text found is. text_same files name _ _ _ _ (sql_same found) (λ asked columns scoped. refl))
   one_judgement (Some (show_load database schema)) files = text_same files schema _ _ _ _ schema_same (λ text found is. refl)
+  one_judgement (Some (explain_rule rule)) files = refl
+  one_judgement (Some (explain schema query)) files =
+      fetched_same files schema text_limit _ _ (explain_same files schema query)
   one_judgement (Some (generated size)) files =
       ap (λ (draft : Draft). at_once (planned (drafted draft (generated_tables size)) generated_question)) (draft_same Writing.summary generated_schema generated_query generated_type generated_typed)

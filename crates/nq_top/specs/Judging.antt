@@ -8,6 +8,7 @@ use Rattle.nq_model.specs.declared.table.TableShape.{TableShape}
 use Rattle.nq_edge.specs.Edge.{Files, bytes_at}
 use Rattle.nq_ir.specs.Paths.{paths}
 use Rattle.database_scripts.specs.Loads.{load_text}
+use Rattle.diagnostics.specs.RuleTexts.{rule_text}
 use Rattle.shred_types.specs.Columns.{columns_at}
 use Rattle.sql_profile.specs.declared.answer.Answer.{Answer}
 use Rattle.sql_profile.specs.declared.server.Loaded.{Loaded}
@@ -15,7 +16,8 @@ use Rattle.command_line.specs.Commands.{Showing, Aim, run, run_natural, run_json
 use Rattle.command_line.specs.Commands.{lineage, stitch, stitch_json, check, show_types}
 use Rattle.command_line.specs.Commands.{show_normal, show_paths, show_natural, show_texts}
 use Rattle.command_line.specs.Commands.{Command, help}
-use Rattle.command_line.specs.Commands.{version, of_query, answer, generated, show_load}
+use Rattle.command_line.specs.Commands.{version, of_query, answer, generated, show_load, explain}
+use Rattle.command_line.specs.Commands.{explain_rule}
 use Rattle.command_line.specs.Help.{help_text, version_text}
 use Rattle.command_line.specs.Paths.{paths_text}
 use Rattle.command_line.specs.declared.refusal.Refused.{Refused}
@@ -23,6 +25,8 @@ use Rattle.command_line.specs.declared.refusal.Refused.TheVariants.{TooLong}
 use Rattle.nq_execute.specs.Plans.{Writing, RowWriting, Plan}
 use Rattle.nq_execute.specs.declared.plan.TraceWriting.{TraceWriting}
 use Rattle.lineage_compile.specs.Tables.{with_numbers}
+use Rattle.explanations.specs.Explanations.{table_names}
+use Rattle.nq_top.specs.Explaining.{Explained}
 use Rattle.nq_top.specs.Foreign.{Foreign, foreign_to}
 use Rattle.nq_top.specs.Limits.{text_limit, tables_limit}
 use Rattle.nq_top.specs.Lines.{file_by, answer_file_of, accepted_line, type_line}
@@ -35,14 +39,15 @@ use Rattle.nq_top.specs.declared.tables.TableTexts.{TableTexts}
 use Rattle.nq_top.specs.declared.tables.TableTexts.TheVariants.{Csv, Json}
 
 -- The words are no command; or a name is not held, whose fetch fails; or the first refusal; or the
--- text that is written; or the SQL texts that are shown in a way; or those that are shown in which
--- bags are named by keys; or linked answers from elsewhere; or the plan of a question, over the
--- tables of the schema in its order.
+-- text that is written; or the refusal that is explained; or the SQL texts that are shown in a way;
+-- or those that are shown in which bags are named by keys; or linked answers from elsewhere; or the
+-- plan of a question, over the tables of the schema in its order.
 pub data Verdict : Type 0 where
   usage : Verdict
   missing : List ℕ → Verdict
   refused : Refused → Verdict
   written : List ℕ → Verdict
+  explained : Explained → Verdict
   shown : Showing → Shown → Verdict
   keyed : Natural → Verdict
   linked : Foreign → Verdict
@@ -196,6 +201,32 @@ rows_judged writing files folder schema asked =
     draft_judged files Csv folder schema (sql_draft writing asked.0 asked.1)
     (λ tables. Question.sql writing asked.0)
 
+-- the line of the type of a query over a schema, or what explains why its text is refused
+abbrev pub typed_or_explained : Schema → List ℕ → List ℕ → Result TypedTerm Refused → Verdict
+typed_or_explained schema name text (Ok query) = written (type_line query.type)
+typed_or_explained schema name text (Err r) =
+    explained (record { name = name; text = text; tables = table_names schema; why = r })
+
+-- the same of the query under a name
+abbrev pub query_explained : Reading → Files → Schema → List ℕ → Judgement
+query_explained reading files schema name =
+    fetched_then files name text_limit
+    (λ text. at_once (typed_or_explained schema name text
+    (query_read reading.queries schema text)))
+
+-- the same of a query over the schema that is read, or what explains why that is refused
+abbrev pub schema_explained : Reading → Files → List ℕ → List ℕ → List ℕ → Result Schema Refused
+    → Judgement
+schema_explained reading files query name text (Ok schema) =
+    query_explained reading files schema query
+schema_explained reading files query name text (Err r) =
+    at_once (explained (record { name = name; text = text; tables = []; why = r }))
+
+abbrev pub explain_judged : Reading → Files → List ℕ → List ℕ → Judgement
+explain_judged reading files schema query =
+    fetched_then files schema text_limit
+    (λ text. schema_explained reading files query schema text (schema_read reading.schemas text))
+
 -- the schema, then the query or the SQL text if there is one, then each table text in the order of
 -- the schema
 abbrev pub command_judged : Reading → Files → Command → Judgement
@@ -213,6 +244,8 @@ command_judged reading files (generated size) =
     at_once (planned (generated_plan reading.plain size) generated_question)
 command_judged reading files (show_load database schema) =
     schema_then reading files schema (λ found. at_once (written (load_text database found)))
+command_judged reading files (explain schema query) = explain_judged reading files schema query
+command_judged reading files (explain_rule rule) = at_once (written (rule_text rule))
 
 -- the words, and then the command that they are
 abbrev pub judgement : Reading → Option Command → Files → Judgement
@@ -232,3 +265,5 @@ held_for (Some (of_query aim schema name)) held = held
 held_for (Some (answer writing schema name folder)) held = held
 held_for (Some (generated size)) held = Some (files_of held)
 held_for (Some (show_load database schema)) held = held
+held_for (Some (explain schema query)) held = held
+held_for (Some (explain_rule rule)) held = Some (files_of held)

@@ -18,8 +18,9 @@ use Rattle.nq_execute.specs.Plans.{Plan, plan_view, IsServable}
 use Rattle.nq_execute.specs.declared.plan.Plan.{Plan as Asked}
 use Rattle.nq_top.specs.Foreign.{Stitches}
 use Rattle.nq_top.specs.Gathering.{Told, Judges, RefusalTells}
-use Rattle.nq_top.specs.Judging.{Judgement, Verdict, usage, missing, refused, written, shown, keyed}
-use Rattle.nq_top.specs.Judging.{linked, planned}
+use Rattle.nq_top.specs.Explaining.{Explains}
+use Rattle.nq_top.specs.Judging.{Judgement, Verdict, usage, missing, refused, written, explained}
+use Rattle.nq_top.specs.Judging.{shown, keyed, linked, planned}
 use Rattle.nq_top.specs.Natural.{ShowsNatural}
 use Rattle.nq_top.specs.Plans.{AreReadFor, Question, IsSound}
 use Rattle.nq_top.specs.Reading.{TypedTerm, SqlColumns, type_read}
@@ -179,6 +180,8 @@ ComesTo (missing name) g = ⊥
 ComesTo (refused r) g = ⊥
 ComesTo (written said) (gathered.Text text) = text ≡ said
 ComesTo (written said) (gathered.Plan asked) = ⊥
+ComesTo (explained what) (gathered.Text text) = Explains what text
+ComesTo (explained what) (gathered.Plan asked) = ⊥
 ComesTo (shown showing texts) (gathered.Text text) = Shows showing text texts
 ComesTo (shown showing texts) (gathered.Plan asked) = ⊥
 ComesTo (keyed natural) (gathered.Text text) = ShowsNatural text natural
@@ -187,6 +190,10 @@ ComesTo (linked foreign) (gathered.Text text) = Stitches foreign text
 ComesTo (linked foreign) (gathered.Plan asked) = ⊥
 ComesTo (planned plan question) (gathered.Text text) = ⊥
 ComesTo (planned plan question) (gathered.Plan asked) = HoldsPlan plan question asked
+
+-- the verdict is that this text is written
+abbrev pub Says : Verdict → List ℕ → Type 0
+Says verdict text = ComesTo verdict (gathered.Text text)
 
 -- the inputs come to this, and all their names were fetched
 pub record Accepts (judgement : Judgement) (gathered : Gathered) (old new : Told) : Type 0 where

@@ -12,10 +12,11 @@ use Rattle.command_line.specs.declared.refusal.Refusal.TheVariants as refusal
 use Rattle.nq_execute.specs.Plans.{Plan}
 use Rattle.nq_execute.specs.Serving.{ServerState, RefusalServes}
 use Rattle.nq_execute.specs.declared.refusal.ServerRefusal.{ServerRefusal}
+use Rattle.nq_top.specs.Explaining.{Explains}
 use Rattle.nq_top.specs.Foreign.{Stitches}
 use Rattle.nq_top.specs.Gathering.{Judges, RefusalTells}
-use Rattle.nq_top.specs.Judging.{Judgement, Verdict, usage, missing, refused, written, shown, keyed}
-use Rattle.nq_top.specs.Judging.{linked, planned, judgement, held_for}
+use Rattle.nq_top.specs.Judging.{Judgement, Verdict, usage, missing, refused, written, explained}
+use Rattle.nq_top.specs.Judging.{shown, keyed, linked, planned, judgement, held_for}
 use Rattle.nq_top.specs.Natural.{ShowsNatural}
 use Rattle.nq_top.specs.Plans.{Question}
 use Rattle.nq_top.specs.Reading.{Reading}
@@ -71,6 +72,7 @@ Gives old new usage text = ⊥
 Gives old new (missing name) text = ⊥
 Gives old new (refused r) text = ⊥
 Gives old new (written said) text = text ≡ said
+Gives old new (explained what) text = Explains what text
 Gives old new (shown showing texts) text = Shows showing text texts
 Gives old new (keyed natural) text = ShowsNatural text natural
 Gives old new (linked foreign) text = Stitches foreign text
@@ -135,6 +137,7 @@ IsDue fair usage = ⊥
 IsDue fair (missing name) = ⊥
 IsDue fair (refused r) = ⊥
 IsDue fair (written text) = ⊤
+IsDue fair (explained what) = ⊤
 IsDue fair (shown showing texts) = ⊤
 IsDue fair (keyed natural) = ⊤
 IsDue fair (linked foreign) = ⊤

@@ -10,6 +10,7 @@ ghost use Rattle.nq_top.specs.Plans.{Question, draft_view, CanServeOver, IsSound
 ghost use Rattle.nq_top.specs.Reading.{Reading};
 ghost use Rattle.nq_top.specs.Steps.{InputCounts, GatherTells, CanServe, gathered_asks, IsQuery, typed_view};
 
+use crate::explain::gather_explained;
 use crate::inputs::{read_query, read_schema, read_sql};
 use crate::natural::{natural_draft, natural_text};
 use crate::plans::{Draft, generated_plan, plan_of, query_draft, sql_draft};
@@ -20,6 +21,7 @@ use crate::texts::TypedQuery;
 use crate::traced::lineage_draft;
 use command_line::{Aim, Command, InputRefusal, help_text, paths_text, version_text};
 use database_scripts::load_script;
+use diagnostics::rule_text;
 use lineage_compile::number_tables;
 use nq_edge::Inputs;
 use nq_execute::{Plan, TraceWriting, Writing};
@@ -193,5 +195,7 @@ pub fn gather<I: Inputs>(
             let schema = read_schema(alloc, inputs, schema)?;
             Ok(Gathered::Text(load_script(alloc, database, &schema)?))
         }
+        Command::Explain(schema, query) => gather_explained(alloc, inputs, schema, query),
+        Command::ExplainRule(rule) => Ok(Gathered::Text(rule_text(alloc, rule)?)),
     }
 }

@@ -42,8 +42,8 @@ pub fn fetch_input<I: Inputs>(
     }
 }
 
-// The bytes of a schema, of a query or of an SQL text.
-fn fetch_text<I: Inputs>(
+/// The bytes of a schema, of a query or of an SQL text.
+pub fn fetch_text<I: Inputs>(
     alloc: Global,
     inputs: &mut I,
     name: &str,

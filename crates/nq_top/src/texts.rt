@@ -23,7 +23,7 @@ use sql_scope::{ScopeFault, scope};
 use std::alloc::Global;
 
 /// The greatest depth of a query, of a type in it, and of an SQL text.
-const DEPTH: u64 = 200;
+pub const DEPTH: u64 = 200;
 
 /// A query, with its type.
 #[derive(Drop)]
