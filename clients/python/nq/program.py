@@ -34,25 +34,32 @@ def program():
     )
 
 
-def call(words, sources):
+def call(words, sources, folder):
     """What nq writes to standard output for these words.
 
-    `sources` has for `schema` and `query` the name that messages use and the bytes.
+    `sources` has for `schema` and `query` the name that messages use and the bytes, which lie under
+    these names in the folder.
     """
-    environment = dict(os.environ, NQ_UNPROVED="no")
-    try:
-        done = subprocess.run([program(), *words], capture_output=True, env=environment,
-                              stdin=subprocess.DEVNULL, check=False)
-    except OSError as error:
-        raise ProgramError(f"the program nq cannot be run: {error}") from error
+    done = _run(words)
     if done.returncode == 0:
         return done.stdout
     notes = done.stderr.decode("utf-8", "replace").strip()
-    raise refusal(done.returncode, notes.splitlines()[-1] if notes else "", sources)
+    note = notes.splitlines()[-1] if notes else ""
+    raise refusal(done.returncode, note, sources, folder)
 
 
-def refusal(status, note, sources):
-    """The exception for a status of nq and its line."""
+def _run(words):
+    """The ended process of nq with these words."""
+    environment = dict(os.environ, NQ_UNPROVED="no")
+    try:
+        return subprocess.run([program(), *words], capture_output=True, env=environment,
+                              stdin=subprocess.DEVNULL, check=False)
+    except OSError as error:
+        raise ProgramError(f"the program nq cannot be run: {error}") from error
+
+
+def refusal(status, note, sources, folder):
+    """The exception for a status of nq and its line, explained where nq explains it."""
     found = _ANSWER.fullmatch(note)
     if status == 15 and found:
         numbers = {name: int(found[name]) if found[name] else None
@@ -60,28 +67,32 @@ def refusal(status, note, sources):
         return AnswerError(note, text=int(found["text"]), fault=found["fault"], **numbers)
     found = _FAULT.fullmatch(note)
     if status in (3, 4) and found:
-        return _at(status, note, sources[found["file"]], int(found["place"]), fault=found["fault"])
+        return _at(status, note, sources, folder, found["file"], int(found["place"]),
+                   fault=found["fault"])
     found = _RULE.fullmatch(note)
     if status == 5 and found:
-        return _at(status, note, sources["query"], int(found["place"]), rule=int(found["rule"]))
+        return _at(status, note, sources, folder, "query", int(found["place"]),
+                   rule=int(found["rule"]))
     if status == 10 and _LONG.fullmatch(note):
         return Refused(note, status, note, fault="TooLong")
     return ProgramError(f"nq ended with status {status}: {note or 'it said nothing'}")
 
 
-def _at(status, note, source, place, **what):
-    """A refusal at a place of a source, with its line and a caret under the place."""
-    name, text = source
-    before, after = text[:place], text[place:]
-    begin = before.rfind(b"\n") + 1
-    end = len(before) + (after + b"\n").find(b"\n")
-    lead = before[begin:].decode("utf-8", "replace")
-    shown = text[begin:end].decode("utf-8", "replace").replace("\t", " ").rstrip("\r")
-    line, column = before.count(b"\n") + 1, len(lead) + 1
-    cut = max(0, column - 60)
-    message = "\n".join([
-        f"{name}:{line}:{column}: {note[4:]}",
-        "  " + shown[cut:cut + 100],
-        "  " + " " * (len(lead) - cut) + "^",
-    ])
+def _at(status, note, sources, folder, kind, place, **what):
+    """A refusal at a place of the schema or the query. Its message is the text of `nq explain`."""
+    name, text = sources[kind]
+    before = text[:place]
+    line = before.count(b"\n") + 1
+    column = len(before[before.rfind(b"\n") + 1:].decode("utf-8", "replace")) + 1
+    message = _explained(folder, kind, name) or f"{name}:{line}:{column}: {note[4:]}"
     return Refused(message, status, note, file=name, place=place, line=line, column=column, **what)
+
+
+def _explained(folder, kind, name):
+    """What `nq explain` writes of a refused schema or query, under the name that messages use."""
+    done = _run(["explain", str(folder / "schema"), str(folder / "query")])
+    said = done.stdout.decode("utf-8", "replace").rstrip("\n")
+    path = f"{folder / kind}:"
+    if done.returncode != 0 or not said.startswith(path):
+        return None
+    return f"{name}:{said[len(path):]}"

@@ -67,7 +67,7 @@ class Query:
         with _workplace(self._sources) as folder:
             write_answers(folder, answers, self._columns)
             words = ["stitch", "json", str(folder / "schema"), str(folder / "query"), str(folder)]
-            return call(words, self._sources).decode("utf-8").rstrip("\n")
+            return call(words, self._sources, folder).decode("utf-8").rstrip("\n")
 
     def _ask(self, connection):
         """The rows of each text, all in one snapshot."""
@@ -109,7 +109,7 @@ def _compile(sources):
     """The type of a query, its texts, and the types of the columns of each answer."""
     with _workplace(sources) as folder:
         words = ["show", "json", str(folder / "schema"), str(folder / "query")]
-        shown = json.loads(call(words, sources))
+        shown = json.loads(call(words, sources, folder))
     texts = tuple(text["sql"] for text in shown["texts"])
     columns = tuple(tuple(column["type"] for column in text["columns"]) for text in shown["texts"])
     return _type_text(shown["type"]), texts, columns

@@ -236,20 +236,22 @@ class Faults(unittest.TestCase):
         error = caught.exception
         self.assertEqual((error.status, error.fault, error.place), (3, "TwiceColumn", 17))
         self.assertEqual((error.line, error.column), (1, 18))
+        self.assertTrue(str(error).startswith("schema:1:18: An earlier column of this table has"))
 
     def test_query(self):
         with self.assertRaises(nq.Refused) as caught:
             nq.Query("table t (a: int);", "for (x <- table t)\n  where x.a == 1 [x]")
         error = caught.exception
         self.assertEqual((error.status, error.fault, error.line, error.column), (4, "Unexpected", 2, 9))
-        self.assertEqual(str(error), "query:2:9: query refused: Unexpected at 27\n"
-                         "    where x.a == 1 [x]\n          ^")
+        self.assertEqual(str(error), "query:2:9: The condition stands in parentheses, as in "
+                         "where (c.vip).\n  where x.a == 1 [x]\n        ^\nfound: x\nexpected: (")
 
     def test_type(self):
         with self.assertRaises(nq.Refused) as caught:
             nq.Query("table t (a: int);", "table u")
         error = caught.exception
         self.assertEqual((error.status, error.rule, error.fault, error.place), (5, 5, None, 0))
+        self.assertEqual(str(error).splitlines()[1:], ["table u", "^", "tables: t"])
 
     def test_too_long(self):
         with self.assertRaises(nq.Refused) as caught:
