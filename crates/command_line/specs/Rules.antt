@@ -9,9 +9,10 @@ use Rattle.generated_inputs.specs.Sizes.{size_of}
 -- the rules in the order of their numbers, which begin with 1
 unfoldable pub typing_rules : List Rule
 typing_rules =
-    Typing typing.Variable ∷ Typing typing.Number ∷ Typing typing.Truth ∷ Typing typing.Literal ∷
-    Typing typing.Table ∷ Typing typing.Minus ∷ Typing typing.Not ∷ Typing typing.Arithmetic ∷
-    Typing typing.Comparison ∷ Typing typing.Connective ∷ Typing typing.Choice ∷
+    Typing typing.Variable ∷ Typing typing.Number ∷ Typing typing.Truth ∷
+    Typing typing.Literal ∷ Typing typing.Table ∷ Typing typing.Minus ∷ Typing typing.Not ∷
+    Typing typing.Arithmetic ∷ Typing typing.Comparison ∷ Typing typing.Connective ∷
+    Typing typing.Choice ∷
     Typing typing.Function ∷ Typing typing.Application ∷ Typing typing.Record ∷
     Typing typing.Field ∷ Typing typing.Emptiness ∷ Typing typing.Single ∷
     Typing typing.EmptyBag ∷ Typing typing.Union ∷ Typing typing.Comprehension ∷
@@ -21,8 +22,8 @@ typing_rules =
 unfoldable pub scope_rules : List Rule
 scope_rules =
     Scope scope.Source ∷ Scope scope.Aliases ∷ Scope scope.Alias ∷ Scope scope.Column ∷
-    Scope scope.Operands ∷ Scope scope.Conditions ∷ Scope scope.ItemNames ∷ Scope scope.Parts ∷
-    Scope scope.WithNames ∷ Scope scope.Summed ∷ []
+    Scope scope.Operands ∷ Scope scope.Conditions ∷ Scope scope.ItemNames ∷
+    Scope scope.Parts ∷ Scope scope.WithNames ∷ Scope scope.Summed ∷ []
 
 -- the rule with a number
 abbrev pub rule_in : List Rule → Option ℕ → Option Rule

@@ -46,7 +46,8 @@ tables: departments, employees, tasks and contacts
     // A table that the schema has not.
     Row {
         query: "table employee",
-        out: "q:1:1: The schema must have the table: is the name misspelt, or the schema another one?
+        out: "\
+q:1:1: The schema must have the table: is the name misspelt, or the schema another one?
 table employee
 ^
 tables: departments, employees, tasks and contacts
@@ -126,7 +127,8 @@ fn explains_schemas(rt: HostRuntime) -> Result<(), Fail> {
         words: WORDS,
         room: 2000,
         status: 0,
-        out: "org:1:18: An earlier column of this table has this name. Each column needs a name of its own.
+        out: "\
+org:1:18: An earlier column of this table has this name. Each column needs a name of its own.
 table t (a: int, a: text);
                  ^
 ",

@@ -1,6 +1,6 @@
 -- What is explained of a schema and of a query.
-use Rattle.std.proofs.Common.{◌≡◌, ℕ, List, [], ◌∷◌, Some, None, Option, Result, Ok, Err}
-use Rattle.std.proofs.Common.{IfOk, IfSome, ap, sym, subst}
+use Rattle.std.proofs.Common.{◌≡◌, ℕ, List, [], ◌∷◌, Result, Ok, Err}
+use Rattle.std.proofs.Common.{Some, None, Option, IfOk, IfSome, ap, sym, subst}
 use Rattle.nq_edge.specs.Edge.{Files, bytes_at, TellsMore}
 use Rattle.nq_model.specs.Judging.{broken, program_judged}
 use Rattle.nq_model.specs.Terms.{PlacedTerm, placed, bare}
@@ -25,7 +25,7 @@ use Rattle.nq_top.specs.Gathering.{Told}
 use Rattle.nq_top.specs.Judging.{Judgement, Verdict, after, at_once, explained, fetched_then}
 use Rattle.nq_top.specs.Judging.{explain_judged, query_explained, schema_explained}
 use Rattle.nq_top.specs.Judging.{typed_or_explained}
-use Rattle.nq_top.specs.Limits.{text_limit}
+use Rattle.nq_top.specs.Limits.{depth_limit, text_limit}
 use Rattle.nq_top.specs.Lines.{type_line}
 use Rattle.nq_top.specs.Reading.{QueryReading, Reading, SchemaReading, query_read, schema_read}
 use Rattle.nq_top.specs.Reading.{term_read, type_read, typed_as, typed_over}
@@ -40,13 +40,14 @@ use Rattle.nq_top.proofs.Steps.{fetch_next, gather_through, leads_after}
 -- 1. refusals
 
 -- why a text is refused, and that this explains it
-abbrev Why : {A : Type 0} → Result A Refused → List ℕ → List ℕ → List (List ℕ) → List ℕ → Type 0
+abbrev Why : {A : Type 0} → Result A Refused → List ℕ → List ℕ → List (List ℕ)
+    → List ℕ → Type 0
 Why given name text tables made =
     (r : Refused) × (given ≡ Err r) × ExplainsRefused name text tables r made
 
 why_schema : {A : Type 0} (given : Result A Refused) (name text : List ℕ) (fault : SchemaFault)
-    (made : List ℕ) → Refuses given (schema_refusal fault) → ExplainsSchema name text fault made
-    → Why given name text [] made
+    (made : List ℕ) → Refuses given (schema_refusal fault)
+    → ExplainsSchema name text fault made → Why given name text [] made
 why_schema given name text code.Memory made refuses says = absurd says
 why_schema given name text (code.NotUtf8 p) made refuses says =
     (SchemaRefused (code.NotUtf8 p), refuses, says)
@@ -65,8 +66,8 @@ why_schema given name text (code.OverLimit p) made refuses says =
 
 why_query : {A : Type 0} (given : Result A Refused) (name text : List ℕ)
     (tables : List (List ℕ)) (fault : SyntaxFault) (made : List ℕ)
-    → Refuses given (query_refusal fault) → ExplainsSyntax 200 name text tables fault made
-    → Why given name text tables made
+    → Refuses given (query_refusal fault)
+    → ExplainsSyntax depth_limit name text tables fault made → Why given name text tables made
 why_query given name text tables syntax.Memory made refuses says = absurd says
 why_query given name text tables (syntax.NotUtf8 p) made refuses says =
     (QueryRefused (syntax.NotUtf8 p), refuses, says)
@@ -114,8 +115,8 @@ type_explained schema name text t rule number place (Ok made) is same says =
     (subst Q same says))
 
 -- what is said of the term that a text spells is said of the text
-pub spelled_says : (reading : QueryReading) (schema : Schema) (name text : List ℕ) (t : Term)
-    (made : List ℕ) → Parsed (Ok t) 200 text
+spelled_says : (reading : QueryReading) (schema : Schema) (name text : List ℕ) (t : Term)
+    (made : List ℕ) → Parsed (Ok t) depth_limit text
     → Says (typed_or_explained schema name text
     (typed_as (placed t) (type_read schema (placed t)))) made
     → Says (typed_or_explained schema name text (query_read reading schema text)) made
@@ -126,9 +127,9 @@ spelled_says reading schema name text t made parsed says =
     subst P (sym (term_said reading text t parsed)) says
 
 -- or its fault is explained
-pub fault_says : (reading : QueryReading) (schema : Schema) (name text : List ℕ)
-    (fault : SyntaxFault) (made : List ℕ) → Parsed (Err fault) 200 text
-    → ExplainsSyntax 200 name text (table_names schema) fault made
+fault_says : (reading : QueryReading) (schema : Schema) (name text : List ℕ)
+    (fault : SyntaxFault) (made : List ℕ) → Parsed (Err fault) depth_limit text
+    → ExplainsSyntax depth_limit name text (table_names schema) fault made
     → Says (typed_or_explained schema name text (query_read reading schema text)) made
 unfolding query_read
 fault_says reading schema name text fault made parsed says =
@@ -140,7 +141,7 @@ fault_says reading schema name text fault made parsed says =
 
 -- the same of what comes of it, if memory suffices
 pub spelled_if_ok : {E : Type 0} (schema : Schema) (name text : List ℕ) (t : Term)
-    (result : Result (List ℕ) E) → Parsed (Ok t) 200 text
+    (result : Result (List ℕ) E) → Parsed (Ok t) depth_limit text
     → IfOk result (Says (typed_or_explained schema name text
     (typed_as (placed t) (type_read schema (placed t)))))
     → IfOk result (λ made. (reading : QueryReading) →
@@ -150,8 +151,8 @@ spelled_if_ok schema name text t (Ok made) parsed says = λ reading.
 spelled_if_ok schema name text t (Err e) parsed says = tt
 
 pub fault_if_ok : {E : Type 0} (schema : Schema) (name text : List ℕ) (fault : SyntaxFault)
-    (result : Result (List ℕ) E) → Parsed (Err fault) 200 text
-    → IfOk result (λ made. ExplainsSyntax 200 name text (table_names schema) fault made)
+    (result : Result (List ℕ) E) → Parsed (Err fault) depth_limit text
+    → IfOk result (λ made. ExplainsSyntax depth_limit name text (table_names schema) fault made)
     → IfOk result (λ made. (reading : QueryReading) →
     Says (typed_or_explained schema name text (query_read reading schema text)) made)
 fault_if_ok schema name text fault (Ok made) parsed says = λ reading.
@@ -184,9 +185,11 @@ text_goes (Some files) mid_held name text bytes next old mid new result same hel
 
 -- a text that is said of it
 pub text_says : (held : Option Files) (name text bytes : List ℕ)
-    (verdict : Reading → List ℕ → Verdict) (old new : Told) (made : List ℕ) → bytes ≡ text
+    (verdict : Reading → List ℕ → Verdict) (old new : Told) (made : List ℕ)
+    → bytes ≡ text
     → IfSome held (λ files. FetchedWithin (bytes_at files name) text_limit text)
-    → TellsMore old new (name ∷ []) → ((reading : Reading) → Says (verdict reading bytes) made)
+    → TellsMore old new (name ∷ [])
+    → ((reading : Reading) → Says (verdict reading bytes) made)
     → IfSome held (λ files. (reading : Reading)
     → GatherTells (fetched_then files name text_limit (λ t. at_once (verdict reading t))) old new
     (Ok (gathered.Text made)))

@@ -28,8 +28,7 @@ use Rattle.nq_top.specs.Judging.{Judgement, Verdict, refused, planned, written, 
 use Rattle.nq_top.specs.Judging.{linked, at_once, after, judged, fetched_then, read_then, text_then}
 use Rattle.nq_top.specs.Judging.{loaded_as, tables_judged, answers_then, draft_judged}
 use Rattle.nq_top.specs.Judging.{stitch_judged, aim_judged, typed_or_explained}
-use Rattle.nq_top.specs.Judging.{schema_explained}
-use Rattle.nq_top.specs.Judging.{judgement}
+use Rattle.nq_top.specs.Judging.{schema_explained, judgement}
 use Rattle.nq_top.specs.Limits.{text_limit, tables_limit}
 use Rattle.nq_top.specs.Lines.{file_by, answer_file_of}
 use Rattle.nq_top.specs.Natural.{Natural, keyed_as, natural_draft, natural_of, natural_read}
@@ -201,7 +200,8 @@ module _ (reading other : Reading) where
   sql_same schema text = ap (tree_read schema text) (one_sql reading other text)
 
   -- and one explanation of a query and of a schema
-  schema_explained_same : (files : Files) (query name text : List ℕ) (given : Result Schema Refused)
+  schema_explained_same : (files : Files) (query name text : List ℕ)
+      (given : Result Schema Refused)
       → schema_explained reading files query name text given
       ≡ schema_explained other files query name text given
   schema_explained_same files query name text (Err r) = refl

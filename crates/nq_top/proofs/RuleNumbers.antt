@@ -1,6 +1,6 @@
 -- The numbers of the typing rules that a term breaks are from 1 to 25.
-use Rattle.std.proofs.Common.{◌≡◌, ◌≤◌, ℕ, List, ◌∷◌, [], Option, Some, None, Ok, Err}
-use Rattle.std.proofs.Common.{arith, inl, inr, subst}
+use Rattle.std.proofs.Common.{◌≡◌, ◌≤◌, ℕ, List, ◌∷◌, [], Option, Some, None}
+use Rattle.std.proofs.Common.{Ok, Err, arith, inl, inr, subst}
 use Rattle.std.specs.Bool.{⊤}
 use Rattle.nq_model.specs.Judging.{Verdict, broken, then_judge, by_rule, unary_rule}
 use Rattle.nq_model.specs.Judging.{binary_rule, aggregate_rule, judged, node_judged, fields_judged}
@@ -139,7 +139,8 @@ module _ (schema : Schema) where
 
 -- so what explains a broken rule of a term explains the rule of its number
 pub explains_rule : (schema : Schema) (t : PlacedTerm) (rule place : ℕ) (name text : List ℕ)
-    (tables : List (List ℕ)) (made : List ℕ) → program_judged schema t ≡ Err (broken rule place)
+    (tables : List (List ℕ)) (made : List ℕ)
+    → program_judged schema t ≡ Err (broken rule place)
     → ExplainsType name text place tables rule made
     → ExplainsRule name text place tables rule made
 explains_rule schema t rule place name text tables made is (inl explains) = explains

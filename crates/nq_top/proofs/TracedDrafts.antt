@@ -172,7 +172,8 @@ module _ (fit : NumberedTablesFit) (schema : Schema) (query : TypedTerm)
       }
 
   -- and it is sound for the traced meaning of the query
-  pub traced_sound : ((v w : Nested) → Same v w → trace_text_by writing v ≡ trace_text_by writing w)
+  pub traced_sound :
+      ((v w : Nested) → Same v w → trace_text_by writing v ≡ trace_text_by writing w)
       → IsSoundNumbered writing schema own_draft query.term
   unfolding value_text read_numbered
   traced_sound one_text tables read few answers allowed =

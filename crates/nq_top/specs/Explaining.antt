@@ -16,7 +16,8 @@ pub record Explained : Type 0 where
 
 -- the explanation of a fault of a schema, of a fault of a query, and of a typing rule that a query
 -- breaks; no other refusal has one
-abbrev pub ExplainsRefused : List ℕ → List ℕ → List (List ℕ) → Refused → List ℕ → Type 0
+abbrev pub ExplainsRefused : List ℕ → List ℕ → List (List ℕ) → Refused → List ℕ
+    → Type 0
 ExplainsRefused name text tables (SchemaRefused fault) made = ExplainsSchema name text fault made
 ExplainsRefused name text tables (QueryRefused fault) made =
     ExplainsSyntax depth_limit name text tables fault made

@@ -202,7 +202,8 @@ rows_judged writing files folder schema asked =
     (λ tables. Question.sql writing asked.0)
 
 -- the line of the type of a query over a schema, or what explains why its text is refused
-abbrev pub typed_or_explained : Schema → List ℕ → List ℕ → Result TypedTerm Refused → Verdict
+abbrev pub typed_or_explained : Schema → List ℕ → List ℕ → Result TypedTerm Refused
+    → Verdict
 typed_or_explained schema name text (Ok query) = written (type_line query.type)
 typed_or_explained schema name text (Err r) =
     explained (record { name = name; text = text; tables = table_names schema; why = r })
@@ -215,8 +216,8 @@ query_explained reading files schema name =
     (query_read reading.queries schema text)))
 
 -- the same of a query over the schema that is read, or what explains why that is refused
-abbrev pub schema_explained : Reading → Files → List ℕ → List ℕ → List ℕ → Result Schema Refused
-    → Judgement
+abbrev pub schema_explained : Reading → Files → List ℕ → List ℕ → List ℕ
+    → Result Schema Refused → Judgement
 schema_explained reading files query name text (Ok schema) =
     query_explained reading files schema query
 schema_explained reading files query name text (Err r) =

@@ -191,7 +191,7 @@ ComesTo (linked foreign) (gathered.Plan asked) = ⊥
 ComesTo (planned plan question) (gathered.Text text) = ⊥
 ComesTo (planned plan question) (gathered.Plan asked) = HoldsPlan plan question asked
 
--- the verdict is that this text is written
+-- the verdict comes to this text
 abbrev pub Says : Verdict → List ℕ → Type 0
 Says verdict text = ComesTo verdict (gathered.Text text)
 

@@ -64,9 +64,9 @@ AskedAt asks status = MatchBool ((status == 9) || (status == 11)) (asks ≡ true
 
 -- 3. what an answer says of the inputs, of the server and of the output
 
--- the text that is written for a verdict: the inputs say it, or the server serves it for their
--- plan; SQL texts that are shown shred their query, or stitch to it by keys, and linked answers
--- stitch to what is written
+-- the text that is written for a verdict: the inputs say it, or it explains why they are refused,
+-- or the server serves it for their plan; SQL texts that are shown shred their query, or stitch to
+-- it by keys, and linked answers stitch to what is written
 abbrev pub Gives : ServerSide → ServerSide → Verdict → List ℕ → Type 0
 Gives old new usage text = ⊥
 Gives old new (missing name) text = ⊥
@@ -78,7 +78,8 @@ Gives old new (keyed natural) text = ShowsNatural text natural
 Gives old new (linked foreign) text = Stitches foreign text
 Gives old new (planned plan question) text = ServesQuestion plan question old new text
 
--- the inputs are accepted, all their names were fetched, and the text that they give was put
+-- the inputs are accepted or explained, all the names for it were fetched, and the text that they
+-- give was put
 pub record Writes (judgement : Judgement) (before after : World)
     (put : List ℕ → Type 0) : Type 0 where
   pub text : List ℕ
@@ -131,7 +132,7 @@ Served asks before after (Err refusal.OutputFailed) =
 abbrev pub IsDone : ℕ → Type 0
 IsDone status = (status ≡ 0) ⊎ (status ≡ 1)
 
--- the inputs are accepted, and where a server is asked it is fair to them
+-- the inputs are accepted or explained, and where a server is asked it is fair to them
 abbrev pub IsDue : (Plan → Type 0) → Verdict → Type 0
 IsDue fair usage = ⊥
 IsDue fair (missing name) = ⊥
@@ -197,7 +198,8 @@ pub record Runs (command : Option Command) (before after : World) (answer : Answ
   -- to their plan, and of an honest server's the canonical text of what the query means.
   pub comes : IfSome (held_for command before.inputs.held) (λ files. (reading : Reading)
       → Tells (judgement reading command files) before after answer)
-  -- Only a failed call, an unfair server and want of memory keep accepted inputs from 0.
+  -- Only a failed call, an unfair server and want of memory keep inputs that are accepted or
+  -- explained from 0.
   pub completes : IfSome (held_for command before.inputs.held) (λ files. (reading : Reading)
       → Completes (judgement reading command files) before after (status_of answer))
 

@@ -1,6 +1,5 @@
 // The type of a query, or what explains why it or its schema is refused.
 ghost use Rattle.std.specs.Prelude.{◌≡◌, false, IfOk, IfSome};
-ghost use Rattle.nq_model.specs.Tables.{IsProperSchema};
 ghost use Rattle.nq_model.specs.Terms.{placed};
 ghost use Rattle.nq_top.specs.Judging.{explain_judged, query_explained, typed_or_explained};
 ghost use Rattle.nq_top.specs.Reading.{QueryReading, Reading, query_read, type_read, typed_as};

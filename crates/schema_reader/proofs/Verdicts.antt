@@ -49,10 +49,12 @@ spelled_proper text schema s =
     subst IsProperSchema (sym s.same) (schema_proper s.tables (schema_words s.tables s.written.0 s.written.2.filled o.symbols) s.faultless)
 
 -- the names of a spelled schema are words of at most 64 bytes
-pub spelled_words : (text : List ℕ) (schema : Schema) → Spells text schema → HaveQueryWords schema
+pub spelled_words : (text : List ℕ) (schema : Schema) → Spells text schema
+    → HaveQueryWords schema
 spelled_words text schema s =
     let o = text_ordered text s.written.0 s.written.1 in
-    subst HaveQueryWords (sym s.same) (schema_query_words s.tables (schema_words s.tables s.written.0 s.written.2.filled o.symbols) s.faultless)
+    let words = schema_words s.tables s.written.0 s.written.2.filled o.symbols in
+    subst HaveQueryWords (sym s.same) (schema_query_words s.tables words s.faultless)
 
 -- where the walk finds no fault the text spells the schema
 pub spells : (text : List ℕ) (tables : List WrittenTable) → IsUtf8 text → WritesTables text tables → tables_fault [] tables ≡ None → Spells text (schema_of tables)

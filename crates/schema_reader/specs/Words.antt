@@ -9,5 +9,6 @@ use Rattle.nq_model.specs.declared.table.TableShape.{TableShape}
 abbrev pub HasQueryWords : TableShape → Type 0
 HasQueryWords shape = IsQueryWord shape.name × Each IsQueryWord (names_of shape.columns)
 
+-- and so it can for each table of the schema
 abbrev pub HaveQueryWords : Schema → Type 0
 HaveQueryWords schema = Each HasQueryWords schema.tables

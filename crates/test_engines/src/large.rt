@@ -58,8 +58,8 @@ const AROUND_ALONE: &str =
     r#"SELECT "x"."a" AS "a" FROM "t" AS "x" WHERE (NOT EXISTS (SELECT 1 AS "o" FROM "e" AS "y" WHERE ("x"."a" < 100)))"#;
 
 // Every row, where both tables have even numbers alone: then no number is one more than another.
-const NONE_MEET: &str =
-    r#"SELECT "x"."a" AS "a" FROM "t" AS "x" WHERE (NOT EXISTS (SELECT 1 AS "o" FROM "t" AS "y", "e" AS "z" WHERE ("y"."a" = ("z"."a" + 1))))"#;
+const NONE_MEET: &str = r#"SELECT "x"."a" AS "a" FROM "t" AS "x"
+WHERE (NOT EXISTS (SELECT 1 AS "o" FROM "t" AS "y", "e" AS "z" WHERE ("y"."a" = ("z"."a" + 1))))"#;
 
 // Each row with the count of the rows of its number, and with the sum of their numbers.
 const COUNTED: &str =

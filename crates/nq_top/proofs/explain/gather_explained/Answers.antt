@@ -25,7 +25,8 @@ returns-in_err-made-in-Err-clause-tells g c =
     (schema_read reading.schemas text)) _ _ _ _ c.as_slice-bytes.ensures
     c.in_ok-text.ensures.same c.in_ok-text.ensures.says c.in_ok-text.ensures.names
     (memory_stops _ (λ reading files. schema_explained reading files c.args.query.now
-    c.args.schema.now c.as_slice-bytes.result.now (schema_read reading.schemas c.as_slice-bytes.result.now))
+    c.args.schema.now c.as_slice-bytes.result.now
+    (schema_read reading.schemas c.as_slice-bytes.result.now))
     _ _ (search rules))
 
 pub returns-clause-tells : goal.returns-clause-tells
@@ -33,6 +34,6 @@ returns-clause-tells g c =
     schema_faulty _ c.args.query.now c.args.schema.now c.as_bytes.result.now c.in_ok-text.text
     c.as_slice-bytes.result.now c.in-Err.fault c.in_ok-made-in-Err.made _ _ c.as_slice-bytes.ensures
     c.as_bytes.ensures.value c.in_ok-text.ensures.says c.in_ok-text.ensures.names
-    (λ reading. schema_refused reading c.as_slice-bytes.result.now c.read_schema.result c.in-Err.fault
-    c.read_schema.ensures.spelled c.read_schema.ensures.faulty c.in-Err.is)
+    (λ reading. schema_refused reading c.as_slice-bytes.result.now c.read_schema.result
+    c.in-Err.fault c.read_schema.ensures.spelled c.read_schema.ensures.faulty c.in-Err.is)
     c.in_ok-made-in-Err.ensures

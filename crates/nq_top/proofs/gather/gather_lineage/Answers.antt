@@ -16,13 +16,15 @@ pub returns-in_err-tables-clause-tells : goal.returns-in_err-tables-clause-tells
 returns-in_err-tables-clause-tells g c =
     lineage_stops c.args.writing (g.I.Inputs.held c.args.inputs.now) c.args.folder.now
     c.args.schema.now (typed_view c.args.query) c.as_slice-shapes.result.now c.new.result
-    c.as_slice-shapes.ensures c.new.ensures _ _ c.in_err-tables.field-0.0 _ (search rules) c.in_err-tables.ensures.tells
+    c.as_slice-shapes.ensures c.new.ensures _ _ c.in_err-tables.field-0.0 _ (search rules)
+    c.in_err-tables.ensures.tells
 
 pub returns-in_err-numbered-clause-tells : goal.returns-in_err-numbered-clause-tells
 returns-in_err-numbered-clause-tells g c =
     lineage_wants c.args.writing (g.I.Inputs.held c.args.inputs.now) c.args.folder.now
     c.args.schema.now (typed_view c.args.query) c.as_slice-shapes.result.now c.new.result
-    c.as_slice-shapes.ensures c.new.ensures _ _ c.in_ok-tables.tables c.in_ok-tables.ensures.tells _ (search rules)
+    c.as_slice-shapes.ensures c.new.ensures _ _ c.in_ok-tables.tables
+    c.in_ok-tables.ensures.tells _ (search rules)
 
 pub returns-clause-servable : goal.returns-clause-servable
 returns-clause-servable g c =
