@@ -251,7 +251,7 @@ class Faults(unittest.TestCase):
             nq.Query("table t (a: int);", "table u")
         error = caught.exception
         self.assertEqual((error.status, error.rule, error.fault, error.place), (5, 5, None, 0))
-        self.assertEqual(str(error).splitlines()[1:], ["table u", "^", "tables: t"])
+        self.assertEqual(str(error).splitlines()[1:], ["table u", "^", "tables: t", "nearest: t"])
 
     def test_too_long(self):
         with self.assertRaises(nq.Refused) as caught:

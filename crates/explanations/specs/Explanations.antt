@@ -1,7 +1,8 @@
 -- The explanation of a fault: what is said of its place, the line of the place with a caret under
 -- it, and then lines that tell more.
-use Rattle.std.specs.Prelude.{◌≡◌, ℕ, ◌≤◌, ⊤, if◌then◌else◌, List, ◌++◌, map, codes, ◌⊎◌}
-use Rattle.std.specs.Prelude.{slice_get, Option, Some, None, Result, Ok, Err}
+use Rattle.std.specs.Prelude.{◌≡◌, ℕ, ◌≤◌, ⊤, if◌then◌else◌, List, []}
+use Rattle.std.specs.Prelude.{◌++◌, ◌⊎◌, map, codes, slice_get, Option, Some, None}
+use Rattle.std.specs.Prelude.{Result, Ok, Err}
 use Rattle.std.specs.Fmt.{decimal}
 use Rattle.nq_model.specs.OpenLists.{Fault}
 use Rattle.nq_model.specs.QueryTexts.{EndsOpen, HasTokens}
@@ -26,8 +27,9 @@ use Rattle.diagnostics.specs.declared.typing_rules.TypingRule.{TypingRule}
 use Rattle.diagnostics.specs.declared.typing_rules.TypingRule.TheVariants as rule
 use Rattle.explanations.specs.Groups.{names}
 use Rattle.explanations.specs.Lists.{among, listed}
+use Rattle.explanations.specs.Nearest.{nearest}
 use Rattle.explanations.specs.Sentences.{token_sentence, stop_sentence, name_sentence}
-use Rattle.explanations.specs.Words.{Around, around, kind_words}
+use Rattle.explanations.specs.Words.{Around, around, behind, kind_words}
 
 -- the names of the tables, in the order of the schema
 abbrev pub table_names : Schema → List (List ℕ)
@@ -52,6 +54,11 @@ tables_line tables = codes "tables: " ++ (listed (codes " and ") tables ++ codes
 unfoldable pub table_line : List ℕ → List ℕ
 table_line name = codes "write: table " ++ (name ++ codes "\n")
 
+-- the name that is nearest to one that no table has
+unfoldable pub nearest_line : Option (List ℕ) → List ℕ
+nearest_line None = []
+nearest_line (Some name) = codes "nearest: " ++ (name ++ codes "\n")
+
 -- the number of a typing rule, and a query that keeps it
 unfoldable pub rule_line : TypingRule → List ℕ
 rule_line broken =
@@ -75,14 +82,17 @@ unfoldable pub unbound_text : List ℕ → List ℕ → ℕ → List (List ℕ) 
 unbound_text file text place tables name =
     excerpt_text file text place (name_sentence tables name) ++ name_line tables name
 
--- of a typing rule; where it is that of tables, with those of the schema
-abbrev pub rule_lines : TypingRule → List (List ℕ) → List ℕ
-rule_lines rule.Table tables = tables_line tables
-rule_lines broken tables = rule_line broken
+-- of a name that no table has
+unfoldable pub missing_text : List ℕ → List ℕ → ℕ → List (List ℕ) → List ℕ
+    → List ℕ
+missing_text file text place tables name =
+    excerpt_text file text place (typing_asks rule.Table)
+    ++ (tables_line tables ++ nearest_line (nearest tables name))
 
-unfoldable pub broken_text : List ℕ → List ℕ → ℕ → List (List ℕ) → TypingRule → List ℕ
-broken_text file text place tables broken =
-    excerpt_text file text place (typing_asks broken) ++ rule_lines broken tables
+-- of another typing rule
+unfoldable pub broken_text : List ℕ → List ℕ → ℕ → TypingRule → List ℕ
+broken_text file text place broken =
+    excerpt_text file text place (typing_asks broken) ++ rule_line broken
 
 -- 3. what is explained
 
@@ -132,11 +142,24 @@ ExplainsSyntax d file text tables (code.Unbound place) made =
 ExplainsSyntax d file text tables (code.TwiceLabel place) made =
     made ≡ excerpt_text file text place (query_sentence query.TwiceLabel)
 
--- the explanation of the typing rule of this number, which a text breaks
+-- of a table that is missing in a text that has tokens: its name stands behind the place
+abbrev pub ExplainsMissing : List ℕ → List ℕ → ℕ → List (List ℕ) → List ℕ
+    → Type 0
+ExplainsMissing file text place tables made =
+    (tokens : List Token) → HasTokens text tokens
+    → made ≡ missing_text file text place tables (behind place tokens)
+
+-- the explanation of a typing rule that a text breaks, and of that of this number
+abbrev pub ExplainsBroken : List ℕ → List ℕ → ℕ → List (List ℕ) → TypingRule
+    → List ℕ → Type 0
+ExplainsBroken file text place tables rule.Table made =
+    ExplainsMissing file text place tables made
+ExplainsBroken file text place tables broken made = made ≡ broken_text file text place broken
+
 abbrev pub ExplainsRule : List ℕ → List ℕ → ℕ → List (List ℕ) → ℕ → List ℕ → Type 0
 ExplainsRule file text place tables number made =
     (broken : TypingRule) × (typing_number broken ≡ number)
-    × (made ≡ broken_text file text place tables broken)
+    × ExplainsBroken file text place tables broken made
 
 -- the same, unless the number is that of no rule
 abbrev pub ExplainsType : List ℕ → List ℕ → ℕ → List (List ℕ) → ℕ → List ℕ → Type 0

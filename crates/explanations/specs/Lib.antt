@@ -1,5 +1,6 @@
 pub mod Words
 pub mod Lists
+pub mod Nearest
 pub mod Groups
 pub mod Naming
 pub mod Hints

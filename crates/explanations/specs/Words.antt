@@ -1,5 +1,6 @@
 -- What is said of kinds of tokens, and of the tokens of a text.
-use Rattle.std.specs.Prelude.{ℕ, ◌==◌, if◌then◌else◌, List, [], ◌∷◌, codes}
+use Rattle.std.specs.Prelude.{ℕ, ◌==◌, Bool, false, if◌then◌else◌, List, []}
+use Rattle.std.specs.Prelude.{◌∷◌, codes}
 use Rattle.nq_model.specs.QueryTokens.{Operator, Union, Of, Mark, Number, Literal, Token, Word}
 use Rattle.nq_model.specs.QueryTokens.{Value, Oper, Sign, End, place_of}
 use Rattle.nq_model.specs.QueryTokens as query
@@ -106,6 +107,15 @@ around_from place before (t ∷ ts) =
 
 unfoldable pub around : ℕ → List Token → Around
 around place tokens = around_from place [] tokens
+
+-- the words of the token behind the first at a place; empty where there is none
+abbrev pub behind_from : Bool → ℕ → List Token → List ℕ
+behind_from here place [] = []
+behind_from here place (t ∷ ts) =
+    if here then token_words t else behind_from (place_of t == place) place ts
+
+abbrev pub behind : ℕ → List Token → List ℕ
+behind place tokens = behind_from false place tokens
 
 -- words as the program has them
 abbrev pub around_view : Words → Around

@@ -2,14 +2,14 @@
 ghost use Rattle.std.specs.Prelude.{◌≡◌, IfOk, option_copied, slice_get};
 ghost use Rattle.diagnostics.specs.Excerpts.{excerpt_text};
 ghost use Rattle.diagnostics.specs.Sentences.{query_sentence, schema_sentence};
-ghost use Rattle.explanations.specs.Explanations.{ExplainsSchema, ExplainsSyntax, ExplainsType};
-ghost use Rattle.explanations.specs.Explanations.{broken_text, table_names};
+ghost use Rattle.explanations.specs.Explanations.{ExplainsBroken, ExplainsSchema, ExplainsSyntax};
+ghost use Rattle.explanations.specs.Explanations.{ExplainsType, broken_text, table_names};
 ghost use Rattle.explanations.specs.Lists.{words_view};
 ghost use Rattle.explanations.specs.Sentences.{token_sentence};
 
 use crate::lines::{put_rule, table_names};
 use crate::sentences::token_sentence;
-use crate::stops::{explain_name, explain_stop};
+use crate::stops::{explain_missing, explain_name, explain_stop};
 use diagnostics::{
     QueryFaultKind, SchemaFaultKind, TypingRule, excerpt, query_sentence, schema_sentence,
     typing_rule,
@@ -143,7 +143,7 @@ pub fn explain_syntax(
     }
 }
 
-// The explanation of a broken typing rule, over these tables.
+// The explanation of a broken typing rule, but that of tables.
 #[tactic(auto, unfolding(crate::specs::Explanations::broken_text))]
 fn broken(
     alloc: Global,
@@ -151,14 +151,29 @@ fn broken(
     text: &[u8],
     place: u64,
     rule: TypingRule,
-    tables: &[&str],
 ) -> Result<List<u8>, Memory>
-    ensures { IfOk result (λ made. made
-        ≡ broken_text file.now text.now place (words_view tables.now) rule) }
+    ensures { IfOk result (λ made. made ≡ broken_text file.now text.now place rule) }
 {
     let mut made = excerpt(alloc, file, text, place, rule.asks())?;
-    put_rule(alloc, &mut made, rule, tables)?;
+    put_rule(alloc, &mut made, rule)?;
     Ok(made)
+}
+
+// The explanation of a broken typing rule, over these tables.
+fn explain_broken(
+    alloc: Global,
+    file: &[u8],
+    text: &[u8],
+    place: u64,
+    rule: TypingRule,
+    tables: &[&str],
+) -> Result<List<u8>, Memory>
+    ensures { IfOk result (ExplainsBroken file.now text.now place (words_view tables.now) rule) }
+{
+    match rule {
+        TypingRule::Table => explain_missing(alloc, file, text, place, tables),
+        _ => broken(alloc, file, text, place, rule),
+    }
 }
 
 /// The explanation of a typing rule that a query text breaks at a place, over the schema. Fails
@@ -176,7 +191,7 @@ pub fn explain_type(
 {
     let tables = table_names(alloc, schema)?;
     match typing_rule(number) {
-        Some(rule) => broken(alloc, file, text, place, rule, tables.as_slice()),
+        Some(rule) => explain_broken(alloc, file, text, place, rule, tables.as_slice()),
         None => excerpt(alloc, file, text, place, "The query breaks a rule."),
     }
 }

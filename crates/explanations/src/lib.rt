@@ -8,6 +8,7 @@ mod hints;
 mod laws;
 mod lines;
 mod lists;
+mod nearest;
 mod sentences;
 mod stops;
 mod words;

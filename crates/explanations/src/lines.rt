@@ -1,7 +1,8 @@
 // The lines of an explanation that tell more than its place.
-ghost use Rattle.std.specs.Prelude.{◌≡◌, ◌++◌, IfOk, OnOk, map};
-ghost use Rattle.explanations.specs.Explanations.{expected_line, found_line, name_line, rule_line};
-ghost use Rattle.explanations.specs.Explanations.{rule_lines, table_line, table_names, tables_line};
+ghost use Rattle.std.specs.Prelude.{◌≡◌, ◌++◌, IfOk, OnOk, map, option_copied};
+ghost use Rattle.explanations.specs.Explanations.{expected_line, found_line, name_line};
+ghost use Rattle.explanations.specs.Explanations.{nearest_line, rule_line, table_line};
+ghost use Rattle.explanations.specs.Explanations.{table_names, tables_line};
 ghost use Rattle.explanations.specs.Lists.{words_view};
 ghost use Rattle.explanations.specs.Words.{kind_words};
 
@@ -60,9 +61,9 @@ pub(crate) fn put_expected(
     text.extend_from_slice(b"\n")
 }
 
-// Puts the tables of the schema.
+/// Puts the tables of the schema.
 #[tactic(auto, unfolding(crate::specs::Explanations::tables_line))]
-fn put_tables(text: &mut List<u8>, tables: &[&str]) -> Result<(), Memory>
+pub(crate) fn put_tables(text: &mut List<u8>, tables: &[&str]) -> Result<(), Memory>
     ensures { OnOk result (text.new ≡ text.old ++ tables_line (words_view tables.now)) }
 {
     text.extend_from_slice(b"tables: ")?;
@@ -92,9 +93,9 @@ pub(crate) fn put_name(text: &mut List<u8>, tables: &[&str], name: &str) -> Resu
     }
 }
 
-// Puts the number of a typing rule, and a query that keeps it.
+/// Puts the number of a typing rule, and a query that keeps it.
 #[tactic(auto, unfolding(crate::specs::Explanations::rule_line))]
-fn put_kept(alloc: Global, text: &mut List<u8>, rule: TypingRule) -> Result<(), Memory>
+pub(crate) fn put_rule(alloc: Global, text: &mut List<u8>, rule: TypingRule) -> Result<(), Memory>
     ensures { OnOk result (text.new ≡ text.old ++ rule_line rule) }
 {
     let digits = rule.number().to_string(alloc)?;
@@ -105,17 +106,17 @@ fn put_kept(alloc: Global, text: &mut List<u8>, rule: TypingRule) -> Result<(), 
     text.extend_from_slice(b"\n")
 }
 
-/// Puts what tells more of a broken typing rule: of that of tables, the tables of the schema.
-pub(crate) fn put_rule(
-    alloc: Global,
-    text: &mut List<u8>,
-    rule: TypingRule,
-    tables: &[&str],
-) -> Result<(), Memory>
-    ensures { OnOk result (text.new ≡ text.old ++ rule_lines rule (words_view tables.now)) }
+/// Puts the nearest name, if there is one.
+#[tactic(auto, unfolding(crate::specs::Explanations::nearest_line))]
+pub(crate) fn put_nearest(text: &mut List<u8>, name: Option<&str>) -> Result<(), Memory>
+    ensures { OnOk result (text.new ≡ text.old ++ nearest_line (option_copied name.entry)) }
 {
-    match rule {
-        TypingRule::Table => put_tables(text, tables),
-        _ => put_kept(alloc, text, rule),
+    match name {
+        None => Ok(()),
+        Some(name) => {
+            text.extend_from_slice(b"nearest: ")?;
+            text.extend_from_slice(name.as_bytes())?;
+            text.extend_from_slice(b"\n")
+        }
     }
 }

@@ -1,14 +1,16 @@
-// Where a text ceases to be a query, and names that no variable has.
+// Where a text ceases to be a query, names that no variable has, and tables that are missing.
 ghost use Rattle.std.specs.Prelude.{◌≡◌, IfOk, map};
-ghost use Rattle.explanations.specs.Explanations.{ExplainsName, ExplainsStop, TokensIn};
-ghost use Rattle.explanations.specs.Explanations.{stopped_text, unbound_text};
+ghost use Rattle.explanations.specs.Explanations.{ExplainsMissing, ExplainsName, ExplainsStop};
+ghost use Rattle.explanations.specs.Explanations.{TokensIn, missing_text, stopped_text};
+ghost use Rattle.explanations.specs.Explanations.{unbound_text};
 ghost use Rattle.explanations.specs.Lists.{words_view};
 ghost use Rattle.explanations.specs.Words.{around, around_view, kind_words};
 
-use crate::lines::{put_expected, put_found, put_name, words_of};
+use crate::lines::{put_expected, put_found, put_name, put_nearest, put_tables, words_of};
+use crate::nearest::nearest;
 use crate::sentences::{name_sentence, stop_sentence};
-use crate::words::{Around, words_around};
-use diagnostics::{QueryFaultKind, excerpt, query_sentence};
+use crate::words::{Around, words_around, words_behind};
+use diagnostics::{QueryFaultKind, TypingRule, excerpt, query_sentence};
 use expected_tokens::{TokenKind, expected_kinds};
 use nq_model::{List, Memory};
 use query_syntax::{SyntaxFault, Token, tokens};
@@ -116,5 +118,43 @@ pub(crate) fn explain_name(
             place,
             query_sentence(QueryFaultKind::Unbound),
         ),
+    }
+}
+
+// The explanation of a name that no table has.
+#[tactic(auto, unfolding(crate::specs::Explanations::missing_text))]
+fn missing(
+    alloc: Global,
+    file: &[u8],
+    text: &[u8],
+    place: u64,
+    tables: &[&str],
+    name: &str,
+) -> Result<List<u8>, Memory>
+    ensures { IfOk result (λ made. made
+        ≡ missing_text file.now text.now place (words_view tables.now) name.now) }
+{
+    let mut made = excerpt(alloc, file, text, place, TypingRule::Table.asks())?;
+    put_tables(&mut made, tables)?;
+    put_nearest(&mut made, nearest(tables, name))?;
+    Ok(made)
+}
+
+/// The explanation of a table that is none of these, whose name stands behind the place.
+pub(crate) fn explain_missing(
+    alloc: Global,
+    file: &[u8],
+    text: &[u8],
+    place: u64,
+    tables: &[&str],
+) -> Result<List<u8>, Memory>
+    ensures { IfOk result (ExplainsMissing file.now text.now place (words_view tables.now)) }
+{
+    match tokens_in(alloc, text)? {
+        Some(tokens) => {
+            let name = words_behind(tokens.as_slice(), place);
+            missing(alloc, file, text, place, tables, name)
+        }
+        None => excerpt(alloc, file, text, place, TypingRule::Table.asks()),
     }
 }

@@ -1,7 +1,7 @@
 // What is said of kinds of tokens, and of the tokens of a text.
 ghost use Rattle.std.specs.Prelude.{◌≡◌, [], map};
 ghost use Rattle.query_syntax.specs.Symbols.{operator_view, token_view};
-ghost use Rattle.explanations.specs.Words.{around, around_view, kind_words, operator_words};
+ghost use Rattle.explanations.specs.Words.{around, around_view, behind, kind_words, operator_words};
 ghost use Rattle.explanations.specs.Words.{token_words};
 
 use expected_tokens::TokenKind;
@@ -128,4 +128,18 @@ pub(crate) fn words_around<'a>(tokens: &[Token<'a>], place: u64) -> Around<'a>
         before = token_words(*token);
     }
     Around { before, found: "" }
+}
+
+/// The words of the token behind the first at a place; empty where there is none.
+pub(crate) fn words_behind<'a>(tokens: &[Token<'a>], place: u64) -> &'a str
+    ensures { result.now ≡ behind place (map token_view tokens.now) }
+{
+    let mut here = false;
+    for token in tokens {
+        if here {
+            return token_words(*token);
+        }
+        here = token.place == place;
+    }
+    ""
 }

@@ -51,6 +51,7 @@ q:1:1: The schema must have the table: is the name misspelt, or the schema anoth
 table employee
 ^
 tables: departments, employees, tasks and contacts
+nearest: employees
 ",
         ..EXPLAIN
     },

@@ -39,7 +39,7 @@ fn explained(alloc: Global, query: &[u8], depth: u64) -> Result<Option<List<u8>>
 }
 
 // A query, and its explanation.
-const EXPLAINED: [(&str, &str); 26] = [
+const EXPLAINED: [(&str, &str); 28] = [
     (
         "for (c <- table customers) where (c.city = 'Oslo') [c.name]",
         "q:1:42: To compare two values, write ==.
@@ -269,6 +269,25 @@ rule: 10, kept by: [1 == 2 || 1 == 3]
         "table costumers",
         "q:1:1: The schema must have the table: is the name misspelt, or the schema another one?
 table costumers
+^
+tables: customers and orders
+nearest: customers
+",
+    ),
+    // Two letters are left out; and three or more part the name from each table.
+    (
+        "table ores",
+        "q:1:1: The schema must have the table: is the name misspelt, or the schema another one?
+table ores
+^
+tables: customers and orders
+nearest: orders
+",
+    ),
+    (
+        "table old",
+        "q:1:1: The schema must have the table: is the name misspelt, or the schema another one?
+table old
 ^
 tables: customers and orders
 ",
