@@ -9,6 +9,8 @@ use Rattle.nq_execute.specs.Plans.{RowWriting, lines, arrays}
 use Rattle.nq_execute.specs.declared.plan.TraceWriting.{TraceWriting}
 use Rattle.nq_execute.specs.declared.plan.TraceWriting.TheVariants as trace_way
 use Rattle.command_line.specs.Rules.{scope_of, typing_of}
+use Rattle.command_line.specs.Topics.{topic_of}
+use Rattle.command_line.specs.declared.topics.Topic.{Topic}
 
 -- how the SQL texts that shred a query are shown: each in a frame that tells its path and its
 -- length; or all as a line of JSON, with the type of the query and the columns of each answer; or
@@ -39,13 +41,14 @@ pub data Aim : Type 0 where
   show_natural : Aim
   show_texts : Showing → Aim
 
--- a text on the program is written; or a query is put to an aim: the names of a schema and of the
--- query; or the rows of an SQL text are written in a way: the names of a schema, of the text and of
--- a folder; or the summary of a query over generated tables of a size; or the script by which a
--- database loads the tables of a schema; or the type of a query, or what is wrong with it or with
--- its schema: the names of both; or what a rule asks
+-- a text on the program is written; or one on the forms that begin with a word; or a query is put
+-- to an aim: the names of a schema and of the query; or the rows of an SQL text are written in a
+-- way: the names of a schema, of the text and of a folder; or the summary of a query over generated
+-- tables of a size; or the script by which a database loads the tables of a schema; or the type of
+-- a query, or what is wrong with it or with its schema: the names of both; or what a rule asks
 pub data Command : Type 0 where
   help : Command
+  help_on : Topic → Command
   version : Command
   of_query : Aim → List ℕ → List ℕ → Command
   answer : RowWriting → List ℕ → List ℕ → List ℕ → Command
@@ -60,10 +63,11 @@ one_word word =
     cond (bytes_eq word (codes "--help")) (Some help)
     (cond (bytes_eq word (codes "--version")) (Some version) None)
 
--- `gen N`
+-- `--help WORD` or `gen N`
 abbrev pub two_words : List ℕ → List ℕ → Option Command
-two_words word size =
-    cond (bytes_eq word (codes "gen")) (option_map generated (size_of size)) None
+two_words word what =
+    cond (bytes_eq word (codes "--help")) (option_map help_on (topic_of what))
+    (cond (bytes_eq word (codes "gen")) (option_map generated (size_of what)) None)
 
 -- what `explain` makes of `rule N`; or of SCHEMA QUERY
 abbrev pub of_explain : List ℕ → List ℕ → Option Command
@@ -196,6 +200,7 @@ aim_asks (show_texts showing) = false
 abbrev pub asks_server : Option Command → Bool
 asks_server None = false
 asks_server (Some help) = false
+asks_server (Some (help_on topic)) = false
 asks_server (Some version) = false
 asks_server (Some (of_query aim schema query)) = aim_asks aim
 asks_server (Some (answer writing schema text folder)) = true

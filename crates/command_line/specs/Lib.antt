@@ -1,4 +1,5 @@
 pub mod Rules
+pub mod Topics
 pub mod Commands
 pub mod Help
 pub mod Words

@@ -3,7 +3,7 @@ use Rattle.std.specs.Prelude.{⊤}
 use Rattle.command_line.specs.Commands.{Showing, Aim, run, run_natural, run_json, run_json_tables}
 use Rattle.command_line.specs.Commands.{lineage, stitch, stitch_json, check, show_types}
 use Rattle.command_line.specs.Commands.{show_normal, show_paths, show_natural, show_texts}
-use Rattle.command_line.specs.Commands.{Command, help}
+use Rattle.command_line.specs.Commands.{Command, help, help_on}
 use Rattle.command_line.specs.Commands.{version, of_query, answer, generated, show_load, explain}
 use Rattle.command_line.specs.Commands.{explain_rule}
 use Rattle.generated_inputs.specs.Sizes.{IsSize}
@@ -37,6 +37,7 @@ aim_view (aim.ShowTexts showing) = show_texts (showing_view showing)
 
 abbrev pub command_view : Words → Command
 command_view words.Help = help
+command_view (words.HelpOn topic) = help_on topic
 command_view words.Version = version
 command_view (words.OfQuery aim schema query) = of_query (aim_view aim) schema.now query.now
 command_view (words.Answer writing schema text folder) =
@@ -49,6 +50,7 @@ command_view (words.ExplainRule rule) = explain_rule rule
 -- a size is one for which tables are generated
 abbrev pub HasSize : Words → Type 0
 HasSize words.Help = ⊤
+HasSize (words.HelpOn topic) = ⊤
 HasSize words.Version = ⊤
 HasSize (words.OfQuery aim schema query) = ⊤
 HasSize (words.Answer writing schema text folder) = ⊤

@@ -1,52 +1,70 @@
 // The texts on the program.
-ghost use Rattle.std.specs.Prelude.{◌≡◌, IfOk};
-ghost use Rattle.command_line.specs.Help.{help_text, version_text};
+ghost use Rattle.std.specs.Prelude.{◌≡◌, ◌++◌, IfOk, OnOk};
+ghost use Rattle.command_line.specs.Help.{help_notes, help_text, other_forms, value_forms};
+ghost use Rattle.command_line.specs.Help.{version_text};
+ghost use Rattle.command_line.specs.Topics.{topic_forms};
 
+use crate::topics::Topic;
 use nq_model::{List, Memory};
 use std::alloc::Global;
 
-/// The listed forms of words, a line for each.
-#[tactic(auto, unfolding(crate::specs::Help::help_text))]
-pub fn help_text(alloc: Global) -> Result<List<u8>, Memory>
-    ensures { IfOk result (λ text. text ≡ help_text) }
+// Puts the forms that begin with the word of a topic.
+fn put_forms(text: &mut List<u8>, topic: Topic) -> Result<(), Memory>
+    ensures { OnOk result (text.new ≡ text.old ++ topic_forms topic) }
 {
-    List::from_slice(
-        alloc,
-        b"nq answers typed queries over flat tables.
+    text.extend_from_slice(topic.forms().as_bytes())
+}
 
-nq run SCHEMA QUERY DIR              writes the value of the query
-nq run natural SCHEMA QUERY DIR      writes it by SQL texts that name bags by keys
-nq run json SCHEMA QUERY DIR         writes the value of the query as JSON
-nq run json tables SCHEMA QUERY DIR  writes it as JSON over JSON tables
-nq lineage SCHEMA QUERY DIR          writes each element with its table rows
-nq lineage json SCHEMA QUERY DIR     writes the elements and their rows as JSON
-nq answer SCHEMA SQLFILE DIR         writes the rows of the SQL text
-nq answer json SCHEMA SQLFILE DIR    writes the rows of the SQL text as JSON
-nq stitch SCHEMA QUERY DIR           writes the value of answers made elsewhere
-nq stitch json SCHEMA QUERY DIR      writes the value of answers as JSON
-nq gen N                             writes a summary over tables of size N
-nq check SCHEMA QUERY                writes ok where the query is accepted
-nq explain SCHEMA QUERY              writes its type, or explains its first fault
-nq explain rule N                    writes what typing rule N asks, with examples
-nq explain sql rule N                writes what rule N of SQL texts asks
-nq show types SCHEMA QUERY           writes the type of the query
-nq show normal SCHEMA QUERY          writes the normal form of the query
-nq show paths SCHEMA QUERY           writes a line for each bag of the type
-nq show sql SCHEMA QUERY             writes an SQL text for each bag of the type
-nq show natural SCHEMA QUERY         writes the SQL texts that name bags by keys
-nq show json SCHEMA QUERY            writes the SQL texts and the types as JSON
-nq show load DATABASE SCHEMA         writes a script that loads the tables
-nq show script DATABASE SCHEMA QUERY DIR
-                                     writes a script that asks the SQL texts
-nq --help                            writes this text
-nq --version                         writes the name and the version of nq
+// Puts the forms that write values and rows.
+#[tactic(auto, unfolding(crate::specs::Help::value_forms))]
+fn put_value_forms(text: &mut List<u8>) -> Result<(), Memory>
+    ensures { OnOk result (text.new ≡ text.old ++ value_forms) }
+{
+    put_forms(text, Topic::Run)?;
+    put_forms(text, Topic::Lineage)?;
+    put_forms(text, Topic::Answer)?;
+    put_forms(text, Topic::Stitch)
+}
 
+// Puts the forms that write something else.
+#[tactic(auto, unfolding(crate::specs::Help::other_forms))]
+fn put_other_forms(text: &mut List<u8>) -> Result<(), Memory>
+    ensures { OnOk result (text.new ≡ text.old ++ other_forms) }
+{
+    put_forms(text, Topic::Generate)?;
+    put_forms(text, Topic::Check)?;
+    put_forms(text, Topic::Explain)?;
+    put_forms(text, Topic::Show)?;
+    put_forms(text, Topic::Help)?;
+    put_forms(text, Topic::Version)
+}
+
+// Puts what the words in capitals stand for, and where the statuses are explained.
+#[tactic(auto, unfolding(crate::specs::Help::help_notes))]
+fn put_notes(text: &mut List<u8>) -> Result<(), Memory>
+    ensures { OnOk result (text.new ≡ text.old ++ help_notes) }
+{
+    text.extend_from_slice(
+        b"
 SCHEMA, QUERY and SQLFILE are files. The table t is the file DIR/t.csv, and as a
 JSON table DIR/t.json. The answer to the SQL text K is the file DIR/K.csv.
 DATABASE is postgres or sqlite.
 README.md explains the statuses, under Commands.
 ",
     )
+}
+
+/// The listed forms of words, a line for each. Fails only if memory runs out.
+#[tactic(auto, unfolding(crate::specs::Help::help_text))]
+pub fn help_text(alloc: Global) -> Result<List<u8>, Memory>
+    ensures { IfOk result (λ text. text ≡ help_text) }
+{
+    let mut text = List::new(alloc);
+    text.extend_from_slice(b"nq answers typed queries over flat tables.\n\n")?;
+    put_value_forms(&mut text)?;
+    put_other_forms(&mut text)?;
+    put_notes(&mut text)?;
+    Ok(text)
 }
 
 /// The name and the version of the program.

@@ -10,6 +10,7 @@ mod paths;
 mod refusal;
 mod rules;
 mod status;
+mod topics;
 mod words;
 
 pub use frame::frames;
@@ -19,4 +20,5 @@ pub use note::put_note;
 pub use paths::paths_text;
 pub use refusal::{InputRefusal, Refusal, Refused};
 pub use status::status_of;
+pub use topics::{Topic, topic_text};
 pub use words::{Aim, Command, Showing, command_of};

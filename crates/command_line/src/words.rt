@@ -7,6 +7,7 @@ ghost use Rattle.command_line.specs.Commands.{over_tables, as_script, six_words,
 ghost use Rattle.command_line.specs.Words.{HasSize, aim_view, command_view};
 
 use crate::rules::{scope_of, typing_of};
+use crate::topics::{Topic, topic_of};
 use database_scripts::Database;
 use diagnostics::Rule;
 use generated_inputs::size_of;
@@ -60,6 +61,8 @@ pub enum Aim<'a> {
 #[derive(Drop)]
 pub enum Command<'a> {
     Help,
+    /// The forms that begin with a word, with examples.
+    HelpOn(Topic),
     Version,
     /// An aim, with the names of the schema and of the query.
     OfQuery(Aim<'a>, &'a str, &'a str),
@@ -91,14 +94,20 @@ fn one_word<'a>(word: &str) -> Option<Command<'a>>
 }
 
 // The command of two words.
-fn two_words<'a>(word: &str, size: &str) -> Option<Command<'a>>
-    ensures is { option_map command_view result ≡ two_words word.now size.now }
+fn two_words<'a>(word: &str, what: &str) -> Option<Command<'a>>
+    ensures is { option_map command_view result ≡ two_words word.now what.now }
     ensures sized { IfSome result HasSize }
 {
+    if word == "--help" {
+        return match topic_of(what) {
+            Some(topic) => Some(Command::HelpOn(topic)),
+            None => None,
+        };
+    }
     if word != "gen" {
         return None;
     }
-    match size_of(size) {
+    match size_of(what) {
         Some(size) => Some(Command::Generated(size)),
         None => None,
     }
@@ -367,7 +376,7 @@ pub fn command_of<'a>(words: &'a [String]) -> Option<Command<'a>>
 {
     match words {
         [word] => one_word(word.as_str()),
-        [word, size] => two_words(word.as_str(), size.as_str()),
+        [word, what] => two_words(word.as_str(), what.as_str()),
         [word, schema, query] => three_words(word.as_str(), schema.as_str(), query.as_str()),
         [word, second, third, fourth] => four_words(
             word.as_str(),

@@ -59,7 +59,8 @@ nq show json SCHEMA QUERY            writes the SQL texts and the types as JSON
 nq show load DATABASE SCHEMA         writes a script that loads the tables
 nq show script DATABASE SCHEMA QUERY DIR
                                      writes a script that asks the SQL texts
-nq --help                            writes this text
+nq --help                            writes a line for each form
+nq --help WORD                       writes the forms of WORD, with examples
 nq --version                         writes the name and the version of nq
 
 SCHEMA, QUERY and SQLFILE are files. The table t is the file DIR/t.csv, and as a
@@ -139,7 +140,7 @@ pub const USAGE: Row = Row {
     ..CHECK
 };
 
-const ROWS: [Row; 43] = [
+const ROWS: [Row; 45] = [
     CHECK,
     Row {
         query: "[9223372036854775808]",
@@ -321,6 +322,36 @@ const ROWS: [Row; 43] = [
     },
     Row {
         words: &["--help", "run"],
+        failing: &[1],
+        room: 1000,
+        out: "\
+nq run SCHEMA QUERY DIR              writes the value of the query
+nq run natural SCHEMA QUERY DIR      writes it by SQL texts that name bags by keys
+nq run json SCHEMA QUERY DIR         writes the value of the query as JSON
+nq run json tables SCHEMA QUERY DIR  writes it as JSON over JSON tables
+
+Examples, in the folder examples/company:
+
+nq run org staff data
+nq run natural org staff data
+nq run json org outliers data
+nq run json tables org outliers json
+",
+        ..CHECK
+    },
+    Row {
+        words: &["--help", "--version"],
+        out: "\
+nq --version                         writes the name and the version of nq
+
+An example, in any folder:
+
+nq --version
+",
+        ..CHECK
+    },
+    Row {
+        words: &["--help", "me"],
         ..USAGE
     },
     Row {

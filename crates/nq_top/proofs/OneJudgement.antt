@@ -4,6 +4,7 @@ use Rattle.nq_edge.specs.Edge.{Files, bytes_at}
 use Rattle.command_line.specs.Commands.{Aim, run, run_natural, run_json, run_json_tables, lineage}
 use Rattle.command_line.specs.Commands.{stitch, stitch_json, check, show_types, show_normal}
 use Rattle.command_line.specs.Commands.{show_paths, show_natural, show_texts, Command, help}
+use Rattle.command_line.specs.Commands.{help_on}
 use Rattle.command_line.specs.Commands.{version, of_query, answer, generated, show_load, explain}
 use Rattle.command_line.specs.Commands.{explain_rule}
 use Rattle.command_line.specs.declared.refusal.Refused.{Refused}
@@ -225,6 +226,7 @@ module _ (reading other : Reading) where
   pub one_judgement : (command : Option Command) (files : Files) → judgement reading command files ≡ judgement other command files
   one_judgement None files = refl
   one_judgement (Some help) files = refl
+  one_judgement (Some (help_on topic)) files = refl
   one_judgement (Some version) files = refl
   one_judgement (Some (of_query aim schema name)) files =
       text_same files schema _ _ _ _ schema_same

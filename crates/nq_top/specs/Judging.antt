@@ -15,10 +15,11 @@ use Rattle.sql_profile.specs.declared.server.Loaded.{Loaded}
 use Rattle.command_line.specs.Commands.{Showing, Aim, run, run_natural, run_json, run_json_tables}
 use Rattle.command_line.specs.Commands.{lineage, stitch, stitch_json, check, show_types}
 use Rattle.command_line.specs.Commands.{show_normal, show_paths, show_natural, show_texts}
-use Rattle.command_line.specs.Commands.{Command, help}
+use Rattle.command_line.specs.Commands.{Command, help, help_on}
 use Rattle.command_line.specs.Commands.{version, of_query, answer, generated, show_load, explain}
 use Rattle.command_line.specs.Commands.{explain_rule}
 use Rattle.command_line.specs.Help.{help_text, version_text}
+use Rattle.command_line.specs.Topics.{topic_text}
 use Rattle.command_line.specs.Paths.{paths_text}
 use Rattle.command_line.specs.declared.refusal.Refused.{Refused}
 use Rattle.command_line.specs.declared.refusal.Refused.TheVariants.{TooLong}
@@ -232,6 +233,7 @@ explain_judged reading files schema query =
 -- the schema
 abbrev pub command_judged : Reading → Files → Command → Judgement
 command_judged reading files help = at_once (written help_text)
+command_judged reading files (help_on topic) = at_once (written (topic_text topic))
 command_judged reading files version = at_once (written version_text)
 command_judged reading files (of_query aim schema name) =
     schema_then reading files schema
@@ -261,6 +263,7 @@ files_of (Some files) = files
 abbrev pub held_for : Option Command → Option Files → Option Files
 held_for None held = Some (files_of held)
 held_for (Some help) held = Some (files_of held)
+held_for (Some (help_on topic)) held = Some (files_of held)
 held_for (Some version) held = Some (files_of held)
 held_for (Some (of_query aim schema name)) held = held
 held_for (Some (answer writing schema name folder)) held = held

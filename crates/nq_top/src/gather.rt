@@ -19,7 +19,7 @@ use crate::stitch::gather_stitched;
 use crate::tables::{TABLES_LIMIT, TableTexts, gather_tables};
 use crate::texts::TypedQuery;
 use crate::traced::lineage_draft;
-use command_line::{Aim, Command, InputRefusal, help_text, paths_text, version_text};
+use command_line::{Aim, Command, InputRefusal, help_text, paths_text, topic_text, version_text};
 use database_scripts::load_script;
 use diagnostics::rule_text;
 use lineage_compile::number_tables;
@@ -178,6 +178,7 @@ pub fn gather<I: Inputs>(
 {
     match command {
         Command::Help => Ok(Gathered::Text(help_text(alloc)?)),
+        Command::HelpOn(topic) => Ok(Gathered::Text(topic_text(alloc, topic)?)),
         Command::Version => Ok(Gathered::Text(version_text(alloc)?)),
         Command::OfQuery(aim, schema, query) => {
             let schema = read_schema(alloc, inputs, schema)?;
