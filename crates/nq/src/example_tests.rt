@@ -64,6 +64,52 @@ where (empty(
 [d.name]
 "#;
 
+const COMPANY_JSON_CONTACTS_JSON: &str = r#"[
+ {"dept": "Product", "name": "Pam", "client": false},
+ {"dept": "Product", "name": "Pat", "client": true},
+ {"dept": "Research", "name": "Rob", "client": false},
+ {"dept": "Research", "name": "Roy", "client": false},
+ {"dept": "Sales", "name": "Sam", "client": false},
+ {"dept": "Sales", "name": "Sid", "client": false},
+ {"dept": "Sales", "name": "Sue", "client": true}
+]
+"#;
+
+const COMPANY_JSON_DEPARTMENTS_JSON: &str = r#"[
+ {"name": "Product"},
+ {"name": "Quality"},
+ {"name": "Research"},
+ {"name": "Sales"}
+]
+"#;
+
+const COMPANY_JSON_EMPLOYEES_JSON: &str = r#"[
+ {"dept": "Product", "name": "Alex", "salary": 20000},
+ {"dept": "Product", "name": "Bert", "salary": 900},
+ {"dept": "Research", "name": "Cora", "salary": 50000},
+ {"dept": "Research", "name": "Drew", "salary": 60000},
+ {"dept": "Sales", "name": "Erik", "salary": 2000000},
+ {"dept": "Sales", "name": "Fred", "salary": 700},
+ {"dept": "Sales", "name": "Gina", "salary": 100000}
+]
+"#;
+
+const COMPANY_JSON_TASKS_JSON: &str = r#"[
+ {"employee": "Alex", "task": "build"},
+ {"employee": "Bert", "task": "build"},
+ {"employee": "Cora", "task": "abstract"},
+ {"employee": "Cora", "task": "build"},
+ {"employee": "Cora", "task": "enthuse"},
+ {"employee": "Drew", "task": "abstract"},
+ {"employee": "Drew", "task": "enthuse"},
+ {"employee": "Erik", "task": "call"},
+ {"employee": "Erik", "task": "enthuse"},
+ {"employee": "Fred", "task": "call"},
+ {"employee": "Gina", "task": "call"},
+ {"employee": "Gina", "task": "dissemble"}
+]
+"#;
+
 const COMPANY_KNOWN: &str =
     r#"# A mistake: the clients that each department knows, where `||` stands for `&&`. `nq lineage` shows which rows slipped in.
 for (d <- table departments)
@@ -111,7 +157,7 @@ for (d <- table departments)
 "#;
 
 // The runs in examples/company.
-const COMPANY: [Wanted; 7] = [
+const COMPANY: [Wanted; 9] = [
     Wanted {
         words: &["run", "org", "colleagues", "data"],
         room: 2000,
@@ -168,6 +214,22 @@ const COMPANY: [Wanted; 7] = [
 "#,
         note: "",
     },
+    Wanted {
+        words: &["run", "json", "org", "outliers", "data"],
+        room: 2000,
+        status: 0,
+        out: r#"[{"poor":["Bert","Fred"],"rich":["Erik"]}]
+"#,
+        note: "",
+    },
+    Wanted {
+        words: &["run", "json", "tables", "org", "outliers", "json"],
+        room: 2000,
+        status: 0,
+        out: r#"[{"poor":["Bert","Fred"],"rich":["Erik"]}]
+"#,
+        note: "",
+    },
 ];
 
 // The files of examples/company.
@@ -204,6 +266,30 @@ fn files_of_company(alloc: Global) -> Result<HeldInputs, Fail> {
         COMPANY_DATA_TASKS_CSV.as_bytes(),
     )?;
     put(alloc, &mut files, "idle", COMPANY_IDLE.as_bytes())?;
+    put(
+        alloc,
+        &mut files,
+        "json/contacts.json",
+        COMPANY_JSON_CONTACTS_JSON.as_bytes(),
+    )?;
+    put(
+        alloc,
+        &mut files,
+        "json/departments.json",
+        COMPANY_JSON_DEPARTMENTS_JSON.as_bytes(),
+    )?;
+    put(
+        alloc,
+        &mut files,
+        "json/employees.json",
+        COMPANY_JSON_EMPLOYEES_JSON.as_bytes(),
+    )?;
+    put(
+        alloc,
+        &mut files,
+        "json/tasks.json",
+        COMPANY_JSON_TASKS_JSON.as_bytes(),
+    )?;
     put(alloc, &mut files, "known", COMPANY_KNOWN.as_bytes())?;
     put(alloc, &mut files, "org", COMPANY_ORG.as_bytes())?;
     put(alloc, &mut files, "outliers", COMPANY_OUTLIERS.as_bytes())?;
