@@ -118,6 +118,23 @@ fn a_long_query_is_not_explained(rt: HostRuntime) -> Result<(), Fail> {
     run_row(&rt, alloc, &long, padded(alloc, 1_048_574, "[1]")?)
 }
 
+// Of a line of a mebibyte, the last 100 columns are shown.
+#[test]
+fn a_long_line_is_cut(rt: HostRuntime) -> Result<(), Fail> {
+    let alloc = rt.alloc();
+    let cut = Row {
+        out: "\
+q:1:1048575: No query goes on like this.
+                                                                                               [1] x
+                                                                                                   ^
+found: x
+expected: an operator, (, a dot or the end of the text
+",
+        ..EXPLAIN
+    };
+    run_row(&rt, alloc, &cut, padded(alloc, 1_048_570, "[1] x")?)
+}
+
 // A schema with a fault is explained before its query is read.
 #[test]
 fn explains_schemas(rt: HostRuntime) -> Result<(), Fail> {

@@ -62,6 +62,8 @@ mod example_tests;
 #[cfg(test)]
 mod explain_tests;
 #[cfg(test)]
+mod first_tries_tests;
+#[cfg(test)]
 mod generated_tests;
 #[cfg(test)]
 mod hostile_tests;
