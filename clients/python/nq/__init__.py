@@ -19,6 +19,7 @@ from .errors import (
     SnapshotError,
 )
 from .query import Query
+from .schemas import draft_schema, draft_schema_of_files
 
 __all__ = [
     "AnswerError",
@@ -28,4 +29,6 @@ __all__ = [
     "Query",
     "Refused",
     "SnapshotError",
+    "draft_schema",
+    "draft_schema_of_files",
 ]

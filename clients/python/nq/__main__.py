@@ -1,24 +1,29 @@
-"""`python -m nq show SCHEMA QUERY` and `python -m nq run SCHEMA QUERY DATABASE`."""
+"""`python -m nq show SCHEMA QUERY`, `run SCHEMA QUERY DATABASE` and `schema SOURCE [TABLE ..]`."""
+import os
+import sqlite3
 import sys
 from contextlib import closing
+from urllib.parse import quote
 
-from . import Error, Query
+from . import Error, Query, draft_schema, draft_schema_of_files
+from .snapshot import is_of_driver
 
 USAGE = """usage: python -m nq show SCHEMA QUERY
        python -m nq run SCHEMA QUERY DATABASE
+       python -m nq schema SOURCE [TABLE ..]
 
 show writes the type of the query and its SQL texts. run writes the value as JSON. SCHEMA and QUERY
-are files or texts. DATABASE is sqlite:FILE, or postgresql://.. where psycopg or psycopg2 is there."""
+are files or texts. DATABASE is sqlite:FILE, or postgresql://.. where psycopg or psycopg2 is there.
+schema drafts the schema of these tables, or of all: SOURCE is a DATABASE or csv:FOLDER."""
 
 
 def connect(database):
     """A connection to the database of this name."""
     if database.startswith("sqlite:"):
-        import sqlite3
-        from urllib.parse import quote
-
-        file = quote(database[len("sqlite:"):])
-        return sqlite3.connect(f"file:{file}?mode=ro", uri=True)
+        file = database[len("sqlite:"):]
+        if not os.path.isfile(file):
+            raise Error(f"there is no file {file}")
+        return sqlite3.connect(f"file:{quote(file)}?mode=ro", uri=True)
     if database.startswith(("postgresql://", "postgres://")):
         try:
             import psycopg as driver
@@ -26,6 +31,17 @@ def connect(database):
             import psycopg2 as driver
         return driver.connect(database)
     raise Error(f"{database} is neither sqlite:FILE nor postgresql://..")
+
+
+def draft(source, tables):
+    """A draft of the schema of these tables of a source, or of all."""
+    if source.startswith("csv:"):
+        folder = source[len("csv:"):]
+        if not os.path.isdir(folder):
+            raise Error(f"there is no folder {folder}")
+        return draft_schema_of_files(folder, tables)
+    with closing(connect(source)) as connection:
+        return draft_schema(connection, tables)
 
 
 def main(words):
@@ -41,6 +57,9 @@ def main(words):
         with closing(connect(words[3])) as connection:
             print(query.to_json(connection))
         return 0
+    if len(words) >= 2 and words[0] == "schema":
+        print(draft(words[1], words[2:]), end="")
+        return 0
     print(USAGE, file=sys.stderr)
     return 2
 
@@ -48,6 +67,8 @@ def main(words):
 if __name__ == "__main__":
     try:
         sys.exit(main(sys.argv[1:]))
-    except (Error, OSError) as error:
-        print(error, file=sys.stderr)
+    except Exception as error:
+        if not isinstance(error, (Error, OSError)) and not is_of_driver(error):
+            raise
+        print(str(error).rstrip("\n"), file=sys.stderr)
         sys.exit(1)

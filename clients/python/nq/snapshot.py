@@ -11,6 +11,25 @@ _POSTGRES = ("psycopg", "psycopg2")
 _READ_ONLY = "ISOLATION LEVEL REPEATABLE READ READ ONLY"
 
 
+def is_sqlite(connection):
+    """Whether the connection is of the standard library's driver of SQLite."""
+    return _driver(connection) == "sqlite3"
+
+
+def is_postgres(connection):
+    """Whether the connection is of a driver of PostgreSQL that the package knows."""
+    return _driver(connection) in _POSTGRES
+
+
+def is_of_driver(error):
+    """Whether an exception was raised by one of these drivers."""
+    return is_sqlite(error) or is_postgres(error)
+
+
+def _driver(of):
+    return type(of).__module__.split(".")[0]
+
+
 @contextmanager
 def snapshot(connection, cursor):
     """Holds one snapshot while the block runs, begun as the driver's database asks.
@@ -19,12 +38,11 @@ def snapshot(connection, cursor):
     the caller's, which PostgreSQL has to run at REPEATABLE READ or SERIALIZABLE. For every other
     driver it is the caller who begins a transaction that reads one state.
     """
-    driver = type(connection).__module__.split(".")[0]
-    if driver == "sqlite3":
+    if is_sqlite(connection):
         begun = not connection.in_transaction
         if begun:
             cursor.execute("BEGIN")
-    elif driver in _POSTGRES:
+    elif is_postgres(connection):
         begun = _begin_postgres(connection, cursor)
     else:
         begun = False
