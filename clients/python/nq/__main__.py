@@ -1,4 +1,4 @@
-"""`python -m nq show SCHEMA QUERY`, `run SCHEMA QUERY DATABASE` and `schema SOURCE [TABLE ..]`."""
+"""The commands of `python -m nq`."""
 import os
 import sqlite3
 import sys
@@ -9,12 +9,13 @@ from . import Error, Query, draft_schema, draft_schema_of_files
 from .snapshot import is_of_driver
 
 USAGE = """usage: python -m nq show SCHEMA QUERY
-       python -m nq run SCHEMA QUERY DATABASE
+       python -m nq run [json|text] SCHEMA QUERY DATABASE
        python -m nq schema SOURCE [TABLE ..]
 
-show writes the type of the query and its SQL texts. run writes the value as JSON. SCHEMA and QUERY
-are files or texts. DATABASE is sqlite:FILE, or postgresql://.. where psycopg or psycopg2 is there.
-schema drafts the schema of these tables, or of all: SOURCE is a DATABASE or csv:FOLDER."""
+show writes the type of the query and its SQL texts. run writes the value as JSON, or as the text
+that nq itself writes. SCHEMA and QUERY are files or texts. DATABASE is sqlite:FILE, or
+postgresql://.. where psycopg or psycopg2 is there. schema drafts the schema of these tables, or of
+all: SOURCE is a DATABASE or csv:FOLDER."""
 
 
 def connect(database):
@@ -53,9 +54,11 @@ def main(words):
             print(text + "\n;")
         return 0
     if len(words) == 4 and words[0] == "run":
-        query = Query(words[1], words[2])
-        with closing(connect(words[3])) as connection:
-            print(query.to_json(connection))
+        words = ["run", "json", *words[1:]]
+    if len(words) == 5 and words[0] == "run" and words[1] in ("json", "text"):
+        query = Query(words[2], words[3])
+        with closing(connect(words[4])) as connection:
+            print(query.to_json(connection) if words[1] == "json" else query.to_text(connection))
         return 0
     if len(words) >= 2 and words[0] == "schema":
         print(draft(words[1], words[2:]), end="")
@@ -71,4 +74,4 @@ if __name__ == "__main__":
         if not isinstance(error, (Error, OSError)) and not is_of_driver(error):
             raise
         print(str(error).rstrip("\n"), file=sys.stderr)
-        sys.exit(1)
+        sys.exit(getattr(error, "status", 1))

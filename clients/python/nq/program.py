@@ -50,7 +50,7 @@ def call(words, sources, folder):
 
 def _run(words):
     """The ended process of nq with these words."""
-    environment = dict(os.environ, NQ_UNPROVED="no")
+    environment = {"NQ_UNPROVED": "no", **os.environ}
     try:
         return subprocess.run([program(), *words], capture_output=True, env=environment,
                               stdin=subprocess.DEVNULL, check=False)
@@ -75,6 +75,8 @@ def refusal(status, note, sources, folder):
                    rule=int(found["rule"]))
     if status == 10 and _LONG.fullmatch(note):
         return Refused(note, status, note, fault="TooLong")
+    if status == 125:
+        return ProgramError(note)
     return ProgramError(f"nq ended with status {status}: {note or 'it said nothing'}")
 
 

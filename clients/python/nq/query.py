@@ -63,10 +63,18 @@ class Query:
 
     def to_json(self, connection):
         """The same value as one line of JSON, without the newline."""
+        return self._stitch(connection, "stitch", "json")
+
+    def to_text(self, connection):
+        """The same value as `nq run` writes it, without the newline."""
+        return self._stitch(connection, "stitch")
+
+    def _stitch(self, connection, *command):
+        """What a command of the program writes of the answers of a connection."""
         answers = self._ask(connection)
         with _workplace(self._sources) as folder:
             write_answers(folder, answers, self._columns)
-            words = ["stitch", "json", str(folder / "schema"), str(folder / "query"), str(folder)]
+            words = [*command, str(folder / "schema"), str(folder / "query"), str(folder)]
             return call(words, self._sources, folder).decode("utf-8").rstrip("\n")
 
     def _ask(self, connection):

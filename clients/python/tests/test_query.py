@@ -185,12 +185,20 @@ class Queries(unittest.TestCase):
         with tempfile.TemporaryDirectory() as name:
             file = os.path.join(name, "company.db")
             sqlite(COMPANY / "org", COMPANY / "data", file).close()
-            words = [sys.executable, "-m", "nq", "run", "org", "staff", f"sqlite:{file}"]
-            path = str(Path(nq.__file__).resolve().parents[1])
-            done = subprocess.run(words, capture_output=True, check=True, cwd=COMPANY,
-                                  env=dict(os.environ, PYTHONPATH=path))
+            values = [self.run_command(*form, "org", "staff", f"sqlite:{file}").stdout
+                      for form in ([], ["json"], ["text"])]
+            refused = self.run_command("org", "org", f"sqlite:{file}")
         wanted = by_program(COMPANY / "org", (COMPANY / "staff").read_text(), COMPANY / "data")
-        self.assertEqual(done.stdout.decode("utf-8"), wanted + "\n")
+        json_line = (wanted + "\n").encode("utf-8")
+        self.assertEqual(values, [json_line, json_line, (COMPANY / "staff.out").read_bytes()])
+        self.assertEqual((refused.returncode, refused.stdout), (4, b""))
+        self.assertTrue(refused.stderr.startswith(b"org:2:24: "))
+
+    def run_command(self, *words):
+        """The ended process of `python -m nq run` with these words, in the folder of the company."""
+        path = str(Path(nq.__file__).resolve().parents[1])
+        return subprocess.run([sys.executable, "-m", "nq", "run", *words], capture_output=True,
+                              check=False, cwd=COMPANY, env=dict(os.environ, PYTHONPATH=path))
 
 
 class Readme(unittest.TestCase):
