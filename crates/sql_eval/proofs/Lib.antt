@@ -30,3 +30,4 @@ pub mod Sources
 pub mod Meeting
 pub mod Naming
 pub mod Remembering
+pub mod JoinOrders

@@ -3,6 +3,7 @@ pub mod Links
 pub mod Lists
 pub mod RowNames
 pub mod Naming
+pub mod JoinOrders
 pub mod Remembering
 pub mod Combinations
 pub mod Scalars

@@ -13,6 +13,7 @@ mod conditions;
 mod copies;
 mod deal;
 mod items;
+mod join_order;
 mod joining;
 mod kept;
 mod kept_places;

@@ -17,7 +17,7 @@ struct Case {
     answers: [&'static str; 2],
 }
 
-const CASES: [Case; 35] = [
+const CASES: [Case; 36] = [
     // Ties.
     Case {
         text: r#"SELECT "x"."b" AS "b", ROW_NUMBER() OVER (ORDER BY "x"."a") AS "n" FROM "t" AS "x""#,
@@ -65,6 +65,14 @@ const CASES: [Case; 35] = [
     Case {
         text: r#"SELECT "x"."b" AS "b", "y"."b" AS "c", "z"."b" AS "d" FROM "t" AS "x", "t" AS "y", "t" AS "z" WHERE (("x"."a" = "z"."a") AND ("z"."b" > "x"."b"))"#,
         answers: ["1 1 3 ;1 2 3 ;1 3 3 ;", "1 3 3 ;1 2 3 ;1 1 3 ;"],
+    },
+    // A third source that joins the first two, and stands behind them.
+    Case {
+        text: r#"SELECT "x"."b" AS "b", "y"."b" AS "c", "z"."b" AS "d" FROM "t" AS "x", "t" AS "y", "t" AS "z" WHERE (("z"."a" = "x"."a") AND ("z"."b" = "y"."b"))"#,
+        answers: [
+            "1 1 1 ;1 3 3 ;2 2 2 ;3 1 1 ;3 3 3 ;",
+            "3 3 3 ;3 1 1 ;2 2 2 ;1 3 3 ;1 1 1 ;",
+        ],
     },
     // No equality.
     Case {

@@ -27,6 +27,10 @@ const JOINED_BY_SUM: &str =
 const JOINED_BY_OWN_SUM: &str =
     r#"SELECT "x"."a" AS "a" FROM "t" AS "x", "t" AS "y" WHERE ("x"."a" = ("y"."a" + 0))"#;
 
+// The same by a third source, which alone joins the first two and stands behind them.
+const JOINED_BY_THE_LAST: &str =
+    r#"SELECT "x"."a" AS "a" FROM "t" AS "x", "t" AS "y", "t" AS "z" WHERE (("z"."a" = "x"."a") AND ("y"."a" = "z"."a"))"#;
+
 // The rows that meet none of the other table.
 const ALONE: &str =
     r#"SELECT "x"."a" AS "a" FROM "t" AS "x" WHERE (NOT EXISTS (SELECT 1 AS "o" FROM "e" AS "y" WHERE ("y"."a" = "x"."a")))"#;
@@ -132,6 +136,8 @@ fn all_equalities_as_keys(rt: HostRuntime) -> Result<(), Fail> {
     let joined = ask(alloc, &mut server, &schema, JOINED_BY_SUM)?;
     assert!(&rt; rise(&joined.rows, HALF, 0, 1));
     let joined = ask(alloc, &mut server, &schema, JOINED_BY_OWN_SUM)?;
+    assert!(&rt; rise(&joined.rows, HALF, 0, 1));
+    let joined = ask(alloc, &mut server, &schema, JOINED_BY_THE_LAST)?;
     assert!(&rt; rise(&joined.rows, HALF, 0, 1));
     Ok(())
 }
