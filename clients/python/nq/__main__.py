@@ -3,6 +3,7 @@ import os
 import sqlite3
 import sys
 from contextlib import closing
+from importlib import import_module
 from urllib.parse import quote
 
 from . import Error, Query, draft_schema, draft_schema_of_files
@@ -18,6 +19,16 @@ postgresql://.. where psycopg or psycopg2 is there. schema drafts the schema of 
 all: SOURCE is a DATABASE or csv:FOLDER."""
 
 
+def postgres_driver():
+    """The first driver of PostgreSQL that is installed."""
+    for name in ("psycopg", "psycopg2"):
+        try:
+            return import_module(name)
+        except ImportError:
+            pass
+    raise Error("postgresql:// needs psycopg or psycopg2, and neither is installed")
+
+
 def connect(database):
     """A connection to the database of this name."""
     if database.startswith("sqlite:"):
@@ -26,11 +37,7 @@ def connect(database):
             raise Error(f"there is no file {file}")
         return sqlite3.connect(f"file:{quote(file)}?mode=ro", uri=True)
     if database.startswith(("postgresql://", "postgres://")):
-        try:
-            import psycopg as driver
-        except ImportError:
-            import psycopg2 as driver
-        return driver.connect(database)
+        return postgres_driver().connect(database)
     raise Error(f"{database} is neither sqlite:FILE nor postgresql://..")
 
 

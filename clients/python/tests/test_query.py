@@ -9,8 +9,10 @@ import tempfile
 import threading
 import unittest
 from pathlib import Path
+from unittest import mock
 
 import nq
+from nq.__main__ import connect
 from nq.program import program
 
 from .databases import EXAMPLES, postgres, sqlite
@@ -193,6 +195,11 @@ class Queries(unittest.TestCase):
         self.assertEqual(values, [json_line, json_line, (COMPANY / "staff.out").read_bytes()])
         self.assertEqual((refused.returncode, refused.stdout), (4, b""))
         self.assertTrue(refused.stderr.startswith(b"org:2:24: "))
+
+    def test_no_driver(self):
+        with mock.patch.dict(sys.modules, {"psycopg": None, "psycopg2": None}):
+            with self.assertRaisesRegex(nq.Error, "needs psycopg or psycopg2"):
+                connect("postgresql://localhost/nowhere")
 
     def run_command(self, *words):
         """The ended process of `python -m nq run` with these words, in the folder of the company."""
