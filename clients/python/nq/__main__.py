@@ -1,13 +1,10 @@
 """The commands of `python -m nq`."""
 import os
-import sqlite3
 import sys
 from contextlib import closing
-from importlib import import_module
-from urllib.parse import quote
 
 from . import Error, Query, draft_schema, draft_schema_of_files
-from .snapshot import is_of_driver
+from .drivers import connect, is_raised_by_driver
 
 USAGE = """usage: python -m nq show SCHEMA QUERY
        python -m nq run [json|text] SCHEMA QUERY DATABASE
@@ -17,28 +14,6 @@ show writes the type of the query and its SQL texts. run writes the value as JSO
 that nq itself writes. SCHEMA and QUERY are files or texts. DATABASE is sqlite:FILE, or
 postgresql://.. where psycopg or psycopg2 is there. schema drafts the schema of these tables, or of
 all: SOURCE is a DATABASE or csv:FOLDER."""
-
-
-def postgres_driver():
-    """The first driver of PostgreSQL that is installed."""
-    for name in ("psycopg", "psycopg2"):
-        try:
-            return import_module(name)
-        except ImportError:
-            pass
-    raise Error("postgresql:// needs psycopg or psycopg2, and neither is installed")
-
-
-def connect(database):
-    """A connection to the database of this name."""
-    if database.startswith("sqlite:"):
-        file = database[len("sqlite:"):]
-        if not os.path.isfile(file):
-            raise Error(f"there is no file {file}")
-        return sqlite3.connect(f"file:{quote(file)}?mode=ro", uri=True)
-    if database.startswith(("postgresql://", "postgres://")):
-        return postgres_driver().connect(database)
-    raise Error(f"{database} is neither sqlite:FILE nor postgresql://..")
 
 
 def draft(source, tables):
@@ -78,7 +53,7 @@ if __name__ == "__main__":
     try:
         sys.exit(main(sys.argv[1:]))
     except Exception as error:
-        if not isinstance(error, (Error, OSError)) and not is_of_driver(error):
+        if not isinstance(error, (Error, OSError)) and not is_raised_by_driver(error):
             raise
         print(str(error).rstrip("\n"), file=sys.stderr)
         sys.exit(getattr(error, "status", 1))

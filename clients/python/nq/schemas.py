@@ -11,8 +11,9 @@ from dataclasses import dataclass, field
 from pathlib import Path
 from typing import List, Optional
 
+from .drivers import is_postgres, is_sqlite
 from .errors import Error
-from .snapshot import is_postgres, is_sqlite, snapshot
+from .snapshot import snapshot
 
 _WORD = re.compile(r"[A-Za-z_][A-Za-z0-9_]{0,63}")
 _INTEGER = re.compile(r"-?[0-9]+")

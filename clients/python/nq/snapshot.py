@@ -5,29 +5,10 @@ texts are asked in one read-only snapshot.
 """
 from contextlib import contextmanager
 
+from .drivers import is_postgres, is_sqlite
 from .errors import SnapshotError
 
-_POSTGRES = ("psycopg", "psycopg2")
 _READ_ONLY = "ISOLATION LEVEL REPEATABLE READ READ ONLY"
-
-
-def is_sqlite(connection):
-    """Whether the connection is of the standard library's driver of SQLite."""
-    return _driver(connection) == "sqlite3"
-
-
-def is_postgres(connection):
-    """Whether the connection is of a driver of PostgreSQL that the package knows."""
-    return _driver(connection) in _POSTGRES
-
-
-def is_of_driver(error):
-    """Whether an exception was raised by one of these drivers."""
-    return is_sqlite(error) or is_postgres(error)
-
-
-def _driver(of):
-    return type(of).__module__.split(".")[0]
 
 
 @contextmanager

@@ -12,7 +12,7 @@ from pathlib import Path
 from unittest import mock
 
 import nq
-from nq.__main__ import connect
+from nq.drivers import connect
 from nq.program import program
 
 from .databases import EXAMPLES, postgres, sqlite
