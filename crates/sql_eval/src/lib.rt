@@ -10,6 +10,7 @@ mod arrangement;
 mod asked;
 mod chains;
 mod conditions;
+mod conjuncts;
 mod copies;
 mod deal;
 mod items;

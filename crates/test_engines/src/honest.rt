@@ -68,7 +68,9 @@ const CASES: [Case; 36] = [
     },
     // A third source that joins the first two, and stands behind them.
     Case {
-        text: r#"SELECT "x"."b" AS "b", "y"."b" AS "c", "z"."b" AS "d" FROM "t" AS "x", "t" AS "y", "t" AS "z" WHERE (("z"."a" = "x"."a") AND ("z"."b" = "y"."b"))"#,
+        text: r#"SELECT "x"."b" AS "b", "y"."b" AS "c", "z"."b" AS "d"
+            FROM "t" AS "x", "t" AS "y", "t" AS "z"
+            WHERE (("z"."a" = "x"."a") AND ("z"."b" = "y"."b"))"#,
         answers: [
             "1 1 1 ;1 3 3 ;2 2 2 ;3 1 1 ;3 3 3 ;",
             "3 3 3 ;3 1 1 ;2 2 2 ;1 3 3 ;1 1 1 ;",

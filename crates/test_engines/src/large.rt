@@ -28,8 +28,8 @@ const JOINED_BY_OWN_SUM: &str =
     r#"SELECT "x"."a" AS "a" FROM "t" AS "x", "t" AS "y" WHERE ("x"."a" = ("y"."a" + 0))"#;
 
 // The same by a third source, which alone joins the first two and stands behind them.
-const JOINED_BY_THE_LAST: &str =
-    r#"SELECT "x"."a" AS "a" FROM "t" AS "x", "t" AS "y", "t" AS "z" WHERE (("z"."a" = "x"."a") AND ("y"."a" = "z"."a"))"#;
+const JOINED_BY_THE_LAST: &str = r#"SELECT "x"."a" AS "a" FROM "t" AS "x", "t" AS "y", "t" AS "z"
+    WHERE (("z"."a" = "x"."a") AND ("y"."a" = "z"."a"))"#;
 
 // The rows that meet none of the other table.
 const ALONE: &str =
