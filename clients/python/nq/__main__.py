@@ -4,16 +4,18 @@ import sys
 from contextlib import closing
 
 from . import Error, Query, draft_schema, draft_schema_of_files
-from .drivers import connect, is_raised_by_driver
+from .drivers import connect, is_database, is_raised_by_driver
+from .parameters import of_words
 
 USAGE = """usage: python -m nq show SCHEMA QUERY
-       python -m nq run [json|text] SCHEMA QUERY DATABASE
+       python -m nq run [json|text] SCHEMA QUERY DATABASE [NAME=VALUE ..]
        python -m nq schema SOURCE [TABLE ..]
 
 show writes the type of the query and its SQL texts. run writes the value as JSON, or as the text
-that nq itself writes. SCHEMA and QUERY are files or texts. DATABASE is sqlite:FILE, or
-postgresql://.. where psycopg or psycopg2 is there. schema drafts the schema of these tables, or of
-all: SOURCE is a DATABASE or csv:FOLDER."""
+that nq itself writes, where the variable NAME has this VALUE in the query: digits are an int, true
+and false bools, all else a text, also what stands in single quotes. SCHEMA and QUERY are files or
+texts. DATABASE is sqlite:FILE, or postgresql://.. where psycopg or psycopg2 is there. schema drafts
+the schema of these tables, or of all: SOURCE is a DATABASE or csv:FOLDER."""
 
 
 def draft(source, tables):
@@ -35,10 +37,10 @@ def main(words):
         for text in query.texts:
             print(text + "\n;")
         return 0
-    if len(words) == 4 and words[0] == "run":
+    if words[:1] == ["run"] and (len(words) == 4 or len(words) > 4 and is_database(words[3])):
         words = ["run", "json", *words[1:]]
-    if len(words) == 5 and words[0] == "run" and words[1] in ("json", "text"):
-        query = Query(words[2], words[3])
+    if words[:1] == ["run"] and len(words) >= 5 and words[1] in ("json", "text"):
+        query = Query(words[2], words[3], of_words(words[5:]))
         with closing(connect(words[4])) as connection:
             print(query.to_json(connection) if words[1] == "json" else query.to_text(connection))
         return 0

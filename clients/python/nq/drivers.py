@@ -8,6 +8,10 @@ from .errors import Error
 
 _POSTGRES = ("psycopg", "psycopg2")
 
+# With what the names of databases begin.
+_SQLITE_NAME = "sqlite:"
+_POSTGRES_NAMES = ("postgresql://", "postgres://")
+
 
 def is_sqlite(connection):
     """Whether a connection is of the standard library's driver of SQLite."""
@@ -24,17 +28,22 @@ def is_raised_by_driver(error):
     return _module(error) in ("sqlite3", *_POSTGRES)
 
 
+def is_database(name):
+    """Whether a name is one of a database: `sqlite:FILE`, or `postgresql://..`."""
+    return name.startswith((_SQLITE_NAME, *_POSTGRES_NAMES))
+
+
 def connect(database):
-    """A connection to the database of this name: `sqlite:FILE`, or `postgresql://..`.
+    """A connection to the database of this name.
 
     Raises `Error` for another name, for a file that is not there, and where no driver is installed.
     """
-    if database.startswith("sqlite:"):
-        file = database[len("sqlite:"):]
+    if database.startswith(_SQLITE_NAME):
+        file = database[len(_SQLITE_NAME):]
         if not os.path.isfile(file):
             raise Error(f"there is no file {file}")
         return sqlite3.connect(f"file:{quote(file)}?mode=ro", uri=True)
-    if database.startswith(("postgresql://", "postgres://")):
+    if database.startswith(_POSTGRES_NAMES):
         return _postgres().connect(database)
     raise Error(f"{database} is neither sqlite:FILE nor postgresql://..")
 

@@ -30,6 +30,10 @@ class Refused(Error):
         self.column = column
 
 
+class ParameterError(Error):
+    """A parameter has a name or a value that no query can have."""
+
+
 class AnswerError(Error):
     """An answer of the database is not one that can be stitched.
 

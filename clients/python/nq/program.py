@@ -37,8 +37,8 @@ def program():
 def call(words, sources, folder):
     """What nq writes to standard output for these words.
 
-    `sources` has for `schema` and `query` the name that messages use and the bytes, which lie under
-    these names in the folder.
+    `sources` has the schema and the query, which lie under the names `schema` and `query` in the
+    folder.
     """
     done = _run(words)
     if done.returncode == 0:
@@ -82,19 +82,21 @@ def refusal(status, note, sources, folder):
 
 def _at(status, note, sources, folder, kind, place, **what):
     """A refusal at a place of the schema or the query. Its message is the text of `nq explain`."""
-    name, text = sources[kind]
-    before = text[:place]
+    source = sources[kind]
+    before = source.text[:source.place(place)]
     line = before.count(b"\n") + 1
     column = len(before[before.rfind(b"\n") + 1:].decode("utf-8", "replace")) + 1
-    message = _explained(folder, kind, name) or f"{name}:{line}:{column}: {note[4:]}"
-    return Refused(message, status, note, file=name, place=place, line=line, column=column, **what)
+    message = (_explained(folder, kind, source, source.lines_added(place))
+               or f"{source.name}:{line}:{column}: {note[4:]}")
+    return Refused(message, status, note, file=source.name, place=source.place(place), line=line,
+                   column=column, **what)
 
 
-def _explained(folder, kind, name):
-    """What `nq explain` writes of a refused schema or query, under the name that messages use."""
+def _explained(folder, kind, source, lines_added):
+    """What `nq explain` writes of a refused schema or query, by its name and its own lines."""
     done = _run(["explain", str(folder / "schema"), str(folder / "query")])
     said = done.stdout.decode("utf-8", "replace").rstrip("\n")
-    path = f"{folder / kind}:"
-    if done.returncode != 0 or not said.startswith(path):
+    found = re.match(re.escape(f"{folder / kind}:") + r"(?P<line>\d+)", said)
+    if done.returncode != 0 or not found:
         return None
-    return f"{name}:{said[len(path):]}"
+    return f"{source.name}:{int(found['line']) - lines_added}{said[found.end():]}"

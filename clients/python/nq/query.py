@@ -1,46 +1,44 @@
 """Queries that are compiled once and asked of a connection."""
 import json
-import os
-import re
 import tempfile
+from collections import OrderedDict
 from contextlib import closing, contextmanager
 from pathlib import Path
 from threading import Lock
 
 from .answers import write_answers
+from .parameters import bound
 from .program import call
 from .snapshot import snapshot
+from .sources import Source, name_and_text
 
-# What was compiled, by the bytes of the schema and of the query.
-_compiled = {}
+# What was compiled, by the bytes of the schema and of the query, the longest unused first.
+_compiled = OrderedDict()
 _lock = Lock()
 
-# No name of a file that is meant as one has these; each schema and each query has one of them.
-_OF_TEXTS = re.compile(r"[\s;()\[\]{}']")
+# The most queries that are kept compiled.
+_MOST = 1_000
 
 
 class Query:
     """A nested query over a schema, compiled to SQL texts.
 
     `schema` and `query` are each the name of a file or a text itself. A `str` that names no file
-    and has a space, a bracket or a `;` is a text. Both are read once.
+    and has a space, a bracket or a `;` is a text. Both are read once. `parameters` are values of
+    variables of the query, by their names: each an `int`, a `bool` or a `str`.
 
     `type` is the type of the value as nq writes it, `texts` the SQL texts in path order, and
     `columns` the types of the columns of each, as lists of "int", "bool" and "text".
 
-    Raises `Refused` where nq refuses the schema or the query.
+    Raises `Refused` where nq refuses the schema or the query, and `ParameterError` for a name or a
+    value that no parameter has.
     """
 
-    def __init__(self, schema, query):
-        self._sources = {"schema": _source("schema", schema), "query": _source("query", query)}
-        key = tuple(text for _, text in self._sources.values())
-        with _lock:
-            found = _compiled.get(key)
-        if found is None:
-            found = _compile(self._sources)
-            with _lock:
-                _compiled[key] = found
-        self.type, self._texts, self._columns = found
+    def __init__(self, schema, query, parameters=None):
+        name, text = name_and_text("query", query)
+        self._sources = {"schema": Source(*name_and_text("schema", schema)),
+                         "query": Source(name, text, *bound(text, parameters))}
+        self.type, self._texts, self._columns = _compiled_once(self._sources)
 
     @property
     def texts(self):
@@ -94,23 +92,29 @@ def _rows(connection, cursor, texts):
     return answers
 
 
-def _source(kind, given):
-    """The name that messages use for a schema or a query, and its bytes."""
-    if isinstance(given, bytes):
-        return kind, given
-    if isinstance(given, str) and _OF_TEXTS.search(given) and not os.path.isfile(given):
-        return kind, given.encode("utf-8")
-    return str(given), Path(given).read_bytes()
-
-
 @contextmanager
 def _workplace(sources):
     """A new folder that holds the schema and the query, and is removed on every way out."""
     with tempfile.TemporaryDirectory(prefix="nq-") as name:
         folder = Path(name)
-        for kind, (_, text) in sources.items():
-            (folder / kind).write_bytes(text)
+        for kind, source in sources.items():
+            (folder / kind).write_bytes(source.whole)
         yield folder
+
+
+def _compiled_once(sources):
+    """What compiling gives, from the kept ones where it is there."""
+    key = tuple(source.whole for source in sources.values())
+    with _lock:
+        if key in _compiled:
+            _compiled.move_to_end(key)
+            return _compiled[key]
+    found = _compile(sources)
+    with _lock:
+        _compiled[key] = found
+        if len(_compiled) > _MOST:
+            _compiled.popitem(last=False)
+    return found
 
 
 def _compile(sources):
