@@ -2,11 +2,10 @@
 from decimal import Decimal
 
 from .errors import AnswerError, AnswerTooLong
+from .language import GREATEST, LEAST
 
 # The most bytes of all answers together that nq takes.
 LIMIT = 67_108_864
-
-_LEAST, _GREATEST = -(2**63), 2**63 - 1
 
 
 def cell_text(value, kind, text, row, column):
@@ -21,7 +20,7 @@ def cell_text(value, kind, text, row, column):
         if isinstance(value, Decimal) and value == value.to_integral_value():
             value = int(value)
         if isinstance(value, int):
-            if not _LEAST <= value <= _GREATEST:
+            if not LEAST <= value <= GREATEST:
                 raise _error("Range", f"{value} is no integer of 64 bits", text, row, column)
             return str(value)
     raise _error("Type", f"{value!r} is a {type(value).__name__} and no {kind}", text, row, column)

@@ -6,8 +6,8 @@ written as nq writes values: a text stays one text, whatever is in it.
 import re
 
 from .errors import ParameterError
+from .language import GREATEST, LEAST, is_word
 
-_WORD = re.compile(r"[A-Za-z_][A-Za-z0-9_]{0,63}")
 _RESERVED = set("for where if then else fun let table empty true false int bool text".split())
 
 _BLANK = rb"(?:[ \t\r\n]|#[^\n]*(?:\n|\Z))*"
@@ -17,14 +17,12 @@ _HEADER = re.compile(rb"(?:\xef\xbb\xbf)?%snq(?![A-Za-z0-9_])%s2(?![A-Za-z0-9_])
                      % (_BLANK, _BLANK, _BLANK))
 _RESERVED_BY_HEADER = {"count", "sum"}
 
-_LEAST, _GREATEST = -(2**63), 2**63 - 1
 
-
-def bound(text, parameters):
-    """The place in a query at which its parameters go, and the bytes of these.
+def lets_at_head(text, parameters):
+    """The place in a query at which the `let`s of its parameters go, and their bytes.
 
     They end with the line, and what stood before them on it is made up for by blanks: so columns
-    stay, and later lines are as many further down as the parameters have ends of lines.
+    stay, and later lines are as many further down as the `let`s have ends of lines.
     """
     if not parameters:
         return 0, b""
@@ -32,7 +30,7 @@ def bound(text, parameters):
     at = header.end() if header else 3 * text.startswith(b"\xef\xbb\xbf")
     reserved = _RESERVED | _RESERVED_BY_HEADER if header else _RESERVED
     for name in parameters:
-        if not isinstance(name, str) or not _WORD.fullmatch(name) or name in reserved:
+        if not isinstance(name, str) or not is_word(name) or name in reserved:
             raise ParameterError(f"{name!r} cannot be the name of a parameter")
     lets = "".join(f"let {name} = {_literal(name, value)}; " for name, value in parameters.items())
     before = text[:at].rsplit(b"\n", 1)[-1].decode("utf-8", "replace").lstrip("\ufeff")
@@ -47,13 +45,14 @@ def _literal(name, value):
     if isinstance(value, bool):
         return "true" if value else "false"
     if isinstance(value, int):
-        if not _LEAST <= value <= _GREATEST:
+        if not LEAST <= value <= GREATEST:
             raise ParameterError(f"the parameter {name} is no integer of 64 bits: {value}")
         # (a query has no number of the size of the least integer)
-        return f"{_LEAST + 1} - 1" if value == _LEAST else str(value)
+        return f"{LEAST + 1} - 1" if value == LEAST else str(value)
     if isinstance(value, str):
         return "'" + value.replace("'", "''") + "'"
-    raise ParameterError(f"the parameter {name} is a {type(value).__name__}; nq has int, bool and text")
+    kind = type(value).__name__
+    raise ParameterError(f"the parameter {name} is a {kind}; nq has int, bool and text")
 
 
 def of_words(words):

@@ -7,7 +7,7 @@ from pathlib import Path
 from threading import Lock
 
 from .answers import write_answers
-from .parameters import bound
+from .parameters import lets_at_head
 from .program import call
 from .snapshot import snapshot
 from .sources import Source, name_and_text
@@ -17,7 +17,7 @@ _compiled = OrderedDict()
 _lock = Lock()
 
 # The most queries that are kept compiled.
-_MOST = 1_000
+_MOST_COMPILED = 1_000
 
 
 class Query:
@@ -37,7 +37,7 @@ class Query:
     def __init__(self, schema, query, parameters=None):
         name, text = name_and_text("query", query)
         self._sources = {"schema": Source(*name_and_text("schema", schema)),
-                         "query": Source(name, text, *bound(text, parameters))}
+                         "query": Source(name, text, *lets_at_head(text, parameters))}
         self.type, self._texts, self._columns = _compiled_once(self._sources)
 
     @property
@@ -112,7 +112,7 @@ def _compiled_once(sources):
     found = _compile(sources)
     with _lock:
         _compiled[key] = found
-        if len(_compiled) > _MOST:
+        if len(_compiled) > _MOST_COMPILED:
             _compiled.popitem(last=False)
     return found
 

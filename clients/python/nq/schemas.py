@@ -13,11 +13,10 @@ from typing import List, Optional
 
 from .drivers import is_postgres, is_sqlite
 from .errors import Error
+from .language import GREATEST, is_word
 from .snapshot import snapshot
 
-_WORD = re.compile(r"[A-Za-z_][A-Za-z0-9_]{0,63}")
 _INTEGER = re.compile(r"-?[0-9]+")
-_GREATEST = 2**63 - 1
 
 # The most tables that a schema has, and the most columns of a table.
 _MOST = 64
@@ -153,8 +152,8 @@ def _kind(cell):
         return "bool"
     # (Python reads no number of more than some thousand digits)
     digits = cell.lstrip("-0") or "0"
-    is_int = (_INTEGER.fullmatch(cell) and len(digits) <= len(str(_GREATEST))
-              and int(digits) <= _GREATEST + cell.startswith("-"))
+    is_int = (_INTEGER.fullmatch(cell) and len(digits) <= len(str(GREATEST))
+              and int(digits) <= GREATEST + cell.startswith("-"))
     return "int" if is_int else "text"
 
 
@@ -173,11 +172,11 @@ def _schema_text(tables, names):
 
 def _table_lines(table):
     """The line of a table, behind comments on what it leaves out and what may be NULL."""
-    kept = [column for column in table.columns if column.kind and _is_word(column.name)][:_MOST]
+    kept = [column for column in table.columns if column.kind and is_word(column.name)][:_MOST]
     lost = [column for column in table.columns if column not in kept]
     named = ", ".join(_shown(column.name) + f" ({column.declared})" * bool(column.declared)
                       for column in lost)
-    if not _is_word(table.name):
+    if not is_word(table.name):
         return [f"# left out: {_shown(table.name)}, a name that is no word"]
     if not table.columns:
         return [f"# left out: {table.name}, which has no columns"]
@@ -194,10 +193,6 @@ def _table_lines(table):
     return lines
 
 
-def _is_word(name):
-    return _WORD.fullmatch(name) is not None
-
-
 def _shown(name):
     """A name as it stands in a comment, which ends with its line."""
-    return name if _is_word(name) else ascii(name)
+    return name if is_word(name) else ascii(name)

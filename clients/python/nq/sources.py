@@ -10,25 +10,28 @@ _OF_TEXTS = re.compile(r"[\s;()\[\]{}']")
 
 @dataclass(frozen=True)
 class Source:
-    """A schema or a query: the name that messages use, its text, and its parameters at a place."""
+    """A schema or a query: the name that messages use, its text, and what is put into it.
+
+    Those are the `let`s of a query's parameters, which go to the place `at`.
+    """
 
     name: str
     text: bytes
     at: int = 0
-    parameters: bytes = b""
+    lets: bytes = b""
 
     @property
     def whole(self):
-        """The text with its parameters, as nq has it."""
-        return self.text[:self.at] + self.parameters + self.text[self.at:]
+        """The text with the `let`s, as nq has it."""
+        return self.text[:self.at] + self.lets + self.text[self.at:]
 
     def place(self, place):
         """The place in the text of a place in the whole."""
-        return place if place < self.at else max(self.at, place - len(self.parameters))
+        return place if place < self.at else max(self.at, place - len(self.lets))
 
     def lines_added(self, place):
-        """How many ends of lines the parameters have before a place in the whole."""
-        return self.parameters.count(b"\n") if place >= self.at + len(self.parameters) else 0
+        """How many ends of lines the `let`s have before a place in the whole."""
+        return self.lets.count(b"\n") if place >= self.at + len(self.lets) else 0
 
 
 def name_and_text(kind, given):

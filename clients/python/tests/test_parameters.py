@@ -10,20 +10,21 @@ from unittest import mock
 
 import nq
 from nq import query as queries
-from nq.parameters import bound, of_words
+from nq.parameters import lets_at_head, of_words
 
 from .databases import EXAMPLES, postgres, sqlite
 
 COMPANY = EXAMPLES / "company"
 NAMES = "for (e <- table employees) where (e.dept == dept && e.salary > least) [e.name]"
-TEXTS = ["", "'", "''", "' ++ ['x'] #", "line\nline\r\n", "# no comment", "\t", "ü 猫 🐈", "\\", '"']
+TEXTS = ["", "'", "''", "' ++ ['x'] #", "line\nline\r\n", "# no comment", "\t", "ü 猫 🐈", "\\",
+         '"']
 
 
 def whole(query, parameters):
     """A query with its parameters."""
     text = query.encode("utf-8")
-    at, put = bound(text, parameters)
-    return (text[:at] + put + text[at:]).decode("utf-8")
+    at, lets = lets_at_head(text, parameters)
+    return (text[:at] + lets + text[at:]).decode("utf-8")
 
 
 class Written(unittest.TestCase):
@@ -34,7 +35,8 @@ class Written(unittest.TestCase):
         self.assertEqual(whole("table t", {}), "table t")
 
     def test_values(self):
-        values = {"a": "it's", "b": True, "c": False, "d": 0, "e": -7, "f": 2**63 - 1, "g": -(2**63)}
+        values = {"a": "it's", "b": True, "c": False, "d": 0, "e": -7, "f": 2**63 - 1,
+                  "g": -(2**63)}
         self.assertEqual(whole("table t", values), (
             " let a = 'it''s'; let b = true; let c = false; let d = 0; let e = -7; "
             "let f = 9223372036854775807; let g = -9223372036854775807 - 1; \ntable t"
@@ -42,7 +44,8 @@ class Written(unittest.TestCase):
 
     def test_behind_the_header(self):
         self.assertEqual(whole("nq 2;\n[n]", {"n": 1}), "nq 2; let n = 1; \n     \n[n]")
-        self.assertEqual(whole("# x\nnq# y\n2 ; [n]", {"n": 1}), "# x\nnq# y\n2 ; let n = 1; \n    [n]")
+        self.assertEqual(whole("# x\nnq# y\n2 ; [n]", {"n": 1}),
+                         "# x\nnq# y\n2 ; let n = 1; \n    [n]")
         self.assertEqual(whole("\ufeffnq 2;[n]", {"n": 1}), "\ufeffnq 2; let n = 1; \n     [n]")
 
     def test_no_header(self):
@@ -53,16 +56,16 @@ class Written(unittest.TestCase):
     def test_refused_names(self):
         for name in ("", "a b", "1a", "a'", "for", "text", "a" * 65, "ü", 1):
             with self.assertRaises(nq.ParameterError):
-                bound(b"[1]", {name: 1})
+                lets_at_head(b"[1]", {name: 1})
         for name in ("count", "sum"):
             self.assertEqual(whole("[1]", {name: 1}), f" let {name} = 1; \n[1]")
             with self.assertRaises(nq.ParameterError):
-                bound(b"nq 2; [1]", {name: 1})
+                lets_at_head(b"nq 2; [1]", {name: 1})
 
     def test_refused_values(self):
         for value in (None, 1.5, b"x", [1], 2**63, -(2**63) - 1, "\ud800"):
             with self.assertRaises(nq.ParameterError):
-                bound(b"[1]", {"n": value})
+                lets_at_head(b"[1]", {"n": value})
 
     def test_words(self):
         self.assertEqual(
@@ -80,7 +83,8 @@ class Runs(unittest.TestCase):
     def test_values_of_a_query(self):
         connection = sqlite(COMPANY / "org", COMPANY / "data")
         for dept, least, names in [("Sales", 900, ["Erik", "Gina"]), ("Sales", 2**63 - 1, []),
-                                   ("Product", -(2**63), ["Alex", "Bert"]), ("x' OR '1'='1", 0, [])]:
+                                   ("Product", -(2**63), ["Alex", "Bert"]),
+                                   ("x' OR '1'='1", 0, [])]:
             query = nq.Query(COMPANY / "org", NAMES, {"dept": dept, "least": least})
             self.assertEqual(query.run(connection), names)
 
@@ -120,7 +124,7 @@ class Runs(unittest.TestCase):
 
     def test_few_are_kept(self):
         with mock.patch.object(queries, "_compiled", OrderedDict()) as kept:
-            with mock.patch.object(queries, "_MOST", 2):
+            with mock.patch.object(queries, "_MOST_COMPILED", 2):
                 for number in (1, 2, 1, 3):
                     nq.Query("table t (a: int);", "[n]", {"n": number})
             self.assertEqual([text.decode("utf-8") for _, text in kept],
