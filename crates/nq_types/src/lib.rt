@@ -4,6 +4,7 @@
 mod base;
 mod fault;
 mod fields;
+mod found;
 mod program;
 mod rules;
 mod scope;
@@ -12,5 +13,6 @@ mod text;
 mod walk;
 
 pub use fault::CheckFault;
+pub use found::found_types;
 pub use program::check;
 pub use text::write_type;
