@@ -1,11 +1,12 @@
-// Values under names, the first of a name found by a hash table.
+// Values under names, the first of a name found by an ordered map, so that no choice of names makes
+// the look-ups slow.
 ghost use Rattle.std.specs.Prelude.{◌≡◌, ◌++◌, [], ◌∷◌, IfOk, map, option_copied};
 ghost use Rattle.nq_model.specs.Tables.{types_of};
 ghost use Rattle.sql_profile.specs.Scope.{found, same_types};
 
 use nq_model::{ColumnType, Label, List, Memory};
 use std::alloc::Global;
-use std::collections::HashMap;
+use std::collections::BTreeMap;
 use std::marker::Model;
 
 // A list of values under names, which contracts see as the list of its pairs.
@@ -13,7 +14,7 @@ use std::marker::Model;
 pub(crate) struct Names<'a, V> {
     listed: List<(&'a Label, V)>,
     // The place of the first under each name.
-    firsts: HashMap<&'a str, usize>,
+    firsts: BTreeMap<&'a str, usize>,
 }
 
 // Columns, each with its type.
@@ -21,8 +22,9 @@ pub(crate) type Columns<'a> = Names<'a, ColumnType>;
 
 impl<'a, V> Model for Names<'a, V> {
     ghost use Rattle.std.specs.Prelude.{◌≡◌, ℕ, List};
-    ghost use Rattle.std.specs.HashMap.{get_by};
-    ghost use Rattle.std.specs.Str.{bytes_eq};
+    ghost use Rattle.std.specs.BTreeMap.{get_by};
+    ghost use Rattle.std.specs.Cmp.Lexicographic.{slice_cmp};
+    ghost use Rattle.std.specs.Ordering.{nat_cmp};
     ghost use Rattle.sql_scope.specs.Names.{named, place_of};
 
     ghost Value = { List (List ℕ × V) };
@@ -30,7 +32,7 @@ impl<'a, V> Model for Names<'a, V> {
     ghost view = { λ names. named names.listed };
 
     ghost invariant = { λ names. (name : List ℕ) → get_by
-        (λ k. bytes_eq name k.now) names.firsts ≡ place_of name (named names.listed) };
+        (λ k. slice_cmp nat_cmp name k.now) names.firsts ≡ place_of name (named names.listed) };
 }
 
 impl<'a, V: Drop> Names<'a, V> {
@@ -40,7 +42,7 @@ impl<'a, V: Drop> Names<'a, V> {
     {
         Ok(Names {
             listed: List::with_capacity(alloc, names)?,
-            firsts: HashMap::with_capacity(alloc, names)?,
+            firsts: BTreeMap::new(alloc),
         })
     }
 
