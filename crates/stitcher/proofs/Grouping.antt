@@ -1,9 +1,12 @@
 -- One row more among the groups.
-use Rattle.std.proofs.Common.{◌≡◌, ℕ, zero, suc, ◌+◌, ◌-◌, ◌<◌, ◌≤◌, List, [], ◌∷◌, ◌++◌, refl, sym, ap, ◌∙◌, subst, Bool, true, false, cond, map, filter, get_or, length, drop, drop-cons, arith, length-append}
+use Rattle.std.proofs.Common.{◌≡◌, ℕ, zero, suc, ◌+◌, ◌-◌, ◌<◌, ◌≤◌, List, [], ◌∷◌, ◌++◌, refl, sym, ap, ◌∙◌, subst, Bool, true, false, cond, Option, Some, map, filter, get_or, length, drop, drop-cons, arith, length-append}
 use Rattle.std.proofs.Math.Seq.{drop-length}
+use Rattle.std.specs.BTreeMap.{BTreeMap, get}
 use Rattle.std.specs.Cmp.{IsEquivalence}
+use Rattle.std.specs.Map.{lookup}
 use Rattle.std.specs.Option.{unwrap_or}
-use Rattle.indexmap.specs.IndexMap.{IndexMap, get_by}
+use Rattle.std.specs.Ordering.{is_eq}
+use Rattle.std.specs.declared.cmp.Ordering.{Ordering}
 use Rattle.nq_model.specs.declared.table.Cell.{Cell}
 use Rattle.stitcher.specs.Schemes.{AnswerRows}
 use Rattle.stitcher.specs.Groups.{first_under, IsChain, GoesOn, row_before, AreGrouped, IsPutInFront}
@@ -42,14 +45,31 @@ last_first rows d h =
     let behind : suc i ≡ length rows - d = omega (arith, h) in
     ap (λ n. drop n rows) here ∙ first ∙ ap (λ n. get_or rows i [] ∷ drop n rows) behind
 
-module _ {I X : Type 0} (eq : I → I → Bool) (outer : List Cell → I) (rows : AnswerRows) where
+-- what is found by an order, where indexes are equal as they tie
+module _ {I : Type 0} (eq : I → I → Bool) (cmp : I → I → Ordering) (agree : (i j : I) → eq i j ≡ is_eq (cmp i j)) where
+  pub first_found : (firsts : BTreeMap I ℕ) (i : I) → unwrap_or (get cmp firsts i) 0 ≡ first_under eq firsts i
+  first_found firsts i = λ t. unwrap_or (lookup (λ j. sym (agree i j) t) firsts.entries) 0
+
+  pub put_in_front : (firsts more : BTreeMap I ℕ) (nexts longer : List ℕ) (index : I) (place next : ℕ) → place ≡ suc (length nexts) → next ≡ unwrap_or (get cmp firsts index) 0 → longer ≡ nexts ++ next ∷ []
+      → ((i : I) → get cmp more i ≡ cond (is_eq (cmp index i)) (Some place) (get cmp firsts i)) → IsPutInFront eq firsts nexts more longer index
+  put_in_front firsts more nexts longer index place next at found is updates = record {
+    next = is ∙ ap (λ (n : ℕ). nexts ++ n ∷ []) (found ∙ first_found firsts index);
+    first = λ i. sym (first_found more i) ∙ ap (λ (o : Option ℕ). unwrap_or o 0) (updates i) ∙ go (is_eq (cmp index i)) (get cmp firsts i)
+        ∙ (λ t. cond (sym (agree index i) t) (suc (length nexts)) (first_found firsts i t));
+  }
+    where
+      go : (b : Bool) (o : Option ℕ) → unwrap_or (cond b (Some place) o) 0 ≡ cond b (suc (length nexts)) (unwrap_or o 0)
+      go true o = at
+      go false o = refl
+
+module _ {I : Type 0} (eq : I → I → Bool) (outer : List Cell → I) (rows : AnswerRows) where
   -- so many of the last rows are in groups
-  pub record Going (count : ℕ) (firsts : IndexMap I ℕ X) (nexts : List ℕ) : Type 0 where
+  pub record Going (count : ℕ) (firsts : BTreeMap I ℕ) (nexts : List ℕ) : Type 0 where
     pub counted : length nexts ≡ count
     pub grouped : AreGrouped eq outer rows (drop (length rows - count) rows) firsts nexts
     pub goes_on : GoesOn nexts
 
-  pub none_going : (firsts : IndexMap I ℕ X) (nexts : List ℕ) → nexts ≡ [] → ((i : I) → first_under eq firsts i ≡ 0) → Going 0 firsts nexts
+  pub none_going : (firsts : BTreeMap I ℕ) (nexts : List ℕ) → nexts ≡ [] → ((i : I) → first_under eq firsts i ≡ 0) → Going 0 firsts nexts
   none_going firsts nexts none empty = record {
     counted = ap length none;
     grouped = λ i.
@@ -59,16 +79,16 @@ module _ {I X : Type 0} (eq : I → I → Bool) (outer : List Cell → I) (rows 
     goes_on = λ k. subst (λ (l : List ℕ). get_or l k 0 ≤ k) (sym none) (omega arith);
   }
 
-  pub all_grouped : (count : ℕ) (firsts : IndexMap I ℕ X) (nexts : List ℕ) → length rows ≤ count → count ≤ length rows → Going count firsts nexts → AreGrouped eq outer rows rows firsts nexts
+  pub all_grouped : (count : ℕ) (firsts : BTreeMap I ℕ) (nexts : List ℕ) → length rows ≤ count → count ≤ length rows → Going count firsts nexts → AreGrouped eq outer rows rows firsts nexts
   all_grouped count firsts nexts low high g =
       let none : length rows - count ≡ 0 = omega (arith, low, high) in
       subst (λ n. AreGrouped eq outer rows (drop n rows) firsts nexts) none g.grouped
 
   module _ (laws : IsEquivalence eq) where
-    same_first : (m : IndexMap I ℕ X) (i j : I) → eq i j ≡ true → first_under eq m i ≡ first_under eq m j
-    same_first m i j e = λ t. unwrap_or (get_by (λ z. laws.congr i j z e t) m) 0
+    same_first : (m : BTreeMap I ℕ) (i j : I) → eq i j ≡ true → first_under eq m i ≡ first_under eq m j
+    same_first m i j e = λ t. unwrap_or (lookup (λ z. laws.congr i j z e t) m.entries) 0
 
-    grouped_more : (left : AnswerRows) (firsts more : IndexMap I ℕ X) (nexts longer : List ℕ) → AreGrouped eq outer rows left firsts nexts → IsPutInFront eq firsts nexts more longer (outer (row_before rows (length nexts))) → AreGrouped eq outer rows (row_before rows (length nexts) ∷ left) more longer
+    grouped_more : (left : AnswerRows) (firsts more : BTreeMap I ℕ) (nexts longer : List ℕ) → AreGrouped eq outer rows left firsts nexts → IsPutInFront eq firsts nexts more longer (outer (row_before rows (length nexts))) → AreGrouped eq outer rows (row_before rows (length nexts) ∷ left) more longer
     grouped_more left firsts more nexts longer g put i = go (eq index i) refl
       where
         index : I
@@ -94,7 +114,7 @@ module _ {I X : Type 0} (eq : I → I → Bool) (outer : List Cell → I) (rows 
             let chain : IsChain longer (first_under eq firsts i) old.0 = subst (λ (l : List ℕ). IsChain l (first_under eq firsts i) old.0) (sym put.next) (chain_kept nexts (next ∷ []) (first_under eq firsts i) old.0 old.1) in
             (old.0, subst (λ p. IsChain longer p old.0) (sym (put.first i ∙ ap (λ t. cond t (suc (length nexts)) (first_under eq firsts i)) e)) chain, old.2)
 
-    pub one_more : (count row : ℕ) (firsts more : IndexMap I ℕ X) (nexts longer : List ℕ) (index : I) → count < length rows → row ≡ length rows - 1 - count → index ≡ outer (get_or rows row []) → IsPutInFront eq firsts nexts more longer index → Going count firsts nexts → Going (count + 1) more longer
+    pub one_more : (count row : ℕ) (firsts more : BTreeMap I ℕ) (nexts longer : List ℕ) (index : I) → count < length rows → row ≡ length rows - 1 - count → index ≡ outer (get_or rows row []) → IsPutInFront eq firsts nexts more longer index → Going count firsts nexts → Going (count + 1) more longer
     one_more count row firsts more nexts longer index below place own put g =
         let next = first_under eq firsts index in
         let at : row ≡ length rows - suc (length nexts) = omega (arith, place, g.counted) in

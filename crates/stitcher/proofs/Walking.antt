@@ -2,6 +2,7 @@
 use denote.Param.Weighed.{most, at_most}
 use Rattle.std.proofs.Common.{◌≡◌, ℕ, suc, ◌+◌, ◌*◌, ◌-◌, ◌<◌, ◌≤◌, max, List, [], ◌∷◌, ◌++◌, refl, sym, ap, ◌∙◌, subst, Bool, map, filter, get_or, length, drop, drop-cons, append_assoc, append-nil, arith}
 use Rattle.std.proofs.lemmas.List.{map-append}
+use Rattle.std.specs.BTreeMap.{BTreeMap}
 use Rattle.nq_model.specs.Types.{TypeTree, FieldTypes, int, bool, text, rec, bag, fun, none, field, type_tree, field_types_of}
 use Rattle.nq_model.specs.Types as types
 use Rattle.nq_model.specs.Values.{Nested, Fields, fields_of, nested}
@@ -11,7 +12,6 @@ use Rattle.nq_model.specs.declared.ty.Ty.{Ty}
 use Rattle.nq_model.specs.declared.value.Value.{Value}
 use Rattle.nq_ir.specs.Building.{element, built}
 use Rattle.nq_ir.specs.Parts.{leaves, leaves_in, slots, slots_in, bags, bags_in, element_types}
-use Rattle.indexmap.specs.IndexMap.{IndexMap}
 use Rattle.stitcher.proofs.Laid.{types_stand, types_length}
 use Rattle.stitcher.specs.Groups.{first_under, IsChain, row_before, AreGrouped}
 use Rattle.stitcher.specs.Schemes.{Scheme, AnswerRows, answers}
@@ -154,7 +154,7 @@ module _ {I : Type 0} (S : Scheme I) (ans : List AnswerRows) where
   map_twice f g [] = refl
   map_twice f g (x ∷ xs) = ap (λ z. f (g x) ∷ z) (map_twice f g xs)
 
-  pub none_gathered : {X : Type 0} (eq : I → I → Bool) (firsts : IndexMap I ℕ X) (nexts : List ℕ) (a : TypeTree) (q : ℕ) (i : I) (made : List Nested) (place : ℕ) → ((j k : I) → S.is j k ≡ eq j k) → AreGrouped eq (S.outer q) (get_or ans q []) (get_or ans q []) firsts nexts → made ≡ [] → place ≡ first_under eq firsts i → Gathered nexts a q i made place
+  pub none_gathered : (eq : I → I → Bool) (firsts : BTreeMap I ℕ) (nexts : List ℕ) (a : TypeTree) (q : ℕ) (i : I) (made : List Nested) (place : ℕ) → ((j k : I) → S.is j k ≡ eq j k) → AreGrouped eq (S.outer q) (get_or ans q []) (get_or ans q []) firsts nexts → made ≡ [] → place ≡ first_under eq firsts i → Gathered nexts a q i made place
   none_gathered eq firsts nexts a q i made place same grouped empty first =
       let rows = get_or ans q [] in
       let g = grouped i in

@@ -5,31 +5,31 @@ ghost use Rattle.stitcher.specs.Schemes.{IsPath};
 ghost use Rattle.stitcher.specs.Groups.{first_under, AreGrouped, GoesOn, IsPutInFront};
 
 use crate::scheme::IndexScheme;
-use indexmap::IndexMap;
 use nq_model::{List, Memory};
 use rows::Rows;
 use std::alloc::Global;
-use std::hash::Hash;
+use std::collections::BTreeMap;
 
 /// The rows of an answer by their outer index, in row order. The place of a row is counted from the
 /// end, from 1, and 0 is none: so rows are put in front, and each goes on to one that was there
 /// before.
 #[derive(Drop)]
-pub(crate) struct Groups<I: Eq + Hash> {
-    // The place of the first row under each index.
-    firsts: IndexMap<I, u32>,
+pub(crate) struct Groups<I: Ord> {
+    // The place of the first row under each index, in an ordered map: no choice of indexes makes
+    // its look-ups slow.
+    firsts: BTreeMap<I, u32>,
     // From the last row to the first, the place of the next row under the same index.
     nexts: List<u32>,
 }
 
-impl<I: Eq + Hash + Drop> Groups<I> {
+impl<I: Ord + Drop> Groups<I> {
     // No rows, with room for so many.
     fn with_capacity(alloc: Global, rows: usize) -> Result<Groups<I>, Memory>
         ensures none { IfOk result (λ groups. groups.nexts ≡ []) }
         ensures empty { IfOk result (λ groups. (i : I) → first_under I.eq groups.firsts i ≡ 0) }
     {
         Ok(Groups {
-            firsts: IndexMap::new(alloc),
+            firsts: BTreeMap::new(alloc),
             nexts: List::with_capacity(alloc, rows)?,
         })
     }
@@ -51,10 +51,7 @@ impl<I: Eq + Hash + Drop> Groups<I> {
     pub(crate) fn first(&self, index: &I) -> u32
         ensures { result ≡ first_under I.eq self.now.firsts index.now }
     {
-        match self.firsts.get(index) {
-            Some(place) => *place,
-            None => 0,
-        }
+        self.firsts.get(index).copied().unwrap_or(0)
     }
 
     /// The number in its answer, from 0, of the row at a place.

@@ -6,7 +6,6 @@ ghost use Rattle.stitcher.specs.Schemes.{Scheme, IsPath, IsLeaf, IsSlot, BasesAr
 use nq_model::{ColumnType, List, Memory};
 use rows::Rows;
 use std::alloc::Global;
-use std::hash::Hash;
 
 /// How the rows of flat answers name the bags that they stand in and hold. A scheme belongs to one
 /// plain type. The numbers that its calls take count parts of that type from 0: paths in their
@@ -16,7 +15,7 @@ use std::hash::Hash;
 /// After Cheney, Lindley and Wadler, "Query Shredding", SIGMOD 2014.
 pub trait IndexScheme {
     /// What names a bag.
-    type Index: Eq + Hash + Drop;
+    type Index: Ord + Drop;
 
     /// The scheme that the calls follow.
     ghost scheme: { Self → Scheme Self.Index };
