@@ -1,3 +1,4 @@
+pub mod CellLists
 pub mod KeyColumns
 pub mod HomesMore
 pub mod LayoutFacts

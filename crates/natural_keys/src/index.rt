@@ -1,17 +1,19 @@
 // Indexes by keys.
-ghost use Rattle.std.specs.Prelude.{◌≡◌};
-ghost use Rattle.std.specs.Cmp.Lexicographic.{pointwise};
+ghost use Rattle.std.specs.Prelude.{◌≡◌, Some};
+ghost use Rattle.std.proofs.Common.{refl};
+ghost use Rattle.std.specs.Cmp.Lexicographic.{pointwise, slice_cmp};
 ghost use Rattle.std.specs.Cmp.{partial_equiv_from_equiv};
-ghost use Rattle.nq_model.specs.Cells.{cell_eq};
-ghost use Rattle.natural_keys.specs.Indexes.{index_eq, index_fed};
-ghost use Rattle.natural_keys.specs.IndexLaws.{index_equivalence, index_alike};
+ghost use Rattle.nq_model.specs.Cells.{cell_cmp, cell_eq};
+ghost use Rattle.natural_keys.specs.Indexes.{index_cmp, index_eq};
+ghost use Rattle.natural_keys.specs.IndexLaws.{index_equivalence, index_partial_order, index_total, indexes_equal};
 
 use nq_model::{Cell, List};
-use std::hash::{Hash, Hasher};
+use std::cmp::Ordering;
 
 /// What names a bag: the tag of the comprehension in whose elements it stands, and the key cells of
 /// the rows at which that comprehension stands. Two are equal where their tags and all their cells
-/// are. The cells are compared and hashed where they stand.
+/// are. In their order they stand by their tags, and then by their cells, which are compared where
+/// they stand.
 ///
 /// After the natural indexes of Cheney, Lindley and Wadler, "Query Shredding", SIGMOD 2014.
 #[derive(Drop)]
@@ -34,15 +36,29 @@ impl Eq for KeyIndex {
     ghost laws = { index_equivalence };
 }
 
-impl Hash for KeyIndex {
-    ghost hash_input = { index_fed };
+impl PartialOrd for KeyIndex {
+    ghost partial_cmp = { λ left right. Some (index_cmp left right) };
 
-    ghost respects_eq = { index_alike };
+    ghost laws = { index_partial_order };
 
-    fn hash<H: Hasher>(&self, state: &mut H) {
-        self.tag.hash(state);
-        for cell in self.cells.as_slice() {
-            cell.as_ref().hash(state);
+    fn partial_cmp(&self, other: &Self) -> Option<Ordering> {
+        Some(self.cmp(other))
+    }
+}
+
+impl Ord for KeyIndex {
+    ghost cmp = { index_cmp };
+
+    ghost total = { index_total };
+
+    ghost matches_partial_cmp = { λ left right. refl };
+
+    ghost matches_eq = { indexes_equal };
+
+    fn cmp(&self, other: &Self) -> Ordering {
+        match self.tag.cmp(&other.tag) {
+            Ordering::Equal => compare_cells(self.cells.as_slice(), other.cells.as_slice()),
+            unequal => unequal,
         }
     }
 }
@@ -60,4 +76,17 @@ fn same_cells(left: &[Cell], right: &[Cell]) -> bool
         }
     }
     true
+}
+
+// Which of two lists of cells stands first: the first cells that differ tell, or else the lengths.
+fn compare_cells(left: &[Cell], right: &[Cell]) -> Ordering
+    ensures { result ≡ slice_cmp cell_cmp left.now right.now }
+{
+    for at in 0..left.len().min(right.len()) {
+        let first = left[at].as_ref().cmp(&right[at].as_ref());
+        if first != Ordering::Equal {
+            return first;
+        }
+    }
+    left.len().cmp(&right.len())
 }
