@@ -7,6 +7,7 @@ use sql_answer::answer_text;
 use sql_eval::{Arrangement, Joining};
 use sql_profile::{Answer, Loaded, ServerFault, SqlServer};
 use std::alloc::Global;
+use std::hash::DefaultHasher;
 
 /// A server that joins tables by hash tables on the equalities of WHERE, inside NOT EXISTS too. It
 /// is honest, never fails, and does not tell its asks. Rows come, and ties are numbered, in the
@@ -14,11 +15,27 @@ use std::alloc::Global;
 #[derive(Drop)]
 pub struct FastServer {
     tables: List<Loaded>,
+    hasher: DefaultHasher,
 }
 
 impl FastServer {
-    /// A server that holds no table.
+    /// A server that holds no table, for tests and for tables that nobody hostile wrote. It finds
+    /// rows by codes whose keys are known, so whoever chooses the cells may make it as slow as
+    /// nested loops.
     pub fn new(alloc: Global) -> FastServer
+        ensures holds_none { ⟦<FastServer as SqlServer>⟧.loaded result ≡ [] }
+        ensures is_honest { ⟦<FastServer as SqlServer>⟧.honest result ≡ true }
+        ensures no_failures { ⟦<FastServer as SqlServer>⟧.failures result ≡ 0 }
+        ensures never_fails { ⟦<FastServer as SqlServer>⟧.bound result ≡ 0 }
+        ensures tells_none { ⟦<FastServer as SqlServer>⟧.asks result ≡ None }
+    {
+        FastServer::with_hasher(alloc, DefaultHasher::new())
+    }
+
+    /// A server that holds no table, for tables from anyone. Its codes begin with the hasher: of
+    /// one that `RandomState` builds nobody knows the keys, so nobody can choose cells that make it
+    /// slow.
+    pub fn with_hasher(alloc: Global, hasher: DefaultHasher) -> FastServer
         ensures holds_none { ⟦<FastServer as SqlServer>⟧.loaded result ≡ [] }
         ensures is_honest { ⟦<FastServer as SqlServer>⟧.honest result ≡ true }
         ensures no_failures { ⟦<FastServer as SqlServer>⟧.failures result ≡ 0 }
@@ -27,6 +44,7 @@ impl FastServer {
     {
         FastServer {
             tables: List::new(alloc),
+            hasher,
         }
     }
 }
@@ -54,7 +72,7 @@ impl SqlServer for FastServer {
             alloc,
             self.tables.as_slice(),
             text,
-            Joining::HashTables,
+            Joining::HashTables(self.hasher),
             Arrangement::AsTheyArise,
         )?;
         Ok(Answer { rows })

@@ -9,6 +9,7 @@ use nq_model::{Cell, ColumnType, List, Memory};
 use reference_sql::{Ties, evaluate_text};
 use sql_eval::{Arrangement, Joining, evaluate};
 use std::alloc::Global;
+use std::hash::DefaultHasher;
 use std::process::Abort;
 
 // A let form, the columns of its answer, and the rows that it allows, in byte order: a text for each way to number ties
@@ -154,8 +155,11 @@ fn flattened_forms_give_what_they_allow(rt: HostRuntime) -> Result<(), Memory> {
             assert!(&rt; good);
         }
         for arrangement in &[Arrangement::AsTheyArise, Arrangement::Reversed] {
-            for joining in &[Joining::NestedLoops, Joining::HashTables] {
-                let rows = evaluate(alloc, held.as_slice(), &text, *joining, *arrangement)?;
+            for joining in [
+                Joining::NestedLoops,
+                Joining::HashTables(DefaultHasher::new()),
+            ] {
+                let rows = evaluate(alloc, held.as_slice(), &text, joining, *arrangement)?;
                 let good = allows(alloc, case, listed(alloc, &rows)?.as_slice())?;
                 assert!(&rt; good);
             }
@@ -174,7 +178,7 @@ fn rows_of_number(alloc: Global, number: Base) -> Result<(String, String), Memor
         alloc,
         &[],
         &text,
-        Joining::HashTables,
+        Joining::HashTables(DefaultHasher::new()),
         Arrangement::AsTheyArise,
     )?;
     let fast = listed(alloc, &fast)?;

@@ -7,6 +7,7 @@ use reference_sql::{Ties, evaluate_text};
 use sql_eval::{Arrangement, Joining, evaluate};
 use sql_profile::{Loaded, SqlText};
 use std::alloc::Global;
+use std::hash::DefaultHasher;
 use std::process::Abort;
 
 // A text, and the rows that it gives where ties are numbered as they arise, where they are the other way round, and
@@ -420,7 +421,10 @@ fn check_evaluator(
     arrangement: Arrangement,
     want: &str,
 ) -> Result<(), Memory> {
-    for joining in [Joining::NestedLoops, Joining::HashTables] {
+    for joining in [
+        Joining::NestedLoops,
+        Joining::HashTables(DefaultHasher::new()),
+    ] {
         let rows = evaluate(alloc, held, text, joining, arrangement)?;
         let list = listed(alloc, &rows)?;
         assert_eq!(rt; shown(alloc, list.as_slice())?.as_str(), want);
