@@ -7,6 +7,7 @@ use nq_top::nq_main;
 use sql_profile::SqlServer;
 use std::alloc::{AllocError, Global};
 use std::env;
+use std::hash::{BuildHasher, DefaultHasher, RandomState};
 use std::io::ErrorKind;
 use std::process::ExitCode;
 
@@ -28,11 +29,21 @@ fn words_of(rt: &HostRuntime) -> Result<Vec<String>, AllocError> {
     Ok(words)
 }
 
+// The hasher with which the server's codes begin. Its keys are random, so nobody can choose tables
+// that make the server slow. Where the system gives no random bytes it is the one of `new`: a run
+// is then right all the same, and only as slow as chosen keys make it.
+fn hasher(rt: &HostRuntime) -> DefaultHasher {
+    match RandomState::new(rt) {
+        Ok(state) => state.build_hasher(),
+        Err(_) => DefaultHasher::new(),
+    }
+}
+
 // The status of the whole program.
 fn run(rt: &HostRuntime) -> Result<u8, AllocError> {
     let alloc = rt.alloc();
     let words = words_of(rt)?;
-    let server: Box<dyn SqlServer> = Box::new(alloc, FastServer::new(alloc))?;
+    let server: Box<dyn SqlServer> = Box::new(alloc, FastServer::with_hasher(alloc, hasher(rt)))?;
     let mut inputs = FileInputs::new(rt);
     let mut out = StdSink::new(rt.stdout());
     let mut notes = StdSink::new(rt.stderr());

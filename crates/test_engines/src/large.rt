@@ -7,6 +7,7 @@ use nq_model::{CellRef, List, Memory, Schema};
 use rows::Rows;
 use sql_profile::SqlServer;
 use std::alloc::Global;
+use std::hash::{FoldHasher, Hash, Hasher};
 use std::test::Fail;
 
 const COUNT: usize = 200_000;
@@ -30,6 +31,10 @@ const JOINED_BY_OWN_SUM: &str =
 // The same by a third source, which alone joins the first two and stands behind them.
 const JOINED_BY_THE_LAST: &str = r#"SELECT "x"."a" AS "a" FROM "t" AS "x", "t" AS "y", "t" AS "z"
     WHERE (("z"."a" = "x"."a") AND ("y"."a" = "z"."a"))"#;
+
+// The rows that the other table has too.
+const SHARED: &str =
+    r#"SELECT "x"."a" AS "a" FROM "t" AS "x", "e" AS "y" WHERE (("x"."a" = "y"."a") AND ("x"."b" = "y"."b"))"#;
 
 // The rows that meet none of the other table.
 const ALONE: &str =
@@ -98,6 +103,25 @@ fn pairs(alloc: Global, count: usize, step: i64) -> Result<Vec<(i64, i64)>, Memo
     Ok(pairs)
 }
 
+// The number that cancels what std's `FoldHasher`, whose seed is known, holds after a first one.
+fn cancelling(first: i64) -> i64 {
+    let mut hasher = FoldHasher::default();
+    CellRef::Int(first).hash(&mut hasher);
+    // What an integer feeds before its number.
+    hasher.write_u8(1);
+    hasher.finish().cast_signed()
+}
+
+// As many pairs with other second numbers, so that all would have one code if codes began with that hasher: each row of
+// a join would be compared with all rows of the other table.
+fn pairs_of_one_code(alloc: Global, count: usize, step: i64) -> Result<Vec<(i64, i64)>, Memory> {
+    let mut chosen = pairs(alloc, count, step)?;
+    for pair in chosen.as_mut_slice() {
+        pair.1 = cancelling(pair.0);
+    }
+    Ok(chosen)
+}
+
 // Whether the rows are so many numbers, which rise from a first by a step.
 fn rise(rows: &Rows, count: usize, first: i64, step: i64) -> bool {
     let mut number = first;
@@ -139,6 +163,19 @@ fn all_equalities_as_keys(rt: HostRuntime) -> Result<(), Fail> {
     assert!(&rt; rise(&joined.rows, HALF, 0, 1));
     let joined = ask(alloc, &mut server, &schema, JOINED_BY_THE_LAST)?;
     assert!(&rt; rise(&joined.rows, HALF, 0, 1));
+    Ok(())
+}
+
+#[test]
+fn keys_that_someone_chose(rt: HostRuntime) -> Result<(), Fail> {
+    let alloc = rt.alloc();
+    let schema = schema(alloc)?;
+    let every = pairs_of_one_code(alloc, HALF, 1)?;
+    let even = pairs_of_one_code(alloc, HALF, 2)?;
+    let mut server: Box<dyn SqlServer> = Box::new(alloc, FastServer::new(alloc))?;
+    load_both(alloc, &mut server, every.as_slice(), even.as_slice())?;
+    let shared = ask(alloc, &mut server, &schema, SHARED)?;
+    assert!(&rt; rise(&shared.rows, HALF / 2, 0, 2));
     Ok(())
 }
 
