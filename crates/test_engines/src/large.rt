@@ -112,8 +112,8 @@ fn cancelling(first: i64) -> i64 {
     hasher.finish().cast_signed()
 }
 
-// As many pairs with other second numbers, so that all would have one code if codes began with that hasher: each row of
-// a join would be compared with all rows of the other table.
+// As many pairs with other second numbers, so that all would have one code if codes began with that
+// hasher: each row of a join would be compared with all rows of the other table.
 fn pairs_of_one_code(alloc: Global, count: usize, step: i64) -> Result<Vec<(i64, i64)>, Memory> {
     let mut chosen = pairs(alloc, count, step)?;
     for pair in chosen.as_mut_slice() {
