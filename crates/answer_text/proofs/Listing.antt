@@ -8,11 +8,13 @@ use Rattle.std.specs.List.{All, AllByRecursion as Each}
 use Rattle.std.proofs.lemmas.List.Elements.{All-from_recursion, recursion_from_All}
 use Rattle.std.proofs.lemmas.Bool.Decides.{nat_tests, eqb_tells}
 use Rattle.std.proofs.lemmas.List.{get_or-set_same, get_or-set_other, length-set}
+use Rattle.std.specs.BTreeMap.{BTreeMap, get, is_at}
+use Rattle.std.specs.Cmp.{both_tied}
 use Rattle.std.specs.Map.{lookup}
-use Rattle.indexmap.specs.IndexMap.{IndexMap, get}
-use Rattle.answer_text.specs.Indexes.{is_index}
+use Rattle.std.specs.Ordering.{int_cmp, int_eq, is_eq}
+use Rattle.answer_text.specs.Indexes.{index_cmp, is_index}
 use Rattle.answer_text.specs.Spans.{number_place, in_list, place, listed_or, span_under, AreEmpty}
-use Rattle.answer_text.specs.Spans.{HasOneMore, HasOneMoreHashed}
+use Rattle.answer_text.specs.Spans.{HasOneMore, HasOneMoreOther}
 use Rattle.answer_text.specs.declared.spans.Spans.{Spans}
 use Rattle.answer_text.proofs.Spanning.{same_index, index_itself}
 
@@ -57,12 +59,12 @@ pub listed_span : (spans : Spans) (i : ℤ × ℤ) (at : ℕ × ℕ) (span : ℕ
     → place spans.listed.items i ≡ Some at
     → span ≡ get_or (get_or spans.listed.items at.0 []) at.1 (0, 0) → span ≡ span_under spans i
 listed_span spans i at span e is = is
-    ∙ sym (ap (listed_or spans.listed.items (unwrap_or (get is_index spans.hashed i) (0, 0))) e)
+    ∙ sym (ap (listed_or spans.listed.items (unwrap_or (get index_cmp spans.others i) (0, 0))) e)
 
-pub hashed_span : (spans : Spans) (i : ℤ × ℤ) (span : ℕ × ℕ) → place spans.listed.items i ≡ None
-    → span ≡ unwrap_or (get is_index spans.hashed i) (0, 0) → span ≡ span_under spans i
-hashed_span spans i span e is = is
-    ∙ sym (ap (listed_or spans.listed.items (unwrap_or (get is_index spans.hashed i) (0, 0))) e)
+pub other_span : (spans : Spans) (i : ℤ × ℤ) (span : ℕ × ℕ) → place spans.listed.items i ≡ None
+    → span ≡ unwrap_or (get index_cmp spans.others i) (0, 0) → span ≡ span_under spans i
+other_span spans i span e is = is
+    ∙ sym (ap (listed_or spans.listed.items (unwrap_or (get index_cmp spans.others i) (0, 0))) e)
 
 -- 3. no spans
 
@@ -79,15 +81,15 @@ empty_at [] h (suc tag) at = empty_made 0 at
 empty_at (list ∷ lists) h zero at = h.0 at
 empty_at (list ∷ lists) h (suc tag) at = empty_at lists h.1 tag at
 
-pub none_under : (spans : Spans) → Each AreEmpty spans.listed.items → spans.hashed.entries ≡ []
+pub none_under : (spans : Spans) → Each AreEmpty spans.listed.items → spans.others.entries ≡ []
     → (i : ℤ × ℤ) → span_under spans i ≡ (0, 0)
-none_under spans listed hashed i = go (place spans.listed.items i)
+none_under spans listed others i = go (place spans.listed.items i)
   where
     go : (p : Option (ℕ × ℕ)) → listed_or spans.listed.items
-        (unwrap_or (get is_index spans.hashed i) (0, 0)) p ≡ (0, 0)
+        (unwrap_or (get index_cmp spans.others i) (0, 0)) p ≡ (0, 0)
     go (Some at) = empty_at spans.listed.items listed at.0 at.1
-    go None = ap (λ (es : List ((ℤ × ℤ) × (ℕ × ℕ))). unwrap_or (lookup (is_index i) es) (0, 0))
-        hashed
+    go None = ap (λ (es : List ((ℤ × ℤ) × (ℕ × ℕ))). unwrap_or (lookup (is_at (index_cmp i)) es) (0, 0))
+        others
 
 -- one list of empty spans more
 pub listed_more : (lists : List (List (ℕ × ℕ))) (made : List (ℕ × ℕ)) (n : ℕ)
@@ -100,6 +102,11 @@ listed_more lists made n empty is = All-from_recursion AreEmpty (lists ++ made �
     go (x ∷ xs) h = (h.0, go xs h.1)
 
 -- 4. one span more
+
+-- indexes are one as they tie
+pub index_ties : (i j : ℤ × ℤ) → is_eq (index_cmp i j) ≡ is_index i j
+index_ties i j = sym (both_tied (int_eq i.0 j.0) (int_eq i.1 j.1) (int_cmp i.0 j.0)
+    (int_cmp i.1 j.1) refl refl)
 
 module _ (lists : List (List (ℕ × ℕ))) (tag number : ℕ) (span : ℕ × ℕ) (tags : tag < length lists)
     (numbers : number < length (get_or lists tag [])) where
@@ -144,19 +151,19 @@ module _ (lists : List (List (ℕ × ℕ))) (tag number : ℕ) (span : ℕ × �
   ]
 
 module _ (spans more : Spans) (index : ℤ × ℤ) (span : ℕ × ℕ) where
-  abbrev hashed_at : Spans → ℤ × ℤ → ℕ × ℕ
-  hashed_at all i = unwrap_or (get is_index all.hashed i) (0, 0)
+  abbrev other_at : Spans → ℤ × ℤ → ℕ × ℕ
+  other_at all i = unwrap_or (get index_cmp all.others i) (0, 0)
 
   abbrev lists : List (List (ℕ × ℕ))
   lists = spans.listed.items
 
   pub put_listed : (at : ℕ × ℕ) → place lists index ≡ Some at → more.listed.items
-      ≡ set lists at.0 (set (get_or lists at.0 []) at.1 span) → more.hashed ≡ spans.hashed
+      ≡ set lists at.0 (set (get_or lists at.0 []) at.1 span) → more.others ≡ spans.others
       → HasOneMore spans more index span
-  put_listed at e listed hashed i =
-      ap₂ (λ (l : List (List (ℕ × ℕ))) (all : IndexMap (ℤ × ℤ) (ℕ × ℕ) _).
-      listed_or l (unwrap_or (get is_index all i) (0, 0)) (place l i)) listed hashed
-      ∙ ap (listed_or now (hashed_at spans i)) (same_place lists at.0 at.1 span own.1.0 own.1.1 i)
+  put_listed at e listed others i =
+      ap₂ (λ (l : List (List (ℕ × ℕ))) (all : BTreeMap (ℤ × ℤ) (ℕ × ℕ)).
+      listed_or l (unwrap_or (get index_cmp all i) (0, 0)) (place l i)) listed others
+      ∙ ap (listed_or now (other_at spans i)) (same_place lists at.0 at.1 span own.1.0 own.1.1 i)
       ∙ go (is_index index i) (place lists i) refl refl
     where
       own : (index ≡ (pos at.0, pos at.1))
@@ -167,11 +174,11 @@ module _ (spans more : Spans) (index : ℤ × ℤ) (span : ℕ × ℕ) where
       now = put_at lists at.0 at.1 span own.1.0 own.1.1
 
       go : (b : Bool) (p : Option (ℕ × ℕ)) → is_index index i ≡ b → place lists i ≡ p
-          → listed_or now (hashed_at spans i) p
-          ≡ cond b span (listed_or lists (hashed_at spans i) p)
+          → listed_or now (other_at spans i) p
+          ≡ cond b span (listed_or lists (other_at spans i) p)
       go true p h k =
           let one : p ≡ Some at = sym k ∙ sym (ap (place lists) (same_index index i h)) ∙ e in
-          ap (listed_or now (hashed_at spans i)) one
+          ap (listed_or now (other_at spans i)) one
           ∙ put_there lists at.0 at.1 span own.1.0 own.1.1
       go false (Some m) h k =
           let there = place_there lists i m k in
@@ -180,21 +187,21 @@ module _ (spans more : Spans) (index : ℤ × ℤ) (span : ℕ × ℕ) where
           ∙ ap₂ (λ (t n : ℕ). (pos t, pos n)) (sym same) (sym also) ∙ sym there.0) ∙ h))
       go false None h k = refl
 
-  pub put_hashed : place lists index ≡ None → more.listed.items ≡ lists
-      → HasOneMoreHashed spans.hashed more.hashed index span → HasOneMore spans more index span
-  put_hashed e listed inserted i =
+  pub put_other : place lists index ≡ None → more.listed.items ≡ lists
+      → HasOneMoreOther spans.others more.others index span → HasOneMore spans more index span
+  put_other e listed inserted i =
       ap₂ (λ (l : List (List (ℕ × ℕ))) (found : Option (ℕ × ℕ)).
       listed_or l (unwrap_or found (0, 0)) (place l i)) listed (inserted i)
       ∙ go (is_index index i) (place lists i) refl refl
     where
       go : (b : Bool) (p : Option (ℕ × ℕ)) → is_index index i ≡ b → place lists i ≡ p
-          → listed_or lists (unwrap_or (cond b (Some span) (get is_index spans.hashed i)) (0, 0)) p
-          ≡ cond b span (listed_or lists (hashed_at spans i) p)
+          → listed_or lists (unwrap_or (cond b (Some span) (get index_cmp spans.others i)) (0, 0)) p
+          ≡ cond b span (listed_or lists (other_at spans i) p)
       go true p h k =
           let one : p ≡ None = sym k ∙ sym (ap (place lists) (same_index index i h)) ∙ e in
           ap (listed_or lists span) one
       go false p h k = refl
 
-pub ruleset spans_under = (listed_span, hashed_span)
+pub ruleset spans_under = (listed_span, other_span)
 
-pub ruleset spans_put = (put_listed, put_hashed)
+pub ruleset spans_put = (put_listed, put_other)

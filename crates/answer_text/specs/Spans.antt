@@ -2,11 +2,11 @@
 use Rattle.std.specs.Prelude.{◌≡◌, ℕ, ℤ, pos, negsuc, List, []}
 use Rattle.std.specs.Prelude.{length, get_or, slice_range, cond, nat_lt, Option, Some, None}
 use Rattle.std.specs.Option.{option_map, unwrap_or}
-use Rattle.indexmap.specs.IndexMap.{IndexMap, get}
+use Rattle.std.specs.BTreeMap.{BTreeMap, get}
 use Rattle.nq_model.specs.declared.table.Cell.{Cell}
 use Rattle.rows.specs.Places.{row_at}
 use Rattle.stitcher.specs.FlatNumbers.{index_at}
-use Rattle.answer_text.specs.Indexes.{is_index}
+use Rattle.answer_text.specs.Indexes.{index_cmp, is_index}
 use Rattle.answer_text.specs.declared.spans.Spans.{Spans}
 
 -- the index of the bag in which the row at a place stands
@@ -40,18 +40,18 @@ AreEmpty spans = (at : ℕ) → get_or spans at (0, 0) ≡ (0, 0)
 -- the span under an index; an empty one where there is none
 abbrev pub span_under : Spans → ℤ × ℤ → ℕ × ℕ
 span_under spans i =
-    let hashed = unwrap_or (get is_index spans.hashed i) (0, 0) in
-    listed_or spans.listed.items hashed (place spans.listed.items i)
+    let other = unwrap_or (get index_cmp spans.others i) (0, 0) in
+    listed_or spans.listed.items other (place spans.listed.items i)
 
 -- the places in the span under an index
 abbrev pub spanned : Spans → List ℕ → ℤ × ℤ → List ℕ
 spanned spans places i = let span = span_under spans i in slice_range places span.0 span.1
 
--- a span put under an index into a hash table
-abbrev pub HasOneMoreHashed : {S : Type 0} → IndexMap (ℤ × ℤ) (ℕ × ℕ) S
-    → IndexMap (ℤ × ℤ) (ℕ × ℕ) S → ℤ × ℤ → ℕ × ℕ → Type 0
-HasOneMoreHashed hashed more index span =
-    (i : ℤ × ℤ) → get is_index more i ≡ cond (is_index index i) (Some span) (get is_index hashed i)
+-- a span put under an index among the others
+abbrev pub HasOneMoreOther : BTreeMap (ℤ × ℤ) (ℕ × ℕ) → BTreeMap (ℤ × ℤ) (ℕ × ℕ) → ℤ × ℤ → ℕ × ℕ
+    → Type 0
+HasOneMoreOther others more index span = (i : ℤ × ℤ)
+    → get index_cmp more i ≡ cond (is_index index i) (Some span) (get index_cmp others i)
 
 -- a span put under an index
 abbrev pub HasOneMore : Spans → Spans → ℤ × ℤ → ℕ × ℕ → Type 0

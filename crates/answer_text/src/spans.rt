@@ -2,31 +2,32 @@
 ghost use Rattle.std.specs.Prelude.{◌≡◌, ◌<◌, ◌≤◌, ℤ, IfOk, OnOk, IsTrue, IsFalse};
 ghost use Rattle.std.specs.List.{All};
 ghost use Rattle.answer_text.specs.Spans.{place, span_under, AreEmpty};
-ghost use Rattle.answer_text.specs.Spans.{HasOneMore, HasOneMoreHashed};
+ghost use Rattle.answer_text.specs.Spans.{HasOneMore, HasOneMoreOther};
 
 use crate::numbered::{Numbered, listed_counts, number_place};
-use indexmap::IndexMap;
 use nq_model::Memory;
 use rows::Rows;
 use std::alloc::Global;
+use std::collections::BTreeMap;
 
 /// Spans under indexes: of each, where it begins and where it ends. They are listed by tag and then
-/// by number, as far as the lists go; all others stand in a hash table.
+/// by number, as far as the lists go; all others stand in an ordered map, so that no choice of
+/// indexes makes the look-ups slow.
 #[derive(Drop)]
 pub(crate) struct Spans {
     listed: Vec<Numbered>,
-    hashed: IndexMap<(i64, i64), (u32, u32)>,
+    others: BTreeMap<(i64, i64), (u32, u32)>,
 }
 
-// Puts a span under an index into the hash table.
-fn hash_span(
-    hashed: &mut IndexMap<(i64, i64), (u32, u32)>,
+// Puts a span under an index that is not listed.
+fn put_other(
+    others: &mut BTreeMap<(i64, i64), (u32, u32)>,
     index: (i64, i64),
     span: (u32, u32),
 ) -> Result<(), Memory>
-    ensures { OnOk result (HasOneMoreHashed hashed.old hashed.new index span) }
+    ensures { OnOk result (HasOneMoreOther others.old others.new index span) }
 {
-    hashed.insert(index, span)?;
+    others.insert(index, span)?;
     Ok(())
 }
 
@@ -51,7 +52,7 @@ impl Spans {
         let listed = empty_lists(alloc, counts.as_slice())?;
         Ok(Spans {
             listed,
-            hashed: IndexMap::new(alloc),
+            others: BTreeMap::new(alloc),
         })
     }
 
@@ -71,7 +72,7 @@ impl Spans {
     {
         match self.place(index) {
             Some((tag, number)) => self.listed[tag].get(number),
-            None => match self.hashed.get(&index) {
+            None => match self.others.get(&index) {
                 Some(span) => *span,
                 None => (0, 0),
             },
@@ -96,7 +97,7 @@ impl Spans {
     {
         match self.place(index) {
             Some((tag, number)) => self.listed[tag].put(number, span),
-            None => hash_span(&mut self.hashed, index, span)?,
+            None => put_other(&mut self.others, index, span)?,
         }
         Ok(())
     }

@@ -7,6 +7,6 @@ use Rattle.answer_text.proofs.spans.Spans.for_rows.Goals as goal
 pub returns : goal.returns
 returns c =
     let listed = c.in_ok-listed.listed in
-    let spans : Spans = record { listed = listed; hashed = c.new.result } in
+    let spans : Spans = record { listed = listed; others = c.new.result } in
     none_under spans (recursion_from_All AreEmpty listed.items c.in_ok-listed.ensures)
     c.new.ensures.empty
