@@ -2,26 +2,26 @@
 ghost use Rattle.std.specs.Prelude.{◌≡◌, ℕ, IfOk, OnOk, None, Some, cond, is_some};
 ghost use Rattle.foreign_answers.specs.Given.{first_given, same_key};
 
-use indexmap::IndexMap;
 use nq_model::Memory;
 use std::alloc::Global;
-use std::hash::Hash;
+use std::collections::BTreeMap;
 
 /// The indexes that the rows of an answer give for inner bags, each with the number of the first
 /// row that gives it.
 #[derive(Drop)]
-pub(crate) struct Given<I: Eq + Hash> {
-    // By the number of the inner bag and the index.
-    firsts: IndexMap<(u64, I), u64>,
+pub(crate) struct Given<I: Ord> {
+    // By the number of the inner bag and the index, in an ordered map: no choice of indexes makes
+    // its look-ups slow.
+    firsts: BTreeMap<(u64, I), u64>,
 }
 
-impl<I: Eq + Hash + Drop> Given<I> {
+impl<I: Ord + Drop> Given<I> {
     /// Those of no row.
     pub(crate) fn new(alloc: Global) -> Given<I>
         ensures { (s : ℕ) (i : I) → first_given I.eq result.firsts s i ≡ None }
     {
         Given {
-            firsts: IndexMap::new(alloc),
+            firsts: BTreeMap::new(alloc),
         }
     }
 
@@ -43,6 +43,6 @@ impl<I: Eq + Hash + Drop> Given<I> {
         ensures { result ≡ is_some (first_given I.eq self.now.firsts slot index) }
     {
         let key = (slot, index);
-        self.firsts.get(&key).is_some()
+        self.firsts.contains_key(&key)
     }
 }
