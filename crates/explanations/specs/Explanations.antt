@@ -7,6 +7,8 @@ use Rattle.std.specs.Fmt.{decimal}
 use Rattle.nq_model.specs.OpenLists.{Fault}
 use Rattle.nq_model.specs.QueryTexts.{EndsOpen, HasTokens}
 use Rattle.nq_model.specs.QueryTokens.{Token}
+use Rattle.nq_model.specs.TypeTexts.{written_type}
+use Rattle.nq_model.specs.Types.{TypeTree}
 use Rattle.nq_model.specs.declared.memory.Memory.{Memory}
 use Rattle.nq_model.specs.declared.table.Schema.{Schema}
 use Rattle.schema_reader.specs.declared.fault.SchemaFault.{SchemaFault}
@@ -59,6 +61,14 @@ unfoldable pub nearest_line : Option (List ℕ) → List ℕ
 nearest_line None = []
 nearest_line (Some name) = codes "nearest: " ++ (name ++ codes "\n")
 
+-- the types that were found
+abbrev pub type_texts : List TypeTree → List (List ℕ)
+type_texts types = map written_type types
+
+unfoldable pub types_line : List TypeTree → List ℕ
+types_line found =
+    codes "found: " ++ (listed (codes " and ") (type_texts found) ++ codes "\n")
+
 -- the number of a typing rule, and a query that keeps it
 unfoldable pub rule_line : TypingRule → List ℕ
 rule_line broken =
@@ -89,10 +99,10 @@ missing_text file text place tables name =
     excerpt_text file text place (typing_asks rule.Table)
     ++ (tables_line tables ++ nearest_line (nearest tables name))
 
--- of another typing rule
-unfoldable pub broken_text : List ℕ → List ℕ → ℕ → TypingRule → List ℕ
-broken_text file text place broken =
-    excerpt_text file text place (typing_asks broken) ++ rule_line broken
+-- of another typing rule, where these types were found
+unfoldable pub broken_text : List ℕ → List ℕ → ℕ → List TypeTree → TypingRule → List ℕ
+broken_text file text place found broken =
+    excerpt_text file text place (typing_asks broken) ++ (types_line found ++ rule_line broken)
 
 -- 3. what is explained
 
@@ -149,22 +159,26 @@ ExplainsMissing file text place tables made =
     (tokens : List Token) → HasTokens text tokens
     → made ≡ missing_text file text place tables (behind place tokens)
 
--- the explanation of a typing rule that a text breaks, and of that of this number
-abbrev pub ExplainsBroken : List ℕ → List ℕ → ℕ → List (List ℕ) → TypingRule
+-- the explanation of a typing rule that a text breaks, where these types were found, and of that of
+-- this number
+abbrev pub ExplainsBroken : List ℕ → List ℕ → ℕ → List (List ℕ) → List TypeTree → TypingRule
     → List ℕ → Type 0
-ExplainsBroken file text place tables rule.Table made =
+ExplainsBroken file text place tables found rule.Table made =
     ExplainsMissing file text place tables made
-ExplainsBroken file text place tables broken made = made ≡ broken_text file text place broken
+ExplainsBroken file text place tables found broken made =
+    made ≡ broken_text file text place found broken
 
-abbrev pub ExplainsRule : List ℕ → List ℕ → ℕ → List (List ℕ) → ℕ → List ℕ → Type 0
-ExplainsRule file text place tables number made =
+abbrev pub ExplainsRule : List ℕ → List ℕ → ℕ → List (List ℕ) → List TypeTree → ℕ → List ℕ
+    → Type 0
+ExplainsRule file text place tables found number made =
     (broken : TypingRule) × (typing_number broken ≡ number)
-    × ExplainsBroken file text place tables broken made
+    × ExplainsBroken file text place tables found broken made
 
 -- the same, unless the number is that of no rule
-abbrev pub ExplainsType : List ℕ → List ℕ → ℕ → List (List ℕ) → ℕ → List ℕ → Type 0
-ExplainsType file text place tables number made =
-    ExplainsRule file text place tables number made ⊎ (1 ≤ number → 26 ≤ number)
+abbrev pub ExplainsType : List ℕ → List ℕ → ℕ → List (List ℕ) → List TypeTree → ℕ → List ℕ
+    → Type 0
+ExplainsType file text place tables found number made =
+    ExplainsRule file text place tables found number made ⊎ (1 ≤ number → 26 ≤ number)
 
 -- the explanation of a fault of a schema; want of memory has none
 abbrev pub ExplainsSchema : List ℕ → List ℕ → SchemaFault → List ℕ → Type 0

@@ -4,17 +4,19 @@ ghost use Rattle.diagnostics.specs.Excerpts.{excerpt_text};
 ghost use Rattle.diagnostics.specs.Sentences.{query_sentence, schema_sentence};
 ghost use Rattle.explanations.specs.Explanations.{ExplainsBroken, ExplainsSchema, ExplainsSyntax};
 ghost use Rattle.explanations.specs.Explanations.{ExplainsType, broken_text, table_names};
+ghost use Rattle.nq_types.specs.Found.{types_found};
 ghost use Rattle.explanations.specs.Lists.{words_view};
 ghost use Rattle.explanations.specs.Sentences.{token_sentence};
 
 use crate::lines::{put_rule, table_names};
 use crate::sentences::token_sentence;
 use crate::stops::{explain_missing, explain_name, explain_stop};
+use crate::types::put_types;
 use diagnostics::{
     QueryFaultKind, SchemaFaultKind, TypingRule, excerpt, query_sentence, schema_sentence,
     typing_rule,
 };
-use nq_model::{List, Memory, Schema};
+use nq_model::{List, Memory, Schema, Ty};
 use query_syntax::SyntaxFault;
 use schema_reader::SchemaFault;
 use std::alloc::Global;
@@ -143,18 +145,21 @@ pub fn explain_syntax(
     }
 }
 
-// The explanation of a broken typing rule, but that of tables.
+// The explanation of a broken typing rule, but that of tables, where these types were found.
 #[tactic(auto, unfolding(crate::specs::Explanations::broken_text))]
 fn broken(
     alloc: Global,
     file: &[u8],
     text: &[u8],
     place: u64,
+    found: &[Ty],
     rule: TypingRule,
 ) -> Result<List<u8>, Memory>
-    ensures { IfOk result (λ made. made ≡ broken_text file.now text.now place rule) }
+    ensures { IfOk result (λ made. made
+        ≡ broken_text file.now text.now place (types_found found.now) rule) }
 {
     let mut made = excerpt(alloc, file, text, place, rule.asks())?;
+    put_types(alloc, &mut made, found)?;
     put_rule(alloc, &mut made, rule)?;
     Ok(made)
 }
@@ -167,17 +172,19 @@ fn explain_broken(
     place: u64,
     rule: TypingRule,
     tables: &[&str],
+    found: &[Ty],
 ) -> Result<List<u8>, Memory>
-    ensures { IfOk result (ExplainsBroken file.now text.now place (words_view tables.now) rule) }
+    ensures { IfOk result (ExplainsBroken file.now text.now place (words_view tables.now)
+        (types_found found.now) rule) }
 {
     match rule {
         TypingRule::Table => explain_missing(alloc, file, text, place, tables),
-        _ => broken(alloc, file, text, place, rule),
+        _ => broken(alloc, file, text, place, found, rule),
     }
 }
 
-/// The explanation of a typing rule that a query text breaks at a place, over the schema. Fails
-/// only if memory runs out.
+/// The explanation of a typing rule that a query text breaks at a place, over the schema, where
+/// these types were found. Fails only if memory runs out.
 pub fn explain_type(
     alloc: Global,
     file: &[u8],
@@ -185,13 +192,14 @@ pub fn explain_type(
     number: u64,
     place: u64,
     schema: &Schema,
+    found: &[Ty],
 ) -> Result<List<u8>, Memory>
     ensures { IfOk result (λ made. ExplainsType file.now text.now place (table_names schema.now)
-        number made) }
+        (types_found found.now) number made) }
 {
     let tables = table_names(alloc, schema)?;
     match typing_rule(number) {
-        Some(rule) => explain_broken(alloc, file, text, place, rule, tables.as_slice()),
+        Some(rule) => explain_broken(alloc, file, text, place, rule, tables.as_slice(), found),
         None => excerpt(alloc, file, text, place, "The query breaks a rule."),
     }
 }

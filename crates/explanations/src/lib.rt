@@ -11,6 +11,7 @@ mod lists;
 mod nearest;
 mod sentences;
 mod stops;
+mod types;
 mod words;
 
 pub use faults::{explain_schema, explain_syntax, explain_type};

@@ -29,8 +29,8 @@ pub(crate) fn all_among(words: &[&str], parts: &[&str]) -> bool
     true
 }
 
-// What stands before a word that so many follow.
-fn separator<'a>(last: &'a str, behind: usize) -> &'a str
+/// What stands before a word that so many follow.
+pub(crate) fn separator<'a>(last: &'a str, behind: usize) -> &'a str
     ensures { result.now ≡ separator last.now behind }
 {
     if behind == 0 { last } else { ", " }

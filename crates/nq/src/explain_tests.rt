@@ -61,6 +61,7 @@ nearest: employees
         out: "q:1:1: A for goes over a bag, and its body is a bag: put the element into [..].
 for (e <- table employees) e.name
 ^
+found: [(dept: text, name: text, salary: int)] and text
 rule: 20, kept by: for (e <- table employees) [e.name]
 ",
         ..EXPLAIN

@@ -48,6 +48,7 @@ write: table customers
 q:1:1: A for goes over a bag, and its body is a bag: put the element into [..].
 for (c <- table customers) c.name
 ^
+found: [(city: text, id: int, name: text, vip: bool)] and text
 rule: 20, kept by: for (e <- table employees) [e.name]
 ",
     ),
@@ -163,6 +164,7 @@ for (c <- table customers) [{name = c.name}]
 q:1:38: Before the dot stands a record that has the field. Take it of a row, not of a table.
 for (c <- table customers) [(name = c.nam)]
                                      ^
+found: (city: text, id: int, name: text, vip: bool)
 rule: 15, kept by: for (e <- table employees) [e.name]
 ",
     ),
@@ -238,6 +240,7 @@ expected: =
 q:1:36: Both sides of && and || are bools: x == 'a' || x == 'b', not x == 'a' || 'b'.
 for (c <- table customers) [c.name || ' of ' || c.city]
                                    ^
+found: text and text
 rule: 10, kept by: [1 == 2 || 1 == 3]
 ",
     ),
@@ -247,6 +250,7 @@ rule: 10, kept by: [1 == 2 || 1 == 3]
 q:1:36: Both sides of +, - and * are ints. Texts cannot be joined.
 for (c <- table customers) [c.name + ' of ' + c.city]
                                    ^
+found: text and text
 rule: 8, kept by: [1 + 2]
 ",
     ),
@@ -292,6 +296,7 @@ tables: customers, orders, lines and products
 q:1:55: Both sides of && and || are bools: x == 'a' || x == 'b', not x == 'a' || 'b'.
 for (p <- table products) where (p.category == 'toys' || 'books') [p.name]
                                                       ^
+found: bool and text
 rule: 10, kept by: [1 == 2 || 1 == 3]
 ",
     ),
@@ -311,6 +316,7 @@ expected: ++, ||, &&, +, -, *, (, ) or a dot
 q:1:37: You compare two ints, two bools or two texts. Of rows, compare the columns.
 for (c <- table customers) where (c == c) [c.name]
                                     ^
+found: (city: text, id: int, name: text, vip: bool) and (city: text, id: int, name: text, vip: bool)
 rule: 9, kept by: ['a' == 'b']
 ",
     ),
@@ -321,6 +327,7 @@ rule: 9, kept by: ['a' == 'b']
 q:1:41: A for goes over a bag, and its body is a bag: put the element into [..].
 for (c <- table customers) where (empty(for (o <- table orders) o.customer == c.id)) [c.name]
                                         ^
+found: [(customer: int, id: int)] and bool
 rule: 20, kept by: for (e <- table employees) [e.name]
 ",
     ),
@@ -381,6 +388,7 @@ for (c <- table customers) [c]  // all
 q:1:16: Before the dot stands a record that has the field. Take it of a row, not of a table.
 table customers.name
                ^
+found: [(city: text, id: int, name: text, vip: bool)]
 rule: 15, kept by: for (e <- table employees) [e.name]
 ",
     ),
@@ -390,6 +398,7 @@ rule: 15, kept by: for (e <- table employees) [e.name]
 q:1:18: Before the dot stands a record that has the field. Take it of a row, not of a table.
 (table customers).name
                  ^
+found: [(city: text, id: int, name: text, vip: bool)]
 rule: 15, kept by: for (e <- table employees) [e.name]
 ",
     ),
@@ -415,6 +424,7 @@ expected: a name of your own
 q:1:1: The whole query is a bag: put a value into [..], or give a function its argument.
 1
 ^
+found: int
 rule: 23, kept by: [1 + 1]
 ",
     ),
@@ -433,6 +443,7 @@ write: table customers
 q:1:17: Both sides of ++ are bags of one type: elements in [..], rows with the same fields.
 table customers ++ table products
                 ^
+found: [(city: text, id: int, name: text, vip: bool)] and [(category: text, name: text, price: int)]
 rule: 19, kept by: [1] ++ [2]
 ",
     ),

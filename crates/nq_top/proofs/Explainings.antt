@@ -10,6 +10,7 @@ use Rattle.nq_model.specs.declared.table.Schema.{Schema}
 use Rattle.nq_model.specs.declared.term.Term.{Term}
 use Rattle.nq_model.specs.declared.ty.Ty.{Ty}
 use Rattle.nq_parser.specs.Parsing.{Parsed}
+use Rattle.nq_types.specs.Found.{program_found}
 use Rattle.query_syntax.specs.declared.fault.SyntaxFault.{SyntaxFault}
 use Rattle.query_syntax.specs.declared.fault.SyntaxFault.TheVariants as syntax
 use Rattle.schema_reader.specs.declared.fault.SchemaFault.{SchemaFault}
@@ -24,11 +25,11 @@ use Rattle.nq_top.specs.Explaining.{ExplainsRefused}
 use Rattle.nq_top.specs.Gathering.{Told}
 use Rattle.nq_top.specs.Judging.{Judgement, Verdict, after, at_once, explained, fetched_then}
 use Rattle.nq_top.specs.Judging.{explain_judged, query_explained, schema_explained}
-use Rattle.nq_top.specs.Judging.{typed_or_explained}
+use Rattle.nq_top.specs.Judging.{type_or_cause, typed_or_explained}
 use Rattle.nq_top.specs.Limits.{depth_limit, text_limit}
 use Rattle.nq_top.specs.Lines.{type_line}
-use Rattle.nq_top.specs.Reading.{QueryReading, Reading, SchemaReading, query_read, schema_read}
-use Rattle.nq_top.specs.Reading.{term_read, type_read, typed_as, typed_over}
+use Rattle.nq_top.specs.Reading.{QueryReading, Reading, SchemaReading, schema_read, term_read}
+use Rattle.nq_top.specs.Reading.{typed_as}
 use Rattle.nq_top.specs.Steps.{FetchedWithin, GatherTells, Refuses, Says, query_refusal}
 use Rattle.nq_top.specs.Steps.{schema_refusal}
 use Rattle.nq_top.specs.declared.gather.Gathered.{Gathered}
@@ -43,7 +44,7 @@ use Rattle.nq_top.proofs.Steps.{fetch_next, gather_through, leads_after}
 abbrev Why : {A : Type 0} → Result A Refused → List ℕ → List ℕ → List (List ℕ)
     → List ℕ → Type 0
 Why given name text tables made =
-    (r : Refused) × (given ≡ Err r) × ExplainsRefused name text tables r made
+    (r : Refused) × (given ≡ Err r) × ExplainsRefused name text tables [] r made
 
 why_schema : {A : Type 0} (given : Result A Refused) (name text : List ℕ) (fault : SchemaFault)
     (made : List ℕ) → Refuses given (schema_refusal fault)
@@ -90,62 +91,61 @@ why_query given name text tables (syntax.TwiceLabel p) made refuses says =
 pub type_written : {E : Type 0} (schema : Schema) (name text : List ℕ) (t : Term) (ty : Ty)
     (result : Result (List ℕ) E) → IsAccepted schema (bare (placed t)) (type_tree ty)
     → IfOk result (λ made. made ≡ type_line (type_tree ty))
-    → IfOk result (Says (typed_or_explained schema name text
-    (typed_as (placed t) (type_read schema (placed t)))))
+    → IfOk result (Says (typed_or_explained schema name text (Ok (placed t))))
 type_written schema name text t ty (Err e) accepted is = tt
 type_written schema name text t ty (Ok made) accepted is =
     let P : Result TypeTree Refused → Type 0 = λ r.
-    Says (typed_or_explained schema name text (typed_as (placed t) r)) made in
+    Says (type_or_cause schema name text (program_found schema (placed t))
+    (typed_as (placed t) r)) made in
     subst P (sym (type_said schema t ty accepted)) is
 
 -- or the rule that it breaks is explained
 pub type_explained : {E : Type 0} (schema : Schema) (name text : List ℕ) (t : Term)
-    (rule number place : ℕ) (result : Result (List ℕ) E)
+    (rule number place : ℕ) (found : List TypeTree) (result : Result (List ℕ) E)
     → program_judged schema (placed t) ≡ Err (broken rule place) → number ≡ rule
-    → IfOk result (λ made. ExplainsType name text place (table_names schema) number made)
-    → IfOk result (Says (typed_or_explained schema name text
-    (typed_as (placed t) (type_read schema (placed t)))))
-type_explained schema name text t rule number place (Err e) is same says = tt
-type_explained schema name text t rule number place (Ok made) is same says =
+    → found ≡ program_found schema (placed t)
+    → IfOk result (λ made. ExplainsType name text place (table_names schema) found number made)
+    → IfOk result (Says (typed_or_explained schema name text (Ok (placed t))))
+type_explained schema name text t rule number place found (Err e) is same finds says = tt
+type_explained schema name text t rule number place found (Ok made) is same finds says =
+    let types = program_found schema (placed t) in
     let P : Result TypeTree Refused → Type 0 = λ r.
-    Says (typed_or_explained schema name text (typed_as (placed t) r)) made in
-    let Q : ℕ → Type 0 = λ n. ExplainsType name text place (table_names schema) n made in
+    Says (type_or_cause schema name text types (typed_as (placed t) r)) made in
+    let F : List TypeTree → Type 0 = λ f.
+    ExplainsType name text place (table_names schema) f number made in
+    let Q : ℕ → Type 0 = λ n. ExplainsType name text place (table_names schema) types n made in
     subst P (sym (rule_said schema t rule place is))
-    (explains_rule schema (placed t) rule place name text (table_names schema) made is
-    (subst Q same says))
+    (explains_rule schema (placed t) rule place name text (table_names schema) types made is
+    (subst Q same (subst F finds says)))
 
 -- what is said of the term that a text spells is said of the text
 spelled_says : (reading : QueryReading) (schema : Schema) (name text : List ℕ) (t : Term)
     (made : List ℕ) → Parsed (Ok t) depth_limit text
-    → Says (typed_or_explained schema name text
-    (typed_as (placed t) (type_read schema (placed t)))) made
-    → Says (typed_or_explained schema name text (query_read reading schema text)) made
-unfolding query_read
+    → Says (typed_or_explained schema name text (Ok (placed t))) made
+    → Says (typed_or_explained schema name text (term_read reading text)) made
 spelled_says reading schema name text t made parsed says =
     let P : Result PlacedTerm Refused → Type 0 = λ r.
-    Says (typed_or_explained schema name text (typed_over schema r)) made in
+    Says (typed_or_explained schema name text r) made in
     subst P (sym (term_said reading text t parsed)) says
 
 -- or its fault is explained
 fault_says : (reading : QueryReading) (schema : Schema) (name text : List ℕ)
     (fault : SyntaxFault) (made : List ℕ) → Parsed (Err fault) depth_limit text
     → ExplainsSyntax depth_limit name text (table_names schema) fault made
-    → Says (typed_or_explained schema name text (query_read reading schema text)) made
-unfolding query_read
+    → Says (typed_or_explained schema name text (term_read reading text)) made
 fault_says reading schema name text fault made parsed says =
     let why = why_query (term_read reading text) name text (table_names schema) fault made
     (fault_said reading text fault parsed) says in
     let P : Result PlacedTerm Refused → Type 0 = λ r.
-    Says (typed_or_explained schema name text (typed_over schema r)) made in
+    Says (typed_or_explained schema name text r) made in
     subst P (sym why.1) why.2
 
 -- the same of what comes of it, if memory suffices
 pub spelled_if_ok : {E : Type 0} (schema : Schema) (name text : List ℕ) (t : Term)
     (result : Result (List ℕ) E) → Parsed (Ok t) depth_limit text
-    → IfOk result (Says (typed_or_explained schema name text
-    (typed_as (placed t) (type_read schema (placed t)))))
+    → IfOk result (Says (typed_or_explained schema name text (Ok (placed t))))
     → IfOk result (λ made. (reading : QueryReading) →
-    Says (typed_or_explained schema name text (query_read reading schema text)) made)
+    Says (typed_or_explained schema name text (term_read reading text)) made)
 spelled_if_ok schema name text t (Ok made) parsed says = λ reading.
     spelled_says reading schema name text t made parsed says
 spelled_if_ok schema name text t (Err e) parsed says = tt
@@ -154,7 +154,7 @@ pub fault_if_ok : {E : Type 0} (schema : Schema) (name text : List ℕ) (fault :
     (result : Result (List ℕ) E) → Parsed (Err fault) depth_limit text
     → IfOk result (λ made. ExplainsSyntax depth_limit name text (table_names schema) fault made)
     → IfOk result (λ made. (reading : QueryReading) →
-    Says (typed_or_explained schema name text (query_read reading schema text)) made)
+    Says (typed_or_explained schema name text (term_read reading text)) made)
 fault_if_ok schema name text fault (Ok made) parsed says = λ reading.
     fault_says reading schema name text fault made parsed says
 fault_if_ok schema name text fault (Err e) parsed says = tt
@@ -242,6 +242,7 @@ schema_faulty (Some files) query name file text bytes fault made old new same na
       name = name;
       text = bytes;
       tables = [];
+      found = [];
       why = why.0;
     })) = ap (schema_explained reading files query name bytes) why.1 in
     let P : Judgement → Type 0 = λ j. GatherTells j old new (Ok (gathered.Text made)) in

@@ -188,9 +188,13 @@ module _ (reading other : Reading) where
         texts = texts_of schema (normal_form schema.tables (element_type query.type) (bare t));
       }))) (one_plain reading other schema query.term query.type accepted)
 
+  term_same : (text : List ℕ) → term_read reading.queries text ≡ term_read other.queries text
+  unfolding term_read
+  term_same text = ap (refused_as QueryRefused) (one_query reading other text)
+
   query_same : (schema : Schema) (text : List ℕ) → query_read reading.queries schema text ≡ query_read other.queries schema text
-  unfolding query_read term_read
-  query_same schema text = ap (λ (r : Result PlacedTerm _). typed_over schema (refused_as QueryRefused r)) (one_query reading other text)
+  unfolding query_read
+  query_same schema text = ap (typed_over schema) (term_same text)
 
   schema_same : (text : List ℕ) → schema_read reading.schemas text ≡ schema_read other.schemas text
   unfolding schema_read
@@ -209,8 +213,8 @@ module _ (reading other : Reading) where
   schema_explained_same files query name text (Ok schema) =
       fetched_same files query text_limit _ _
       (λ asked. ap
-      (λ (r : Result TypedTerm Refused). at_once (typed_or_explained schema query asked r))
-      (query_same schema asked))
+      (λ (r : Result PlacedTerm Refused). at_once (typed_or_explained schema query asked r))
+      (term_same asked))
 
   explain_same : (files : Files) (schema query : List ℕ) (text : List ℕ)
       → schema_explained reading files query schema text (schema_read reading.schemas text)

@@ -139,12 +139,12 @@ module _ (schema : Schema) where
 
 -- so what explains a broken rule of a term explains the rule of its number
 pub explains_rule : (schema : Schema) (t : PlacedTerm) (rule place : ℕ) (name text : List ℕ)
-    (tables : List (List ℕ)) (made : List ℕ)
+    (tables : List (List ℕ)) (found : List TypeTree) (made : List ℕ)
     → program_judged schema t ≡ Err (broken rule place)
-    → ExplainsType name text place tables rule made
-    → ExplainsRule name text place tables rule made
-explains_rule schema t rule place name text tables made is (inl explains) = explains
-explains_rule schema t rule place name text tables made is (inr other) =
+    → ExplainsType name text place tables found rule made
+    → ExplainsRule name text place tables found rule made
+explains_rule schema t rule place name text tables found made is (inl explains) = explains
+explains_rule schema t rule place name text tables found made is (inr other) =
     let numbered : IsNumber rule = subst Numbered is (program_numbered schema t) in
     let above = other numbered.0 in
     absurd (omega (arith, above, numbered.1))

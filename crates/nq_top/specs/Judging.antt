@@ -7,6 +7,8 @@ use Rattle.nq_model.specs.declared.table.Schema.{Schema}
 use Rattle.nq_model.specs.declared.table.TableShape.{TableShape}
 use Rattle.nq_edge.specs.Edge.{Files, bytes_at}
 use Rattle.nq_ir.specs.Paths.{paths}
+use Rattle.nq_model.specs.Terms.{PlacedTerm}
+use Rattle.nq_model.specs.Types.{TypeTree}
 use Rattle.database_scripts.specs.Loads.{load_text}
 use Rattle.diagnostics.specs.RuleTexts.{rule_text}
 use Rattle.shred_types.specs.Columns.{columns_at}
@@ -33,7 +35,9 @@ use Rattle.nq_top.specs.Limits.{text_limit, tables_limit}
 use Rattle.nq_top.specs.Lines.{file_by, answer_file_of, accepted_line, type_line}
 use Rattle.nq_top.specs.Natural.{Natural, natural_draft, natural_read}
 use Rattle.nq_top.specs.Plans.{Draft, drafted, Question, draft_to, question_to, sql_draft, generated_plan, generated_question}
-use Rattle.nq_top.specs.Reading.{PlainReading, Reading, TypedTerm, SqlColumns, schema_read, query_read, rows_read, sql_read, answer_read, links_read}
+use Rattle.nq_top.specs.Reading.{PlainReading, Reading, TypedTerm, SqlColumns, schema_read, term_read}
+use Rattle.nq_top.specs.Reading.{query_read, rows_read, sql_read, answer_read, links_read}
+use Rattle.nq_top.specs.Reading.{found_over, typed_over}
 use Rattle.nq_top.specs.Shown.{Shown, shown_form, form_line, shown_texts}
 use Rattle.nq_top.specs.Traced.{lineage_draft}
 use Rattle.nq_top.specs.declared.tables.TableTexts.{TableTexts}
@@ -202,19 +206,29 @@ rows_judged writing files folder schema asked =
     draft_judged files Csv folder schema (sql_draft writing asked.0 asked.1)
     (λ tables. Question.sql writing asked.0)
 
--- the line of the type of a query over a schema, or what explains why its text is refused
-abbrev pub typed_or_explained : Schema → List ℕ → List ℕ → Result TypedTerm Refused
+-- the line of the type of a query over a schema, or what explains why its text is refused, where
+-- these types are found
+abbrev pub type_or_cause : Schema → List ℕ → List ℕ → List TypeTree → Result TypedTerm Refused
     → Verdict
-typed_or_explained schema name text (Ok query) = written (type_line query.type)
-typed_or_explained schema name text (Err r) =
-    explained (record { name = name; text = text; tables = table_names schema; why = r })
+type_or_cause schema name text found (Ok query) = written (type_line query.type)
+type_or_cause schema name text found (Err r) = explained (record {
+  name = name;
+  text = text;
+  tables = table_names schema;
+  found = found;
+  why = r;
+})
+
+-- the same of the term that the text spells
+abbrev pub typed_or_explained : Schema → List ℕ → List ℕ → Result PlacedTerm Refused → Verdict
+typed_or_explained schema name text read =
+    type_or_cause schema name text (found_over schema read) (typed_over schema read)
 
 -- the same of the query under a name
 abbrev pub query_explained : Reading → Files → Schema → List ℕ → Judgement
 query_explained reading files schema name =
     fetched_then files name text_limit
-    (λ text. at_once (typed_or_explained schema name text
-    (query_read reading.queries schema text)))
+    (λ text. at_once (typed_or_explained schema name text (term_read reading.queries text)))
 
 -- the same of a query over the schema that is read, or what explains why that is refused
 abbrev pub schema_explained : Reading → Files → List ℕ → List ℕ → List ℕ
@@ -222,7 +236,7 @@ abbrev pub schema_explained : Reading → Files → List ℕ → List ℕ → Li
 schema_explained reading files query name text (Ok schema) =
     query_explained reading files schema query
 schema_explained reading files query name text (Err r) =
-    at_once (explained (record { name = name; text = text; tables = []; why = r }))
+    at_once (explained (record { name = name; text = text; tables = []; found = []; why = r }))
 
 abbrev pub explain_judged : Reading → Files → List ℕ → List ℕ → Judgement
 explain_judged reading files schema query =

@@ -1,8 +1,8 @@
 // The type of a query, or what explains why it or its schema is refused.
-ghost use Rattle.std.specs.Prelude.{◌≡◌, false, IfOk, IfSome};
+ghost use Rattle.std.specs.Prelude.{◌≡◌, false, IfOk, IfSome, Ok};
 ghost use Rattle.nq_model.specs.Terms.{placed};
 ghost use Rattle.nq_top.specs.Judging.{explain_judged, query_explained, typed_or_explained};
-ghost use Rattle.nq_top.specs.Reading.{QueryReading, Reading, query_read, type_read, typed_as};
+ghost use Rattle.nq_top.specs.Reading.{QueryReading, Reading, term_read};
 ghost use Rattle.nq_top.specs.Steps.{CanServe, GatherTells, InputCounts, Says, gathered_asks};
 
 use crate::gather::Gathered;
@@ -14,7 +14,7 @@ use explanations::{explain_schema, explain_syntax, explain_type};
 use nq_edge::Inputs;
 use nq_model::{List, Memory, Schema, Term};
 use nq_parser::parse;
-use nq_types::{CheckFault, check};
+use nq_types::{CheckFault, check, found_types};
 use schema_reader::read_schema;
 use std::alloc::Global;
 
@@ -28,13 +28,15 @@ fn explain_term(
     term: &Term,
 ) -> Result<List<u8>, Memory>
     ensures { IfOk result (Says (typed_or_explained schema.now file.now text.now
-        (typed_as (placed term.now) (type_read schema.now (placed term.now))))) }
+        (Ok (placed term.now)))) }
 {
     match check(alloc, schema, term) {
         Ok(ty) => type_line(alloc, &ty),
         Err(CheckFault::Memory) => Err(Memory),
         Err(CheckFault::Ill { rule, place }) => {
-            explain_type(alloc, file, text, u64::from(rule), place, schema)
+            let found = found_types(alloc, schema, term)?;
+            let types = found.as_slice();
+            explain_type(alloc, file, text, u64::from(rule), place, schema, types)
         }
     }
 }
@@ -48,8 +50,8 @@ fn explain_text(
     text: &[u8],
 ) -> Result<List<u8>, Memory>
     ensures { IfOk result (λ made. (reading : QueryReading) →
-        Says (typed_or_explained schema.now file.now text.now
-        (query_read reading schema.now text.now)) made) }
+        Says (typed_or_explained schema.now file.now text.now (term_read reading text.now))
+        made) }
 {
     match parse(alloc, text, DEPTH) {
         Ok(term) => explain_term(alloc, schema, file, text, &term),

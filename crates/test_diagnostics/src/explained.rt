@@ -2,7 +2,7 @@
 use explanations::{explain_schema, explain_syntax, explain_type};
 use nq_model::{List, Memory, Schema};
 use nq_parser::parse;
-use nq_types::{CheckFault, check};
+use nq_types::{CheckFault, check, found_types};
 use schema_reader::{SchemaFault, read_schema};
 use std::alloc::Global;
 use std::process::Abort;
@@ -26,7 +26,17 @@ fn explained(alloc: Global, query: &[u8], depth: u64) -> Result<Option<List<u8>>
         Ok(term) => match check(alloc, &schema, &term) {
             Ok(_) => Ok(None),
             Err(CheckFault::Ill { rule, place }) => {
-                let made = explain_type(alloc, b"q", query, u64::from(rule), place, &schema)?;
+                let found = found_types(alloc, &schema, &term)?;
+                let types = found.as_slice();
+                let made = explain_type(
+                    alloc,
+                    b"q",
+                    query,
+                    u64::from(rule),
+                    place,
+                    &schema,
+                    types,
+                )?;
                 Ok(Some(made))
             }
             Err(CheckFault::Memory) => Err(Memory),
@@ -39,7 +49,7 @@ fn explained(alloc: Global, query: &[u8], depth: u64) -> Result<Option<List<u8>>
 }
 
 // A query, and its explanation.
-const EXPLAINED: [(&str, &str); 28] = [
+const EXPLAINED: [(&str, &str); 32] = [
     (
         "for (c <- table customers) where (c.city = 'Oslo') [c.name]",
         "q:1:42: To compare two values, write ==.
@@ -262,7 +272,46 @@ for (c <- table customers) where (c.city == \"Oslo\") [c.name]
         "q:1:52: Both sides of && and || are bools: x == 'a' || x == 'b', not x == 'a' || 'b'.
 for (c <- table customers) where (c.city == 'Oslo' || 'Rome') [c.name]
                                                    ^
+found: bool and text
 rule: 10, kept by: [1 == 2 || 1 == 3]
+",
+    ),
+    // What stood there: of two parts, of a record its labels, of a comprehension both its parts, and
+    // of a test that is well typed what stood behind it.
+    (
+        "for (c <- table customers) where (c.id == '1') [c.name]",
+        "q:1:40: You compare two ints, two bools or two texts. Of rows, compare the columns.
+for (c <- table customers) where (c.id == '1') [c.name]
+                                       ^
+found: int and text
+rule: 9, kept by: ['a' == 'b']
+",
+    ),
+    (
+        "for (o <- table orders) [o.total]",
+        "q:1:27: Before the dot stands a record that has the field. Take it of a row, not of a table.
+for (o <- table orders) [o.total]
+                          ^
+found: (customer: int, id: int)
+rule: 15, kept by: for (e <- table employees) [e.name]
+",
+    ),
+    (
+        "for (o <- table orders) o.id",
+        "q:1:1: A for goes over a bag, and its body is a bag: put the element into [..].
+for (o <- table orders) o.id
+^
+found: [(customer: int, id: int)] and int
+rule: 20, kept by: for (e <- table employees) [e.name]
+",
+    ),
+    (
+        "for (o <- table orders) [if o.id < 2 then o.id else 'many']",
+        "q:1:26: The test of if is a bool, and the values behind then and else have one type.
+for (o <- table orders) [if o.id < 2 then o.id else 'many']
+                         ^
+found: bool, int and text
+rule: 11, kept by: [if 1 < 2 then 'yes' else 'no']
 ",
     ),
     (

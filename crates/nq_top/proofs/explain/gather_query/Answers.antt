@@ -1,6 +1,6 @@
 use Rattle.std.proofs.Common.{List, ℕ, rules, subst}
 use Rattle.nq_top.specs.Judging.{at_once, typed_or_explained}
-use Rattle.nq_top.specs.Reading.{Reading, query_read}
+use Rattle.nq_top.specs.Reading.{Reading, term_read}
 use Rattle.nq_top.specs.Steps.{Says}
 use Rattle.nq_top.proofs.Explainings.{text_goes, text_says}
 use Rattle.nq_top.proofs.Steps.{memory_stops}
@@ -10,7 +10,7 @@ pub returns-in_err-made-clause-tells : goal.returns-in_err-made-clause-tells
 returns-in_err-made-clause-tells g c =
     let judged = λ (reading : Reading) (text : List ℕ).
     at_once (typed_or_explained c.args.schema.now c.args.name.now text
-    (query_read reading.queries c.args.schema.now text)) in
+    (term_read reading.queries text)) in
     text_goes _ _ c.args.name.now c.in_ok-text.text c.as_slice.result.now
     (λ reading files text. judged reading text) _ _ _ _ c.as_slice.ensures
     c.in_ok-text.ensures.same c.in_ok-text.ensures.says c.in_ok-text.ensures.names
@@ -20,10 +20,10 @@ pub returns-clause-tells : goal.returns-clause-tells
 returns-clause-tells g c =
     let named = λ (reading : Reading) (name : List ℕ).
     Says (typed_or_explained c.args.schema.now name c.as_slice.result.now
-    (query_read reading.queries c.args.schema.now c.as_slice.result.now)) c.in_ok-made.made in
+    (term_read reading.queries c.as_slice.result.now)) c.in_ok-made.made in
     text_says _ c.args.name.now c.in_ok-text.text c.as_slice.result.now
     (λ reading text. typed_or_explained c.args.schema.now c.args.name.now text
-    (query_read reading.queries c.args.schema.now text)) _ _ c.in_ok-made.made c.as_slice.ensures
+    (term_read reading.queries text)) _ _ c.in_ok-made.made c.as_slice.ensures
     c.in_ok-text.ensures.says c.in_ok-text.ensures.names
     (λ reading. subst (named reading) c.as_bytes.ensures.value
     (c.in_ok-made.ensures reading.queries))
