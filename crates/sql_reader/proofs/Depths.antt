@@ -189,7 +189,7 @@ deep (machine.AtSemi (HasWith ds) q p) = omega arith
 deep (machine.Ready (OfText NoWith q s) e) = omega arith
 deep (machine.Ready (OfText (HasWith ds) q s) e) = omega arith
 
-fits_same : (d : ℕ) (st : machine.State) → fits d (stand st) ≡ machine.fits d st
+pub fits_same : (d : ℕ) (st : machine.State) → fits d (stand st) ≡ machine.fits d st
 fits_same d st = ap (λ n. leb n d) (sym (deep st))
 
 -- The answer of a whole run, as the reader's.

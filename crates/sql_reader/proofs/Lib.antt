@@ -1,6 +1,9 @@
+pub mod Alike
 pub mod Cutting
 pub mod Depths
+pub mod FrontSteps
 pub mod Fronts
+pub mod OpenTexts
 pub mod Putting
 pub mod Reaching
 pub mod Standing

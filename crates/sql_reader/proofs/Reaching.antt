@@ -25,12 +25,13 @@ use Rattle.sql_reader.proofs.Depths.{outcome, runs}
 use Rattle.sql_reader.proofs.Standing.{stand, main_base, selects_kept, withs_same, query_same}
 
 -- the machine's answer that the reader's is
-record Stands (d : ℕ) (ts : List Token) (st : State) : Type 0 where
+pub record Stands (d : ℕ) (ts : List Token) (st : State) : Type 0 where
   pub state : machine.State
   pub reached : machine.run d ts machine.start_state ≡ Reached state
   pub same : stand state ≡ st
 
-stands : (d : ℕ) (ts : List Token) (st : State) → run d ts start_state ≡ Reached st → Stands d ts st
+pub stands : (d : ℕ) (ts : List Token) (st : State) → run d ts start_state ≡ Reached st
+    → Stands d ts st
 stands d ts st e = go (machine.run d ts machine.start_state) refl (sym (runs d ts machine.start_state) ∙ e)
   where
     reached_same : (a b : State) → ◌≡◌ {A = Outcome Token State} (Reached a) (Reached b) → a ≡ b

@@ -1,5 +1,6 @@
 pub mod Fronts
 pub mod Needs
+pub mod Openness
 pub mod Parsing
 pub mod Parts
 pub mod Reading
@@ -9,4 +10,5 @@ pub mod Stacks
 pub mod States
 pub mod Steps
 pub mod Symbols
+pub mod TokenKinds
 pub mod Views

@@ -16,6 +16,7 @@ mod lists;
 mod marks;
 mod moves;
 mod numbering;
+mod openness;
 mod part;
 mod queries;
 mod read;
@@ -30,4 +31,7 @@ mod step;
 mod token;
 
 pub use fault::SqlFault;
+pub use lexer::tokens;
+pub use openness::{is_open, open_front, open_laws};
 pub use sql::read_sql;
+pub use token::{Mark, Symbol, Token, Whole};

@@ -49,7 +49,8 @@ pub fn read(alloc: Global, tokens: &[Token<'_>], depth: u64) -> Result<SqlText, 
     }
 }
 
-fn start_state(alloc: Global) -> State
+// At the beginning of a text.
+pub(crate) fn start_state(alloc: Global) -> State
     ensures { state_view result ≡ start_state }
 {
     State {
@@ -64,7 +65,7 @@ fn start_state(alloc: Global) -> State
 }
 
 // The position behind the token, which begins a text of this depth.
-fn advance(
+pub(crate) fn advance(
     alloc: Global,
     base: &mut Base,
     stack: &mut Stack,
