@@ -67,8 +67,12 @@ take_long zero xs h = refl
 take_long (suc k) [] h = absurd (omega (arith, h))
 take_long (suc k) (x ∷ xs) h = ap suc (take_long k xs (omega (arith, h)))
 
-module _ {I : Type 0} (eq : I → I → Bool) (laws : IsEquivalence eq) (S : Scheme I) (same : (i j : I) → S.is i j ≡ eq i j) (ans : List AnswerRows) (q : ℕ) where
-  module _ (k t : ℕ) (own : I) (old : BTreeMap (ℕ × I) ℕ) (here : k < length (get_or ans q [])) (slot : t < slots (element_of S.elements q)) (is : own ≡ S.inner q t (row_at ans q k)) (before : Gives eq S q (λ s. take (reached k t s) (get_or ans q [])) old) where
+module _ {I : Type 0} (eq : I → I → Bool) (laws : IsEquivalence eq) (S : Scheme I)
+    (same : (i j : I) → S.is i j ≡ eq i j) (ans : List AnswerRows) (q : ℕ) where
+  module _ (k t : ℕ) (own : I) (old : BTreeMap (ℕ × I) ℕ)
+      (here : k < length (get_or ans q [])) (slot : t < slots (element_of S.elements q))
+      (is : own ≡ S.inner q t (row_at ans q k))
+      (before : Gives eq S q (λ s. take (reached k t s) (get_or ans q [])) old) where
     -- what is told of the index of a row
     pub told_first : first_given eq old t own ≡ giver S q t (take k (get_or ans q [])) (S.inner q t (row_at ans q k))
     told_first =
@@ -77,7 +81,10 @@ module _ {I : Type 0} (eq : I → I → Bool) (laws : IsEquivalence eq) (S : Sch
         ∙ ap (giver S q t (take k (get_or ans q []))) is
 
     -- after it is entered
-    pub entered : (new : BTreeMap (ℕ × I) ℕ) → first_given eq old t own ≡ None → ((s : ℕ) (i : I) → first_given eq new s i ≡ cond (same_key eq (t, own) (s, i)) (Some (suc k)) (first_given eq old s i)) → Gives eq S q (λ s. take (reached k (t + 1) s) (get_or ans q [])) new
+    pub entered : (new : BTreeMap (ℕ × I) ℕ) → first_given eq old t own ≡ None
+        → ((s : ℕ) (i : I) → first_given eq new s i
+        ≡ cond (same_key eq (t, own) (s, i)) (Some (suc k)) (first_given eq old s i))
+        → Gives eq S q (λ s. take (reached k (t + 1) s) (get_or ans q [])) new
     entered new none enters s i b = ⊎_elim (λ l. at_most l) (λ l. others (λ e. let f : t ≡ s = e in omega (arith, f, l)) (lt_false s t (omega (arith, l)) ∙ sym (lt_false s (t + 1) (omega (arith, l))))) (cases s t)
       where
         cases : (m n : ℕ) → (m ≤ n) ⊎ (n < m)

@@ -64,7 +64,13 @@ pub no_more_slots : (columns : List (List ℕ)) (q k n : ℕ) (tags : List ℕ) 
 no_more_slots columns q k n tags e c h = omega (arith, ap length e, c, h)
 
 -- what an index tells that is entered
-module _ {I : Type 0} (eq : I → I → Bool) (laws : IsEquivalence eq) (S : Scheme I) (same : (i j : I) → S.is i j ≡ eq i j) (all : List Home) (columns : List (List ℕ)) (ans : List AnswerRows) (q k t : ℕ) (own : I) (old : BTreeMap (ℕ × I) ℕ) (here : k < length (get_or ans q [])) (slot : t < slots (element_of S.elements q)) (is : own ≡ S.inner q t (row_at ans q k)) (before : Gives eq S q (λ s. take (reached k t s) (get_or ans q [])) old) (found : Option ℕ) (e : found ≡ first_given eq old t own) where
+module _ {I : Type 0} (eq : I → I → Bool) (laws : IsEquivalence eq) (S : Scheme I)
+    (same : (i j : I) → S.is i j ≡ eq i j) (all : List Home) (columns : List (List ℕ))
+    (ans : List AnswerRows) (q k t : ℕ) (own : I) (old : BTreeMap (ℕ × I) ℕ)
+    (here : k < length (get_or ans q [])) (slot : t < slots (element_of S.elements q))
+    (is : own ≡ S.inner q t (row_at ans q k))
+    (before : Gives eq S q (λ s. take (reached k t s) (get_or ans q [])) old)
+    (found : Option ℕ) (e : found ≡ first_given eq old t own) where
   pub once_given : found ≡ None → inner_fault S all (column_in columns) ans q k t ≡ None
   once_given none = ap (option_map (linked.twice (suc q) (suc k) (column_in columns q t))) (sym (told_first eq laws S same ans q k t own old here slot is before) ∙ sym e ∙ none)
 

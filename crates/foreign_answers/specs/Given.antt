@@ -8,5 +8,6 @@ abbrev pub same_key : {I : Type 0} → (I → I → Bool) → (ℕ × I) → (�
 same_key eq a b = nat_eq a.0 b.0 && eq a.1 b.1
 
 -- the number of the row that is entered with an index for the inner bag s
-abbrev pub first_given : {I : Type 0} → (I → I → Bool) → BTreeMap (ℕ × I) ℕ → ℕ → I → Option ℕ
+abbrev pub first_given : {I : Type 0} → (I → I → Bool) → BTreeMap (ℕ × I) ℕ → ℕ
+    → I → Option ℕ
 first_given eq firsts s i = lookup (same_key eq (s, i)) firsts.entries

@@ -22,7 +22,8 @@ pub record CanJudge {I : Type 0} (S : Scheme I) (ans : List AnswerRows) (all : L
   pub counted : (q : ℕ) → length (get_or columns q []) ≡ slots (element_of S.elements q)
 
 -- the first of these rows that gives each index is known, for each inner bag at a path
-abbrev pub Gives : {I : Type 0} → (I → I → Bool) → Scheme I → ℕ → (ℕ → AnswerRows) → BTreeMap (ℕ × I) ℕ → Type 0
+abbrev pub Gives : {I : Type 0} → (I → I → Bool) → Scheme I → ℕ → (ℕ → AnswerRows)
+    → BTreeMap (ℕ × I) ℕ → Type 0
 Gives {I} eq S q rows firsts = (s : ℕ) (i : I) → s < slots (element_of S.elements q) → first_given eq firsts s i ≡ giver S q s (rows s) i
 
 -- that of each answer so far

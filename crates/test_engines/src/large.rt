@@ -33,8 +33,8 @@ const JOINED_BY_THE_LAST: &str = r#"SELECT "x"."a" AS "a" FROM "t" AS "x", "t" A
     WHERE (("z"."a" = "x"."a") AND ("y"."a" = "z"."a"))"#;
 
 // The rows that the other table has too.
-const SHARED: &str =
-    r#"SELECT "x"."a" AS "a" FROM "t" AS "x", "e" AS "y" WHERE (("x"."a" = "y"."a") AND ("x"."b" = "y"."b"))"#;
+const SHARED: &str = r#"SELECT "x"."a" AS "a" FROM "t" AS "x", "e" AS "y"
+    WHERE (("x"."a" = "y"."a") AND ("x"."b" = "y"."b"))"#;
 
 // The rows that meet none of the other table.
 const ALONE: &str =
