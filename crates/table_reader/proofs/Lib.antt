@@ -6,3 +6,4 @@ pub mod ReadFacts
 pub mod TableFacts
 pub mod FitFacts
 pub mod RecordFacts
+pub mod NumberFacts

@@ -4,11 +4,13 @@
 mod cells;
 mod laws;
 mod read;
+mod record;
 mod records;
 
 pub use laws::table_laws;
 use nq_model::Memory;
 pub use read::read_table;
+pub use record::record_at;
 use thiserror::Error;
 
 /// Why a table text is refused. Rows and columns are counted from 1, and the header is no row.
