@@ -8,6 +8,8 @@ mod expected;
 #[cfg(test)]
 mod explained;
 #[cfg(test)]
+mod explained_tables;
+#[cfg(test)]
 mod places;
 #[cfg(test)]
 mod rules;
