@@ -1,2 +1,3 @@
 pub mod WalkFacts
+pub mod MachineFacts
 pub mod CellFacts

@@ -1,4 +1,5 @@
 pub mod Places
+pub mod Agreement
 pub mod Sentences
 pub mod Lines
 pub mod Explanations

@@ -4,8 +4,10 @@
 
 mod cells;
 mod faults;
+mod laws;
 mod lines;
 mod places;
 mod sentences;
 
 pub use faults::explain_table;
+pub use laws::walk_laws;
