@@ -5,12 +5,9 @@ use Rattle.std.proofs.Common.{inl, inr, arith, rules, Decides}
 use Rattle.std.specs.List.{Contains}
 use Rattle.std.specs.Str.{bytes_eq}
 use Rattle.std.proofs.lemmas.Slice.Eq.{bytes_eq-Decides}
-use Rattle.expected_tokens.specs.declared.kinds.TokenKind.{TokenKind}
-use Rattle.expected_tokens.specs.declared.kinds.TokenKind.TheVariants as kinds
-use Rattle.explanations.specs.Groups.{Group, alone, groups, is_named, names, names_from}
+use Rattle.explanations.specs.Groups.{Group, alone, is_named, names, names_from}
 use Rattle.explanations.specs.Lists.{among, all_among}
 use Rattle.explanations.specs.Naming.{IsNamed, Names}
-use Rattle.explanations.specs.Words.{kind_words}
 
 -- 1. lists
 
@@ -184,65 +181,21 @@ module _ (expected : List (List ℕ)) where
       go false a is in_it (inr later) after_it without_it =
           lift _ _ _ _ (λ n k. k) (λ k. k) (without_it later)
 
-  to_named : (s : Said expected (names expected) groups)
-      → IsNamed expected (names expected) s.group
-  to_named s = record { listed = s.listed; full = s.full; named = s.named }
+  to_named : (gs : List Group) (s : Said expected (names_from expected [] gs) gs)
+      → IsNamed gs expected (names_from expected [] gs) s.group
+  to_named gs s = record { listed = s.listed; full = s.full; named = s.named }
 
--- each kind is a group by itself
-kind_listed : (kind : TokenKind) → Contains groups (alone (kind_words kind))
-kind_listed kinds.For = (8, omega arith, refl)
-kind_listed kinds.Where = (9, omega arith, refl)
-kind_listed kinds.If = (10, omega arith, refl)
-kind_listed kinds.Then = (11, omega arith, refl)
-kind_listed kinds.Else = (12, omega arith, refl)
-kind_listed kinds.Fun = (13, omega arith, refl)
-kind_listed kinds.Let = (14, omega arith, refl)
-kind_listed kinds.Table = (15, omega arith, refl)
-kind_listed kinds.Empty = (16, omega arith, refl)
-kind_listed kinds.Count = (17, omega arith, refl)
-kind_listed kinds.Sum = (18, omega arith, refl)
-kind_listed kinds.True = (19, omega arith, refl)
-kind_listed kinds.False = (20, omega arith, refl)
-kind_listed kinds.Int = (21, omega arith, refl)
-kind_listed kinds.Bool = (22, omega arith, refl)
-kind_listed kinds.Text = (23, omega arith, refl)
-kind_listed kinds.Name = (24, omega arith, refl)
-kind_listed kinds.Number = (25, omega arith, refl)
-kind_listed kinds.Literal = (26, omega arith, refl)
-kind_listed kinds.Union = (27, omega arith, refl)
-kind_listed kinds.Or = (28, omega arith, refl)
-kind_listed kinds.And = (29, omega arith, refl)
-kind_listed kinds.Equal = (30, omega arith, refl)
-kind_listed kinds.Unequal = (31, omega arith, refl)
-kind_listed kinds.Less = (32, omega arith, refl)
-kind_listed kinds.AtMost = (33, omega arith, refl)
-kind_listed kinds.Greater = (34, omega arith, refl)
-kind_listed kinds.AtLeast = (35, omega arith, refl)
-kind_listed kinds.Plus = (36, omega arith, refl)
-kind_listed kinds.Minus = (37, omega arith, refl)
-kind_listed kinds.Times = (38, omega arith, refl)
-kind_listed kinds.Opening = (43, omega arith, refl)
-kind_listed kinds.Closing = (44, omega arith, refl)
-kind_listed kinds.OpeningBag = (45, omega arith, refl)
-kind_listed kinds.ClosingBag = (46, omega arith, refl)
-kind_listed kinds.Comma = (47, omega arith, refl)
-kind_listed kinds.Colon = (48, omega arith, refl)
-kind_listed kinds.Semicolon = (49, omega arith, refl)
-kind_listed kinds.Dot = (50, omega arith, refl)
-kind_listed kinds.Assign = (39, omega arith, refl)
-kind_listed kinds.From = (40, omega arith, refl)
-kind_listed kinds.Arrow = (41, omega arith, refl)
-kind_listed kinds.Bang = (42, omega arith, refl)
-kind_listed kinds.End = (51, omega arith, refl)
-
-pub all_named : (expected : List (List ℕ)) → Names expected (names expected)
+-- the names of kinds, each of which is a group by itself
+pub all_named : (Kind : Type 0) (words : Kind → List ℕ) (gs : List Group)
+    → ((kind : Kind) → Contains gs (alone (words kind))) → (expected : List (List ℕ))
+    → Names Kind words gs expected (names gs expected)
 unfolding names
-all_named expected = record {
-  right = λ name h. let s = right expected groups [] name h in
-      (s.0.group, to_named expected s.0, s.1);
+all_named Kind words gs listed expected = record {
+  right = λ name h. let s = right expected gs [] name h in
+      (s.0.group, to_named expected gs s.0, s.1);
   whole = λ kind e.
-      elim (whole expected groups [] (kind_words kind) e (kind_listed kind)) [
-        | inl s ↦ (s.0.group, to_named expected s.0, s.1)
+      elim (whole expected gs [] (words kind) e (listed kind)) [
+        | inl s ↦ (s.0.group, to_named expected gs s.0, s.1)
         | inr was ↦ absurd (cc)
       ];
 }

@@ -27,7 +27,7 @@ use Rattle.diagnostics.specs.declared.sentences.QueryFaultKind.{QueryFaultKind}
 use Rattle.diagnostics.specs.declared.sentences.QueryFaultKind.TheVariants as query
 use Rattle.diagnostics.specs.declared.typing_rules.TypingRule.{TypingRule}
 use Rattle.diagnostics.specs.declared.typing_rules.TypingRule.TheVariants as rule
-use Rattle.explanations.specs.Groups.{names}
+use Rattle.explanations.specs.Groups.{groups, names}
 use Rattle.explanations.specs.Lists.{among, listed}
 use Rattle.explanations.specs.Nearest.{nearest}
 use Rattle.explanations.specs.Sentences.{token_sentence, stop_sentence, name_sentence}
@@ -43,10 +43,9 @@ table_names schema = map (λ shape. shape.name) schema.tables
 unfoldable pub found_line : List ℕ → List ℕ
 found_line found = codes "found: " ++ (found ++ codes "\n")
 
--- the names of the kinds of tokens with which a query could have gone on
+-- the names of the kinds of tokens with which a text could have gone on
 unfoldable pub expected_line : List (List ℕ) → List ℕ
-expected_line expected =
-    codes "expected: " ++ (listed (codes " or ") (names expected) ++ codes "\n")
+expected_line said = codes "expected: " ++ (listed (codes " or ") said ++ codes "\n")
 
 -- the tables of the schema
 unfoldable pub tables_line : List (List ℕ) → List ℕ
@@ -69,11 +68,22 @@ unfoldable pub types_line : List TypeTree → List ℕ
 types_line found =
     codes "found: " ++ (listed (codes " and ") (type_texts found) ++ codes "\n")
 
--- the number of a typing rule, and a query that keeps it
-unfoldable pub rule_line : TypingRule → List ℕ
-rule_line broken =
-    codes "rule: " ++ (decimal (typing_number broken)
-    ++ (codes ", kept by: " ++ (typing_right broken ++ codes "\n")))
+-- the number of a rule, and a text that keeps it
+unfoldable pub rule_line : ℕ → List ℕ → List ℕ
+rule_line number right =
+    codes "rule: " ++ (decimal number ++ (codes ", kept by: " ++ (right ++ codes "\n")))
+
+-- where a text stops: what is said of it, what stands there, and the names of what is expected
+unfoldable pub stop_text : List ℕ → List ℕ → ℕ → List ℕ → List ℕ
+    → List (List ℕ) → List ℕ
+stop_text file text place sentence found said =
+    excerpt_text file text place sentence ++ (found_line found ++ expected_line said)
+
+-- where a name stands that no table has, and a rule asks for one
+unfoldable pub missing_text : List ℕ → List ℕ → ℕ → List ℕ → List (List ℕ)
+    → List ℕ → List ℕ
+missing_text file text place asks tables name =
+    excerpt_text file text place asks ++ (tables_line tables ++ nearest_line (nearest tables name))
 
 -- 2. faults of queries
 
@@ -81,8 +91,8 @@ rule_line broken =
 unfoldable pub stopped_text : QueryFaultKind → List ℕ → List ℕ → ℕ → Around → List (List ℕ)
     → List ℕ
 stopped_text kind file text place there expected =
-    excerpt_text file text place (stop_sentence kind there expected)
-    ++ (found_line there.found ++ expected_line expected)
+    stop_text file text place (stop_sentence kind there expected) there.found
+    (names groups expected)
 
 -- of a name that no variable has
 abbrev pub name_line : List (List ℕ) → List ℕ → List ℕ
@@ -92,17 +102,12 @@ unfoldable pub unbound_text : List ℕ → List ℕ → ℕ → List (List ℕ) 
 unbound_text file text place tables name =
     excerpt_text file text place (name_sentence tables name) ++ name_line tables name
 
--- of a name that no table has
-unfoldable pub missing_text : List ℕ → List ℕ → ℕ → List (List ℕ) → List ℕ
-    → List ℕ
-missing_text file text place tables name =
-    excerpt_text file text place (typing_asks rule.Table)
-    ++ (tables_line tables ++ nearest_line (nearest tables name))
-
 -- of another typing rule, where these types were found
-unfoldable pub broken_text : List ℕ → List ℕ → ℕ → List TypeTree → TypingRule → List ℕ
+unfoldable pub broken_text : List ℕ → List ℕ → ℕ → List TypeTree → TypingRule
+    → List ℕ
 broken_text file text place found broken =
-    excerpt_text file text place (typing_asks broken) ++ (types_line found ++ rule_line broken)
+    excerpt_text file text place (typing_asks broken)
+    ++ (types_line found ++ rule_line (typing_number broken) (typing_right broken))
 
 -- 3. what is explained
 
@@ -157,26 +162,26 @@ abbrev pub ExplainsMissing : List ℕ → List ℕ → ℕ → List (List ℕ) �
     → Type 0
 ExplainsMissing file text place tables made =
     (tokens : List Token) → HasTokens text tokens
-    → made ≡ missing_text file text place tables (behind place tokens)
+    → made ≡ missing_text file text place (typing_asks rule.Table) tables (behind place tokens)
 
 -- the explanation of a typing rule that a text breaks, where these types were found, and of that of
 -- this number
-abbrev pub ExplainsBroken : List ℕ → List ℕ → ℕ → List (List ℕ) → List TypeTree → TypingRule
-    → List ℕ → Type 0
+abbrev pub ExplainsBroken : List ℕ → List ℕ → ℕ → List (List ℕ) → List TypeTree
+    → TypingRule → List ℕ → Type 0
 ExplainsBroken file text place tables found rule.Table made =
     ExplainsMissing file text place tables made
 ExplainsBroken file text place tables found broken made =
     made ≡ broken_text file text place found broken
 
-abbrev pub ExplainsRule : List ℕ → List ℕ → ℕ → List (List ℕ) → List TypeTree → ℕ → List ℕ
-    → Type 0
+abbrev pub ExplainsRule : List ℕ → List ℕ → ℕ → List (List ℕ) → List TypeTree → ℕ
+    → List ℕ → Type 0
 ExplainsRule file text place tables found number made =
     (broken : TypingRule) × (typing_number broken ≡ number)
     × ExplainsBroken file text place tables found broken made
 
 -- the same, unless the number is that of no rule
-abbrev pub ExplainsType : List ℕ → List ℕ → ℕ → List (List ℕ) → List TypeTree → ℕ → List ℕ
-    → Type 0
+abbrev pub ExplainsType : List ℕ → List ℕ → ℕ → List (List ℕ) → List TypeTree → ℕ
+    → List ℕ → Type 0
 ExplainsType file text place tables found number made =
     ExplainsRule file text place tables found number made ⊎ (1 ≤ number → 26 ≤ number)
 

@@ -84,9 +84,9 @@ names_from expected taken (group ∷ more) =
     then group.0 ∷ names_from expected (taken ++ group.1) more
     else names_from expected taken more
 
--- how the expected kinds are named
-unfoldable pub names : List (List ℕ) → List (List ℕ)
-names expected = names_from expected [] groups
+-- how the expected kinds are named, by these groups
+unfoldable pub names : List Group → List (List ℕ) → List (List ℕ)
+names named expected = names_from expected [] named
 
 -- the names that were found, and then those of these groups, where the kinds taken are in groups
 -- before

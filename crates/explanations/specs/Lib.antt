@@ -6,3 +6,9 @@ pub mod Naming
 pub mod Hints
 pub mod Sentences
 pub mod Explanations
+pub mod SqlWords
+pub mod SqlGroups
+pub mod SqlHints
+pub mod SqlPlaces
+pub mod SqlColumns
+pub mod SqlExplanations

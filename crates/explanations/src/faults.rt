@@ -160,7 +160,7 @@ fn broken(
 {
     let mut made = excerpt(alloc, file, text, place, rule.asks())?;
     put_types(alloc, &mut made, found)?;
-    put_rule(alloc, &mut made, rule)?;
+    put_rule(alloc, &mut made, rule.number(), rule.right())?;
     Ok(made)
 }
 

@@ -1,7 +1,7 @@
 // Groups of kinds of tokens that have one name.
 ghost use Rattle.std.specs.Prelude.{◌≡◌, List, [], ◌∷◌, IfOk, OnOk};
-ghost use Rattle.explanations.specs.Groups.{Row, found_and, group_view, groups_view, is_named};
-ghost use Rattle.explanations.specs.Groups.{names, names_from};
+ghost use Rattle.explanations.specs.Groups.{Row, found_and, group_view, groups, groups_view};
+ghost use Rattle.explanations.specs.Groups.{is_named, names, names_from};
 ghost use Rattle.explanations.specs.Lists.{words_view};
 
 use crate::lists::all_among;
@@ -212,8 +212,8 @@ fn put_group(
     taken.extend_from_slice(group.1)
 }
 
-// The names of those of the groups that are named.
-fn names_of(
+/// The names of those of the groups that are named.
+pub(crate) fn names_of(
     alloc: Global,
     expected: &[&str],
     groups: &[(&'static str, &'static [&'static str])],
@@ -232,7 +232,8 @@ fn names_of(
 /// How the expected kinds are named.
 #[tactic(auto, unfolding(crate::specs::Groups::names))]
 pub(crate) fn names(alloc: Global, expected: &[&str]) -> Result<List<&'static str>, Memory>
-    ensures { IfOk result (λ found. words_view found ≡ names (words_view expected.now)) }
+    ensures { IfOk result (λ found. words_view found
+        ≡ names groups (words_view expected.now)) }
 {
     names_of(alloc, expected, &GROUPS)
 }

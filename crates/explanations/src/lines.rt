@@ -6,10 +6,8 @@ ghost use Rattle.explanations.specs.Explanations.{table_names, tables_line};
 ghost use Rattle.explanations.specs.Lists.{words_view};
 ghost use Rattle.explanations.specs.Words.{kind_words};
 
-use crate::groups::names;
 use crate::lists::{among, put_listed};
 use crate::words::kind_words;
-use diagnostics::TypingRule;
 use expected_tokens::TokenKind;
 use nq_model::{List, Memory, Schema};
 use std::alloc::Global;
@@ -48,16 +46,11 @@ pub(crate) fn put_found(text: &mut List<u8>, found: &str) -> Result<(), Memory>
 
 /// Puts the names of the expected kinds of tokens.
 #[tactic(auto, unfolding(crate::specs::Explanations::expected_line))]
-pub(crate) fn put_expected(
-    alloc: Global,
-    text: &mut List<u8>,
-    expected: &[&str],
-) -> Result<(), Memory>
-    ensures { OnOk result (text.new ≡ text.old ++ expected_line (words_view expected.now)) }
+pub(crate) fn put_expected(text: &mut List<u8>, said: &[&str]) -> Result<(), Memory>
+    ensures { OnOk result (text.new ≡ text.old ++ expected_line (words_view said.now)) }
 {
-    let names = names(alloc, expected)?;
     text.extend_from_slice(b"expected: ")?;
-    put_listed(text, " or ", names.as_slice())?;
+    put_listed(text, " or ", said)?;
     text.extend_from_slice(b"\n")
 }
 
@@ -93,16 +86,21 @@ pub(crate) fn put_name(text: &mut List<u8>, tables: &[&str], name: &str) -> Resu
     }
 }
 
-/// Puts the number of a typing rule, and a query that keeps it.
+/// Puts the number of a rule, and a text that keeps it.
 #[tactic(auto, unfolding(crate::specs::Explanations::rule_line))]
-pub(crate) fn put_rule(alloc: Global, text: &mut List<u8>, rule: TypingRule) -> Result<(), Memory>
-    ensures { OnOk result (text.new ≡ text.old ++ rule_line rule) }
+pub(crate) fn put_rule(
+    alloc: Global,
+    text: &mut List<u8>,
+    number: u64,
+    right: &str,
+) -> Result<(), Memory>
+    ensures { OnOk result (text.new ≡ text.old ++ rule_line number right.now) }
 {
-    let digits = rule.number().to_string(alloc)?;
+    let digits = number.to_string(alloc)?;
     text.extend_from_slice(b"rule: ")?;
     text.extend_from_slice(digits.as_bytes())?;
     text.extend_from_slice(b", kept by: ")?;
-    text.extend_from_slice(rule.right().as_bytes())?;
+    text.extend_from_slice(right.as_bytes())?;
     text.extend_from_slice(b"\n")
 }
 

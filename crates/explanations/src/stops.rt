@@ -1,11 +1,12 @@
 // Where a text ceases to be a query, names that no variable has, and tables that are missing.
 ghost use Rattle.std.specs.Prelude.{◌≡◌, IfOk, map};
 ghost use Rattle.explanations.specs.Explanations.{ExplainsMissing, ExplainsName, ExplainsStop};
-ghost use Rattle.explanations.specs.Explanations.{TokensIn, missing_text, stopped_text};
-ghost use Rattle.explanations.specs.Explanations.{unbound_text};
+ghost use Rattle.explanations.specs.Explanations.{TokensIn, missing_text, stop_text};
+ghost use Rattle.explanations.specs.Explanations.{stopped_text, unbound_text};
 ghost use Rattle.explanations.specs.Lists.{words_view};
 ghost use Rattle.explanations.specs.Words.{around, around_view, kind_words};
 
+use crate::groups::names;
 use crate::lines::{put_expected, put_found, put_name, put_nearest, put_tables, words_of};
 use crate::nearest::nearest;
 use crate::sentences::{name_sentence, stop_sentence};
@@ -31,6 +32,27 @@ fn tokens_in<'a>(alloc: Global, text: &'a [u8]) -> Result<Option<List<Token<'a>>
     }
 }
 
+/// The explanation where a text stops: what is said of it, what stands there, and the names of what
+/// is expected.
+#[tactic(auto, unfolding(crate::specs::Explanations::stop_text))]
+pub(crate) fn stop_text(
+    alloc: Global,
+    file: &[u8],
+    text: &[u8],
+    place: u64,
+    sentence: &str,
+    found: &str,
+    said: &[&str],
+) -> Result<List<u8>, Memory>
+    ensures { IfOk result (λ made. made ≡ stop_text file.now text.now place sentence.now
+        found.now (words_view said.now)) }
+{
+    let mut made = excerpt(alloc, file, text, place, sentence)?;
+    put_found(&mut made, found)?;
+    put_expected(&mut made, said)?;
+    Ok(made)
+}
+
 // The explanation where a text ceases to be a query, by what stands there and what is expected.
 #[tactic(auto, unfolding(crate::specs::Explanations::stopped_text))]
 fn stopped(
@@ -47,10 +69,16 @@ fn stopped(
 {
     let expected = words_of(alloc, kinds)?;
     let sentence = stop_sentence(kind, around, expected.as_slice());
-    let mut made = excerpt(alloc, file, text, place, sentence)?;
-    put_found(&mut made, around.found)?;
-    put_expected(alloc, &mut made, expected.as_slice())?;
-    Ok(made)
+    let said = names(alloc, expected.as_slice())?;
+    stop_text(
+        alloc,
+        file,
+        text,
+        place,
+        sentence,
+        around.found,
+        said.as_slice(),
+    )
 }
 
 /// The explanation where a text ceases to be a query.
@@ -121,20 +149,21 @@ pub(crate) fn explain_name(
     }
 }
 
-// The explanation of a name that no table has.
+/// The explanation where a name stands that no table has, and a rule asks for one.
 #[tactic(auto, unfolding(crate::specs::Explanations::missing_text))]
-fn missing(
+pub(crate) fn missing(
     alloc: Global,
     file: &[u8],
     text: &[u8],
     place: u64,
+    asks: &str,
     tables: &[&str],
     name: &str,
 ) -> Result<List<u8>, Memory>
     ensures { IfOk result (λ made. made
-        ≡ missing_text file.now text.now place (words_view tables.now) name.now) }
+        ≡ missing_text file.now text.now place asks.now (words_view tables.now) name.now) }
 {
-    let mut made = excerpt(alloc, file, text, place, TypingRule::Table.asks())?;
+    let mut made = excerpt(alloc, file, text, place, asks)?;
     put_tables(&mut made, tables)?;
     put_nearest(&mut made, nearest(tables, name))?;
     Ok(made)
@@ -153,7 +182,15 @@ pub(crate) fn explain_missing(
     match tokens_in(alloc, text)? {
         Some(tokens) => {
             let name = words_behind(tokens.as_slice(), place);
-            missing(alloc, file, text, place, tables, name)
+            missing(
+                alloc,
+                file,
+                text,
+                place,
+                TypingRule::Table.asks(),
+                tables,
+                name,
+            )
         }
         None => excerpt(alloc, file, text, place, TypingRule::Table.asks()),
     }

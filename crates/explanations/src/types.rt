@@ -34,7 +34,8 @@ fn put_behind(alloc: Global, text: &mut List<u8>, types: &[Ty]) -> Result<(), Me
 
 // Puts types one after the other.
 fn put_all(alloc: Global, text: &mut List<u8>, types: &[Ty]) -> Result<(), Memory>
-    ensures { OnOk result (text.new ≡ text.old ++ listed (codes " and ") (type_texts (types_found types.now))) }
+    ensures { OnOk result (text.new
+        ≡ text.old ++ listed (codes " and ") (type_texts (types_found types.now))) }
 {
     match types {
         [] => text.extend_from_slice(b"none"),

@@ -276,8 +276,8 @@ found: bool and text
 rule: 10, kept by: [1 == 2 || 1 == 3]
 ",
     ),
-    // What stood there: of two parts, of a record its labels, of a comprehension both its parts, and
-    // of a test that is well typed what stood behind it.
+    // What stands there: of a comparison both sides, of a record its labels, of a comprehension its
+    // source and its body, and of a choice all three parts.
     (
         "for (c <- table customers) where (c.id == '1') [c.name]",
         "q:1:40: You compare two ints, two bools or two texts. Of rows, compare the columns.
@@ -289,7 +289,8 @@ rule: 9, kept by: ['a' == 'b']
     ),
     (
         "for (o <- table orders) [o.total]",
-        "q:1:27: Before the dot stands a record that has the field. Take it of a row, not of a table.
+        "\
+q:1:27: Before the dot stands a record that has the field. Take it of a row, not of a table.
 for (o <- table orders) [o.total]
                           ^
 found: (customer: int, id: int)

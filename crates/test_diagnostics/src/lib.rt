@@ -8,6 +8,8 @@ mod expected;
 #[cfg(test)]
 mod explained;
 #[cfg(test)]
+mod explained_sql;
+#[cfg(test)]
 mod explained_tables;
 #[cfg(test)]
 mod places;

@@ -1,0 +1,116 @@
+-- The explanation of a fault of an SQL text: what is said of its place, the line of the place with
+-- a caret under it, and then lines that tell more.
+use Rattle.std.specs.Prelude.{◌≡◌, ℕ, ◌≤◌, ⊤, List, ◌++◌, ◌⊎◌, map, codes}
+use Rattle.std.specs.Prelude.{Option, Some, None, Result, Ok, Err}
+use Rattle.nq_model.specs.OpenLists.{Fault}
+use Rattle.nq_model.specs.declared.memory.Memory.{Memory}
+use Rattle.sql_profile.specs.Texts.{EndsOpen, HasTokens}
+use Rattle.sql_profile.specs.Tokens.{First, Token}
+use Rattle.sql_reader.specs.Symbols.{token_view}
+use Rattle.sql_reader.specs.declared.fault.SqlFault.{SqlFault}
+use Rattle.sql_reader.specs.declared.fault.SqlFault.TheVariants as code
+use Rattle.sql_reader.specs.declared.token.Token.{Token as Tokens}
+use Rattle.expected_sql_tokens.specs.Expected.{Expects}
+use Rattle.expected_sql_tokens.specs.declared.kinds.SqlTokenKind.{SqlTokenKind}
+use Rattle.diagnostics.specs.Excerpts.{excerpt_text}
+use Rattle.diagnostics.specs.ScopeRules.{scope_number, scope_asks, scope_right}
+use Rattle.diagnostics.specs.Sentences.{sql_sentence}
+use Rattle.diagnostics.specs.declared.scope_rules.ScopeRule.{ScopeRule}
+use Rattle.diagnostics.specs.declared.scope_rules.ScopeRule.TheVariants as rule
+use Rattle.diagnostics.specs.declared.sentences.SqlFaultKind.{SqlFaultKind}
+use Rattle.diagnostics.specs.declared.sentences.SqlFaultKind.TheVariants as sql
+use Rattle.explanations.specs.Explanations.{found_line, missing_text, nearest_line, rule_line}
+use Rattle.explanations.specs.Explanations.{stop_text, tables_line}
+use Rattle.explanations.specs.Groups.{names}
+use Rattle.explanations.specs.Nearest.{nearest}
+use Rattle.explanations.specs.SqlGroups.{sql_groups}
+use Rattle.explanations.specs.SqlHints.{sql_stop_sentence}
+use Rattle.explanations.specs.SqlPlaces.{place_sentence}
+use Rattle.explanations.specs.SqlWords.{name_at, sql_around, sql_kind_words}
+use Rattle.explanations.specs.Words.{Around}
+
+-- 1. what is written
+
+-- where the text ceases to be SQL that nq takes
+unfoldable pub sql_stopped_text : SqlFaultKind → List ℕ → List ℕ → ℕ → Around
+    → List (List ℕ) → List ℕ
+sql_stopped_text kind file text place there expected =
+    stop_text file text place (sql_stop_sentence kind there expected) there.found
+    (names sql_groups expected)
+
+-- of a scope rule
+unfoldable pub scope_text : List ℕ → List ℕ → ℕ → ScopeRule → List ℕ
+scope_text file text place broken =
+    excerpt_text file text place (scope_asks broken)
+    ++ rule_line (scope_number broken) (scope_right broken)
+
+-- of a name that no table has, which stands in no text
+unfoldable pub no_table_text : List ℕ → List (List ℕ) → List ℕ
+no_table_text name tables =
+    codes "No table of the schema has this name.\n"
+    ++ (found_line name ++ (tables_line tables ++ nearest_line (nearest tables name)))
+
+-- 2. what is explained
+
+-- Of a text that ceases to be SQL of this depth at a place: its tokens, and just the kinds of
+-- tokens with which an SQL text could have gone on there.
+pub record SqlStopped (d : ℕ) (kind : SqlFaultKind) (file text : List ℕ) (place : ℕ)
+    (made : List ℕ) : Type 0 where
+  pub tokens : List Token
+  pub cut : HasTokens First text tokens
+  pub kinds : List SqlTokenKind
+  pub expects : Expects d tokens kinds
+  pub is : made
+      ≡ sql_stopped_text kind file text place (sql_around place tokens) (map sql_kind_words kinds)
+
+-- the same, where the text does cease to be one there
+abbrev pub ExplainsSqlStop : ℕ → SqlFaultKind → List ℕ → List ℕ → ℕ → List ℕ
+    → Type 0
+ExplainsSqlStop d kind file text place made =
+    (fault : Fault) → EndsOpen First d text fault place
+    → SqlStopped d kind file text place made
+
+-- the tokens of a text, if it has any; want of memory is free
+abbrev pub SqlTokensIn : Result (Option (List Tokens)) Memory → List ℕ → Type 0
+SqlTokensIn (Ok (Some tokens)) text = HasTokens First text (map token_view tokens)
+SqlTokensIn (Ok None) text = (tokens : List Token) → HasTokens First text tokens → ⊥
+SqlTokensIn (Err e) text = ⊤
+
+-- the explanation of a fault of an SQL text of this depth; want of memory has none
+abbrev pub ExplainsSql : ℕ → List ℕ → List ℕ → SqlFault → List ℕ → Type 0
+ExplainsSql d file text code.Memory made = ⊥
+ExplainsSql d file text (code.NotUtf8 place) made =
+    made ≡ excerpt_text file text place (sql_sentence sql.NotUtf8)
+ExplainsSql d file text (code.Token place) made =
+    made ≡ excerpt_text file text place (place_sentence text place)
+ExplainsSql d file text (code.IntRange place) made =
+    made ≡ excerpt_text file text place (sql_sentence sql.IntRange)
+ExplainsSql d file text (code.Unexpected place) made =
+    ExplainsSqlStop d sql.Unexpected file text place made
+ExplainsSql d file text (code.Deep place) made = ExplainsSqlStop d sql.Deep file text place made
+
+-- of a source that is missing in a text that has tokens: its name stands at the place
+abbrev pub ExplainsSource : List ℕ → List ℕ → ℕ → List (List ℕ) → List ℕ
+    → Type 0
+ExplainsSource file text place tables made =
+    (tokens : List Token) → HasTokens First text tokens
+    → made ≡ missing_text file text place (scope_asks rule.Source) tables (name_at place tokens)
+
+-- the explanation of a scope rule that a text breaks, and of that of this number
+abbrev pub ExplainsBrokenScope : List ℕ → List ℕ → ℕ → List (List ℕ) → ScopeRule
+    → List ℕ → Type 0
+ExplainsBrokenScope file text place tables rule.Source made =
+    ExplainsSource file text place tables made
+ExplainsBrokenScope file text place tables broken made = made ≡ scope_text file text place broken
+
+abbrev pub ExplainsScopeRule : List ℕ → List ℕ → ℕ → List (List ℕ) → ℕ
+    → List ℕ → Type 0
+ExplainsScopeRule file text place tables number made =
+    (broken : ScopeRule) × (scope_number broken ≡ number)
+    × ExplainsBrokenScope file text place tables broken made
+
+-- the same, unless the number is that of no rule
+abbrev pub ExplainsScope : List ℕ → List ℕ → ℕ → List (List ℕ) → ℕ → List ℕ
+    → Type 0
+ExplainsScope file text place tables number made =
+    ExplainsScopeRule file text place tables number made ⊎ (1 ≤ number → 11 ≤ number)
