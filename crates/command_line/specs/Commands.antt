@@ -41,11 +41,19 @@ pub data Aim : Type 0 where
   show_natural : Aim
   show_texts : Showing → Aim
 
+-- what is explained over a schema: a query, or an SQL text, by its name; or the text of a table, by
+-- the name of the table and that of the folder
+pub data Subject : Type 0 where
+  a_query : List ℕ → Subject
+  an_sql_text : List ℕ → Subject
+  a_table : List ℕ → List ℕ → Subject
+
 -- a text on the program is written; or one on the forms that begin with a word; or a query is put
 -- to an aim: the names of a schema and of the query; or the rows of an SQL text are written in a
 -- way: the names of a schema, of the text and of a folder; or the summary of a query over generated
 -- tables of a size; or the script by which a database loads the tables of a schema; or the type of
--- a query, or what is wrong with it or with its schema: the names of both; or what a rule asks
+-- a subject, or what is wrong with it or with its schema: the name of the schema, and the subject;
+-- or what a rule asks
 pub data Command : Type 0 where
   help : Command
   help_on : Topic → Command
@@ -54,7 +62,7 @@ pub data Command : Type 0 where
   answer : RowWriting → List ℕ → List ℕ → List ℕ → Command
   generated : ℕ → Command
   show_load : Database → List ℕ → Command
-  explain : List ℕ → List ℕ → Command
+  explain : List ℕ → Subject → Command
   explain_rule : Rule → Command
 
 -- `--help` or `--version`
@@ -73,13 +81,14 @@ two_words word what =
 abbrev pub of_explain : List ℕ → List ℕ → Option Command
 of_explain schema query =
     cond (bytes_eq schema (codes "rule")) (option_map explain_rule (typing_of query))
-    (Some (explain schema query))
+    (Some (explain schema (a_query query)))
 
--- what it makes of `sql rule N`
+-- what it makes of `sql rule N`; or of `sql SCHEMA SQLFILE`
 abbrev pub of_explain_sql : List ℕ → List ℕ → List ℕ → Option Command
-of_explain_sql what kind number =
+of_explain_sql what schema text =
     cond (bytes_eq what (codes "sql"))
-    (cond (bytes_eq kind (codes "rule")) (option_map explain_rule (scope_of number)) None) None
+    (cond (bytes_eq schema (codes "rule")) (option_map explain_rule (scope_of text))
+    (Some (explain schema (an_sql_text text)))) None
 
 -- `check SCHEMA QUERY`; or a form of `explain`
 abbrev pub three_words : List ℕ → List ℕ → List ℕ → Option Command
@@ -143,12 +152,19 @@ abbrev pub as_natural : List ℕ → List ℕ → List ℕ → List ℕ → Opti
 as_natural word schema query folder =
     cond (bytes_eq word (codes "run")) (Some (of_query (run_natural folder) schema query)) None
 
+-- what `table` makes of `explain` with its three names
+abbrev pub as_table : List ℕ → List ℕ → List ℕ → List ℕ → Option Command
+as_table word schema table folder =
+    cond (bytes_eq word (codes "explain")) (Some (explain schema (a_table table folder))) None
+
 -- `run json SCHEMA QUERY DIR`, `lineage json SCHEMA QUERY DIR`, `answer json SCHEMA SQLFILE DIR` or
--- `stitch json SCHEMA QUERY DIR`; or `run natural SCHEMA QUERY DIR`
+-- `stitch json SCHEMA QUERY DIR`; or `run natural SCHEMA QUERY DIR`; or
+-- `explain table SCHEMA TABLE DIR`
 abbrev pub five_words : List ℕ → List ℕ → List ℕ → List ℕ → List ℕ → Option Command
 five_words word form schema text folder =
     cond (bytes_eq form (codes "json")) (as_json word schema text folder)
-    (cond (bytes_eq form (codes "natural")) (as_natural word schema text folder) None)
+    (cond (bytes_eq form (codes "natural")) (as_natural word schema text folder)
+    (cond (bytes_eq form (codes "table")) (as_table word schema text folder) None))
 
 -- what `tables` makes of `run json` with its three names
 abbrev pub over_tables : List ℕ → List ℕ → List ℕ → List ℕ → List ℕ → Option Command
@@ -206,5 +222,5 @@ asks_server (Some (of_query aim schema query)) = aim_asks aim
 asks_server (Some (answer writing schema text folder)) = true
 asks_server (Some (generated size)) = true
 asks_server (Some (show_load database schema)) = false
-asks_server (Some (explain schema query)) = false
+asks_server (Some (explain schema subject)) = false
 asks_server (Some (explain_rule rule)) = false

@@ -40,8 +40,10 @@ topic_forms topic.Check =
     codes "nq check SCHEMA QUERY                writes ok where the query is accepted\n"
 topic_forms topic.Explain =
     codes "nq explain SCHEMA QUERY              writes its type, or explains its first fault\n"
+    ++ (codes "nq explain sql SCHEMA SQLFILE        writes its columns, or explains a fault\n"
+    ++ (codes "nq explain table SCHEMA TABLE DIR    writes its type, or explains a fault\n"
     ++ (codes "nq explain rule N                    writes what typing rule N asks, with examples\n"
-    ++ codes "nq explain sql rule N                writes what rule N of SQL texts asks\n")
+    ++ codes "nq explain sql rule N                writes what rule N of SQL texts asks\n")))
 topic_forms topic.Show =
     codes "nq show types SCHEMA QUERY           writes the type of the query\n"
     ++ (codes "nq show normal SCHEMA QUERY          writes the normal form of the query\n"
@@ -92,11 +94,13 @@ topic_examples topic.Check =
     ++ (codes "\n"
     ++ codes "nq check org staff\n")
 topic_examples topic.Explain =
-    codes "Examples, in the folder examples/company:\n"
+    codes "Examples, in the folder examples/shop:\n"
     ++ (codes "\n"
-    ++ (codes "nq explain org staff\n"
+    ++ (codes "nq explain shop refused/equals\n"
+    ++ (codes "nq explain sql shop refused/star.sql\n"
+    ++ (codes "nq explain table shop customers refused/data\n"
     ++ (codes "nq explain rule 20\n"
-    ++ codes "nq explain sql rule 4\n")))
+    ++ codes "nq explain sql rule 4\n")))))
 topic_examples topic.Show =
     codes "Examples, in the folder examples/company:\n"
     ++ (codes "\n"

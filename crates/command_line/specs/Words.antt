@@ -5,12 +5,14 @@ use Rattle.command_line.specs.Commands.{lineage, stitch, stitch_json, check, sho
 use Rattle.command_line.specs.Commands.{show_normal, show_paths, show_natural, show_texts}
 use Rattle.command_line.specs.Commands.{Command, help, help_on}
 use Rattle.command_line.specs.Commands.{version, of_query, answer, generated, show_load, explain}
-use Rattle.command_line.specs.Commands.{explain_rule}
+use Rattle.command_line.specs.Commands.{explain_rule, Subject, a_query, an_sql_text, a_table}
 use Rattle.generated_inputs.specs.Sizes.{IsSize}
 use Rattle.command_line.specs.declared.words.Aim.{Aim as Aims}
 use Rattle.command_line.specs.declared.words.Aim.TheVariants as aim
 use Rattle.command_line.specs.declared.words.Command.{Command as Words}
 use Rattle.command_line.specs.declared.words.Command.TheVariants as words
+use Rattle.command_line.specs.declared.words.Subject.{Subject as Subjects}
+use Rattle.command_line.specs.declared.words.Subject.TheVariants as subject
 use Rattle.command_line.specs.declared.words.Showing.{Showing as Showings}
 use Rattle.command_line.specs.declared.words.Showing.TheVariants as shown
 use Rattle.nq_execute.specs.Plans.{row_writing_view}
@@ -35,6 +37,11 @@ aim_view aim.ShowPaths = show_paths
 aim_view aim.ShowNatural = show_natural
 aim_view (aim.ShowTexts showing) = show_texts (showing_view showing)
 
+abbrev pub subject_view : Subjects → Subject
+subject_view (subject.Query name) = a_query name.now
+subject_view (subject.Sql name) = an_sql_text name.now
+subject_view (subject.Table name folder) = a_table name.now folder.now
+
 abbrev pub command_view : Words → Command
 command_view words.Help = help
 command_view (words.HelpOn topic) = help_on topic
@@ -44,7 +51,7 @@ command_view (words.Answer writing schema text folder) =
     answer (row_writing_view writing) schema.now text.now folder.now
 command_view (words.Generated size) = generated size
 command_view (words.ShowLoad database schema) = show_load database schema.now
-command_view (words.Explain schema query) = explain schema.now query.now
+command_view (words.Explain schema subject) = explain schema.now (subject_view subject)
 command_view (words.ExplainRule rule) = explain_rule rule
 
 -- a size is one for which tables are generated
@@ -56,5 +63,5 @@ HasSize (words.OfQuery aim schema query) = ⊤
 HasSize (words.Answer writing schema text folder) = ⊤
 HasSize (words.Generated size) = IsSize size
 HasSize (words.ShowLoad database schema) = ⊤
-HasSize (words.Explain schema query) = ⊤
+HasSize (words.Explain schema subject) = ⊤
 HasSize (words.ExplainRule rule) = ⊤

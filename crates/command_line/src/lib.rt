@@ -21,4 +21,4 @@ pub use paths::paths_text;
 pub use refusal::{InputRefusal, Refusal, Refused};
 pub use status::status_of;
 pub use topics::{Topic, topic_text};
-pub use words::{Aim, Command, Showing, command_of};
+pub use words::{Aim, Command, Showing, Subject, command_of};

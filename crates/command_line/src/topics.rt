@@ -98,6 +98,8 @@ nq check SCHEMA QUERY                writes ok where the query is accepted
             Topic::Explain => {
                 "\
 nq explain SCHEMA QUERY              writes its type, or explains its first fault
+nq explain sql SCHEMA SQLFILE        writes its columns, or explains a fault
+nq explain table SCHEMA TABLE DIR    writes its type, or explains a fault
 nq explain rule N                    writes what typing rule N asks, with examples
 nq explain sql rule N                writes what rule N of SQL texts asks
 "
@@ -186,9 +188,11 @@ nq check org staff
             }
             Topic::Explain => {
                 "\
-Examples, in the folder examples/company:
+Examples, in the folder examples/shop:
 
-nq explain org staff
+nq explain shop refused/equals
+nq explain sql shop refused/star.sql
+nq explain table shop customers refused/data
 nq explain rule 20
 nq explain sql rule 4
 "

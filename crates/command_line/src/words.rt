@@ -2,7 +2,7 @@
 ghost use Rattle.std.specs.Prelude.{◌≡◌, IfSome, map, option_map, string_bytes};
 ghost use Rattle.command_line.specs.Commands.{one_word, two_words, three_words, database_of, shown};
 ghost use Rattle.command_line.specs.Commands.{of_explain, of_explain_sql, of_show, four_words};
-ghost use Rattle.command_line.specs.Commands.{as_json, as_natural, five_words};
+ghost use Rattle.command_line.specs.Commands.{as_json, as_natural, as_table, five_words};
 ghost use Rattle.command_line.specs.Commands.{over_tables, as_script, six_words, command_of};
 ghost use Rattle.command_line.specs.Words.{HasSize, aim_view, command_view};
 
@@ -57,6 +57,17 @@ pub enum Aim<'a> {
     ShowTexts(Showing<'a>),
 }
 
+/// What is explained over a schema.
+#[derive(Clone, Copy)]
+pub enum Subject<'a> {
+    /// The query of this name.
+    Query(&'a str),
+    /// The SQL text of this name.
+    Sql(&'a str),
+    /// The text of the table of this name, in the folder of this name.
+    Table(&'a str, &'a str),
+}
+
 /// What the words ask for.
 #[derive(Drop)]
 pub enum Command<'a> {
@@ -73,8 +84,8 @@ pub enum Command<'a> {
     Generated(u64),
     /// A database, and the name of the schema whose tables it is to load.
     ShowLoad(Database, &'a str),
-    /// The names of the schema and of the query, whose type or whose first fault is explained.
-    Explain(&'a str, &'a str),
+    /// The name of a schema, and the subject whose type or whose first fault is explained.
+    Explain(&'a str, Subject<'a>),
     /// What a rule asks, with examples.
     ExplainRule(Rule),
 }
@@ -119,7 +130,7 @@ fn of_explain<'a>(schema: &'a str, query: &'a str) -> Option<Command<'a>>
     ensures sized { IfSome result HasSize }
 {
     if schema != "rule" {
-        return Some(Command::Explain(schema, query));
+        return Some(Command::Explain(schema, Subject::Query(query)));
     }
     match typing_of(query) {
         Some(rule) => Some(Command::ExplainRule(rule)),
@@ -128,18 +139,18 @@ fn of_explain<'a>(schema: &'a str, query: &'a str) -> Option<Command<'a>>
 }
 
 // What it makes of three.
-fn of_explain_sql<'a>(what: &str, kind: &str, number: &str) -> Option<Command<'a>>
+fn of_explain_sql<'a>(what: &str, schema: &'a str, text: &'a str) -> Option<Command<'a>>
     ensures is { option_map command_view result
-        ≡ of_explain_sql what.now kind.now number.now }
+        ≡ of_explain_sql what.now schema.now text.now }
     ensures sized { IfSome result HasSize }
 {
     if what != "sql" {
         return None;
     }
-    if kind != "rule" {
-        return None;
+    if schema != "rule" {
+        return Some(Command::Explain(schema, Subject::Sql(text)));
     }
-    match scope_of(number) {
+    match scope_of(text) {
         Some(rule) => Some(Command::ExplainRule(rule)),
         None => None,
     }
@@ -278,6 +289,19 @@ fn as_natural<'a>(
     }
 }
 
+// What `table` makes of `explain` with its three names.
+fn as_table<'a>(word: &str, schema: &'a str, table: &'a str, folder: &'a str) -> Option<Command<'a>>
+    ensures is { option_map command_view result
+        ≡ as_table word.now schema.now table.now folder.now }
+    ensures sized { IfSome result HasSize }
+{
+    if word == "explain" {
+        Some(Command::Explain(schema, Subject::Table(table, folder)))
+    } else {
+        None
+    }
+}
+
 // The command of five words.
 fn five_words<'a>(
     word: &str,
@@ -294,6 +318,8 @@ fn five_words<'a>(
         as_json(word, schema, text, folder)
     } else if form == "natural" {
         as_natural(word, schema, text, folder)
+    } else if form == "table" {
+        as_table(word, schema, text, folder)
     } else {
         None
     }

@@ -71,6 +71,8 @@ mod drop_tests;
 #[cfg(test)]
 mod example_tests;
 #[cfg(test)]
+mod explain_file_tests;
+#[cfg(test)]
 mod explain_tests;
 #[cfg(test)]
 mod first_tries_tests;

@@ -48,6 +48,8 @@ nq stitch json SCHEMA QUERY DIR      writes the value of answers as JSON
 nq gen N                             writes a summary over tables of size N
 nq check SCHEMA QUERY                writes ok where the query is accepted
 nq explain SCHEMA QUERY              writes its type, or explains its first fault
+nq explain sql SCHEMA SQLFILE        writes its columns, or explains a fault
+nq explain table SCHEMA TABLE DIR    writes its type, or explains a fault
 nq explain rule N                    writes what typing rule N asks, with examples
 nq explain sql rule N                writes what rule N of SQL texts asks
 nq show types SCHEMA QUERY           writes the type of the query

@@ -1,4 +1,4 @@
--- What is explained of a schema and of a query.
+-- What is explained of a schema, of a query and of an SQL text.
 use Rattle.std.proofs.Common.{◌≡◌, ℕ, List, [], ◌∷◌, Result, Ok, Err}
 use Rattle.std.proofs.Common.{Some, None, Option, IfOk, IfSome, ap, sym, subst}
 use Rattle.nq_edge.specs.Edge.{Files, bytes_at, TellsMore}
@@ -17,14 +17,15 @@ use Rattle.schema_reader.specs.declared.fault.SchemaFault.{SchemaFault}
 use Rattle.schema_reader.specs.declared.fault.SchemaFault.TheVariants as code
 use Rattle.explanations.specs.Explanations.{ExplainsSchema, ExplainsSyntax, ExplainsType}
 use Rattle.explanations.specs.Explanations.{table_names}
+use Rattle.command_line.specs.Commands.{Subject}
 use Rattle.command_line.specs.declared.refusal.InputRefusal.{InputRefusal}
 use Rattle.command_line.specs.declared.refusal.Refused.{Refused}
 use Rattle.command_line.specs.declared.refusal.Refused.TheVariants.{Schema as SchemaRefused}
 use Rattle.command_line.specs.declared.refusal.Refused.TheVariants.{Query as QueryRefused}
-use Rattle.nq_top.specs.Explaining.{ExplainsRefused}
+use Rattle.nq_top.specs.Explaining.{ExplainsRefused, text_refused}
 use Rattle.nq_top.specs.Gathering.{Told}
 use Rattle.nq_top.specs.Judging.{Judgement, Verdict, after, at_once, explained, fetched_then}
-use Rattle.nq_top.specs.Judging.{explain_judged, query_explained, schema_explained}
+use Rattle.nq_top.specs.Judging.{explain_judged, schema_explained, subject_explained}
 use Rattle.nq_top.specs.Judging.{type_or_cause, typed_or_explained}
 use Rattle.nq_top.specs.Limits.{depth_limit, text_limit}
 use Rattle.nq_top.specs.Lines.{type_line}
@@ -41,7 +42,7 @@ use Rattle.nq_top.proofs.Steps.{fetch_next, gather_through, leads_after}
 -- 1. refusals
 
 -- why a text is refused, and that this explains it
-abbrev Why : {A : Type 0} → Result A Refused → List ℕ → List ℕ → List (List ℕ)
+abbrev pub Why : {A : Type 0} → Result A Refused → List ℕ → List ℕ → List (List ℕ)
     → List ℕ → Type 0
 Why given name text tables made =
     (r : Refused) × (given ≡ Err r) × ExplainsRefused name text tables [] r made
@@ -162,89 +163,103 @@ fault_if_ok schema name text fault (Err e) parsed says = tt
 -- 3. what was fetched
 
 -- a text that was fetched is judged by what comes next
-pub text_goes : (held mid_held : Option Files) (name text bytes : List ℕ)
+pub text_goes : (limit : ℕ) (held mid_held : Option Files) (name text bytes : List ℕ)
     (next : Reading → Files → List ℕ → Judgement) (old mid new : Told)
     (result : Result Gathered InputRefusal) → bytes ≡ text → mid_held ≡ held
-    → IfSome held (λ files. FetchedWithin (bytes_at files name) text_limit text)
+    → IfSome held (λ files. FetchedWithin (bytes_at files name) limit text)
     → TellsMore old mid (name ∷ [])
     → IfSome mid_held (λ files. (reading : Reading)
     → GatherTells (next reading files bytes) mid new result)
     → IfSome held (λ files. (reading : Reading)
-    → GatherTells (fetched_then files name text_limit (next reading files)) old new result)
-text_goes None mid_held name text bytes next old mid new result same held within told tells = tt
-text_goes (Some files) mid_held name text bytes next old mid new result same held within told
+    → GatherTells (fetched_then files name limit (next reading files)) old new result)
+text_goes limit None mid_held name text bytes next old mid new result same held within told
+    tells = tt
+text_goes limit (Some files) mid_held name text bytes next old mid new result same held within told
     tells = λ reading.
     let H : Option Files → Type 0 = λ h. IfSome h (λ fs. (r : Reading)
     → GatherTells (next r fs bytes) mid new result) in
     let T : List ℕ → Type 0 = λ t. GatherTells (next reading files t) mid new result in
     let P : Judgement → Type 0 = λ j. GatherTells j old new result in
-    subst P (sym (fetch_next files name text_limit (next reading files) text within))
+    subst P (sym (fetch_next files name limit (next reading files) text within))
     (gather_through (after name (next reading files text)) (next reading files text) old mid new
     result (leads_after name (next reading files text) old mid told)
     (subst T same (subst H held tells reading)))
 
 -- a text that is said of it
-pub text_says : (held : Option Files) (name text bytes : List ℕ)
+pub text_says : (limit : ℕ) (held : Option Files) (name text bytes : List ℕ)
     (verdict : Reading → List ℕ → Verdict) (old new : Told) (made : List ℕ)
     → bytes ≡ text
-    → IfSome held (λ files. FetchedWithin (bytes_at files name) text_limit text)
+    → IfSome held (λ files. FetchedWithin (bytes_at files name) limit text)
     → TellsMore old new (name ∷ [])
     → ((reading : Reading) → Says (verdict reading bytes) made)
     → IfSome held (λ files. (reading : Reading)
-    → GatherTells (fetched_then files name text_limit (λ t. at_once (verdict reading t))) old new
+    → GatherTells (fetched_then files name limit (λ t. at_once (verdict reading t))) old new
     (Ok (gathered.Text made)))
-text_says None name text bytes verdict old new made same within told says = tt
-text_says (Some files) name text bytes verdict old new made same within told says = λ reading.
+text_says limit None name text bytes verdict old new made same within told says = tt
+text_says limit (Some files) name text bytes verdict old new made same within told says =
+    λ reading.
     let next : List ℕ → Judgement = λ t. at_once (verdict reading t) in
     let P : Judgement → Type 0 = λ j. GatherTells j old new (Ok (gathered.Text made)) in
     let T : List ℕ → Type 0 = λ t. Says (verdict reading t) made in
-    subst P (sym (fetch_next files name text_limit next text within)) (record {
+    subst P (sym (fetch_next files name limit next text within)) (record {
       comes_to = subst T same (says reading);
       fetched = told;
     })
 
+-- what is told of a subject is told of what the program has for it
+pub at_subject : (subject given : Subject) (held : Option Files) (schema : Schema) (old new : Told)
+    (result : Result Gathered InputRefusal) → subject ≡ given
+    → IfSome held (λ files. (reading : Reading)
+    → GatherTells (subject_explained reading files schema given) old new result)
+    → IfSome held (λ files. (reading : Reading)
+    → GatherTells (subject_explained reading files schema subject) old new result)
+at_subject subject given held schema old new result is tells =
+    let P : Subject → Type 0 = λ s. IfSome held (λ files. (reading : Reading)
+    → GatherTells (subject_explained reading files schema s) old new result) in
+    subst P (sym is) tells
+
 -- 4. schemas
 
 -- the query is judged over the schema that was read
-pub schema_goes : (held : Option Files) (query name text : List ℕ) (schema : Schema)
-    (old new : Told) (result : Result Gathered InputRefusal)
+pub schema_goes : (held : Option Files) (subject : Subject) (name text : List ℕ)
+    (schema : Schema) (old new : Told) (result : Result Gathered InputRefusal)
     → ((reading : SchemaReading) → schema_read reading text ≡ Ok schema)
     → IfSome held (λ files. (reading : Reading)
-    → GatherTells (query_explained reading files schema query) old new result)
+    → GatherTells (subject_explained reading files schema subject) old new result)
     → IfSome held (λ files. (reading : Reading)
-    → GatherTells (schema_explained reading files query name text
+    → GatherTells (schema_explained reading files subject name text
     (schema_read reading.schemas text)) old new result)
-schema_goes None query name text schema old new result read tells = tt
-schema_goes (Some files) query name text schema old new result read tells = λ reading.
+schema_goes None subject name text schema old new result read tells = tt
+schema_goes (Some files) subject name text schema old new result read tells = λ reading.
     let P : Result Schema Refused → Type 0 = λ r.
-    GatherTells (schema_explained reading files query name text r) old new result in
+    GatherTells (schema_explained reading files subject name text r) old new result in
     subst P (sym (read reading.schemas)) (tells reading)
 
 -- or its fault is explained
-pub schema_faulty : (held : Option Files) (query name file text bytes : List ℕ)
+pub schema_faulty : (held : Option Files) (subject : Subject) (name file text bytes : List ℕ)
     (fault : SchemaFault) (made : List ℕ) (old new : Told) → bytes ≡ text → file ≡ name
     → IfSome held (λ files. FetchedWithin (bytes_at files name) text_limit text)
     → TellsMore old new (name ∷ [])
     → ((reading : SchemaReading) → Refuses (schema_read reading bytes) (schema_refusal fault))
     → ExplainsSchema file bytes fault made
     → IfSome held (λ files. (reading : Reading)
-    → GatherTells (explain_judged reading files name query) old new (Ok (gathered.Text made)))
-schema_faulty None query name file text bytes fault made old new same named within told refuses
+    → GatherTells (explain_judged reading files name subject) old new (Ok (gathered.Text made)))
+schema_faulty None subject name file text bytes fault made old new same named within told refuses
     says = tt
-schema_faulty (Some files) query name file text bytes fault made old new same named within told
+schema_faulty (Some files) subject name file text bytes fault made old new same named within told
     refuses says = λ reading.
     let N : List ℕ → Type 0 = λ n. ExplainsSchema n bytes fault made in
     let why = why_schema (schema_read reading.schemas bytes) name bytes fault made
     (refuses reading.schemas) (subst N named says) in
     let next : List ℕ → Judgement = λ t.
-    schema_explained reading files query name t (schema_read reading.schemas t) in
-    let is : next bytes ≡ at_once (explained (record {
+    schema_explained reading files subject name t (schema_read reading.schemas t) in
+    let is : next bytes ≡ at_once (explained (text_refused (record {
       name = name;
       text = bytes;
       tables = [];
       found = [];
       why = why.0;
-    })) = ap (schema_explained reading files query name bytes) why.1 in
+    }))) = ap (schema_explained reading files subject name bytes) why.1 in
     let P : Judgement → Type 0 = λ j. GatherTells j old new (Ok (gathered.Text made)) in
     let A : Judgement → Type 0 = λ j. P (after name j) in
     let T : List ℕ → Type 0 = λ t. A (next t) in

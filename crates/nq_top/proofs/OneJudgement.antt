@@ -6,9 +6,10 @@ use Rattle.command_line.specs.Commands.{stitch, stitch_json, check, show_types, 
 use Rattle.command_line.specs.Commands.{show_paths, show_natural, show_texts, Command, help}
 use Rattle.command_line.specs.Commands.{help_on}
 use Rattle.command_line.specs.Commands.{version, of_query, answer, generated, show_load, explain}
-use Rattle.command_line.specs.Commands.{explain_rule}
+use Rattle.command_line.specs.Commands.{explain_rule, Subject, a_query, an_sql_text, a_table}
 use Rattle.command_line.specs.declared.refusal.Refused.{Refused}
 use Rattle.command_line.specs.declared.refusal.Refused.TheVariants.{TooLong, Query as QueryRefused, Schema as SchemaRefused}
+use Rattle.nq_model.specs.Tables.{Columns}
 use Rattle.nq_model.specs.Terms.{PlacedTerm, bare}
 use Rattle.nq_model.specs.Types.{TypeTree}
 use Rattle.nq_model.specs.Typing.{IsAccepted}
@@ -29,12 +30,14 @@ use Rattle.nq_top.specs.Judging.{Judgement, Verdict, refused, planned, written, 
 use Rattle.nq_top.specs.Judging.{linked, at_once, after, judged, fetched_then, read_then, text_then}
 use Rattle.nq_top.specs.Judging.{loaded_as, tables_judged, answers_then, draft_judged}
 use Rattle.nq_top.specs.Judging.{stitch_judged, aim_judged, typed_or_explained}
-use Rattle.nq_top.specs.Judging.{schema_explained, judgement}
+use Rattle.nq_top.specs.Judging.{columns_or_cause, schema_explained, subject_explained}
+use Rattle.nq_top.specs.Judging.{judgement}
 use Rattle.nq_top.specs.Limits.{text_limit, tables_limit}
 use Rattle.nq_top.specs.Lines.{file_by, answer_file_of}
 use Rattle.nq_top.specs.Natural.{Natural, keyed_as, natural_draft, natural_of, natural_read}
 use Rattle.nq_top.specs.Plans.{Draft, drafted, Question, draft_to, question_to}
 use Rattle.nq_top.specs.Plans.{generated_question}
+use Rattle.nq_top.specs.Reading.{columns_over, columns_read}
 use Rattle.nq_top.specs.Reading.{Reading, TypedTerm, refused_as, schema_read, term_read, type_read, typed_as, typed_over, query_read, sql_read, tree_read, rows_read, answer_read, links_read}
 use Rattle.natural_index.specs.Naming.{no_key}
 use Rattle.nq_ir.specs.Trees.{FormTree}
@@ -204,24 +207,40 @@ module _ (reading other : Reading) where
   unfolding sql_read
   sql_same schema text = ap (tree_read schema text) (one_sql reading other text)
 
-  -- and one explanation of a query and of a schema
-  schema_explained_same : (files : Files) (query name text : List ℕ)
-      (given : Result Schema Refused)
-      → schema_explained reading files query name text given
-      ≡ schema_explained other files query name text given
-  schema_explained_same files query name text (Err r) = refl
-  schema_explained_same files query name text (Ok schema) =
-      fetched_same files query text_limit _ _
-      (λ asked. ap
-      (λ (r : Result PlacedTerm Refused). at_once (typed_or_explained schema query asked r))
-      (term_same asked))
+  columns_same : (schema : Schema) (text : List ℕ)
+      → columns_read reading.sqls schema text ≡ columns_read other.sqls schema text
+  unfolding columns_read
+  columns_same schema text = ap (columns_over schema) (one_sql reading other text)
 
-  explain_same : (files : Files) (schema query : List ℕ) (text : List ℕ)
-      → schema_explained reading files query schema text (schema_read reading.schemas text)
-      ≡ schema_explained other files query schema text (schema_read other.schemas text)
-  explain_same files schema query text =
-      schema_explained_same files query schema text (schema_read reading.schemas text)
-      ∙ ap (schema_explained other files query schema text) (schema_same text)
+  -- and one explanation of a subject and of a schema
+  subject_same : (files : Files) (schema : Schema) (subject : Subject)
+      → subject_explained reading files schema subject
+      ≡ subject_explained other files schema subject
+  subject_same files schema (a_query name) =
+      fetched_same files name text_limit _ _
+      (λ asked. ap
+      (λ (r : Result PlacedTerm Refused). at_once (typed_or_explained schema name asked r))
+      (term_same asked))
+  subject_same files schema (an_sql_text name) =
+      fetched_same files name text_limit _ _
+      (λ asked. ap
+      (λ (r : Result Columns Refused). at_once (columns_or_cause schema name asked r))
+      (columns_same schema asked))
+  subject_same files schema (a_table table folder) = refl
+
+  schema_explained_same : (files : Files) (subject : Subject) (name text : List ℕ)
+      (given : Result Schema Refused)
+      → schema_explained reading files subject name text given
+      ≡ schema_explained other files subject name text given
+  schema_explained_same files subject name text (Err r) = refl
+  schema_explained_same files subject name text (Ok schema) = subject_same files schema subject
+
+  explain_same : (files : Files) (schema : List ℕ) (subject : Subject) (text : List ℕ)
+      → schema_explained reading files subject schema text (schema_read reading.schemas text)
+      ≡ schema_explained other files subject schema text (schema_read other.schemas text)
+  explain_same files schema subject text =
+      schema_explained_same files subject schema text (schema_read reading.schemas text)
+      ∙ ap (schema_explained other files subject schema text) (schema_same text)
 
   generated_typed : IsAccepted generated_schema (bare generated_query) generated_type
   unfolding generated_schema generated_query generated_type
@@ -240,7 +259,7 @@ module _ (reading other : Reading) where
       (λ text found is. text_same files name _ _ _ _ (sql_same found) (λ asked columns scoped. refl))
   one_judgement (Some (show_load database schema)) files = text_same files schema _ _ _ _ schema_same (λ text found is. refl)
   one_judgement (Some (explain_rule rule)) files = refl
-  one_judgement (Some (explain schema query)) files =
-      fetched_same files schema text_limit _ _ (explain_same files schema query)
+  one_judgement (Some (explain schema subject)) files =
+      fetched_same files schema text_limit _ _ (explain_same files schema subject)
   one_judgement (Some (generated size)) files =
       ap (λ (draft : Draft). at_once (planned (drafted draft (generated_tables size)) generated_question)) (draft_same Writing.summary generated_schema generated_query generated_type generated_typed)

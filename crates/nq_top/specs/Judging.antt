@@ -7,7 +7,9 @@ use Rattle.nq_model.specs.declared.table.Schema.{Schema}
 use Rattle.nq_model.specs.declared.table.TableShape.{TableShape}
 use Rattle.nq_edge.specs.Edge.{Files, bytes_at}
 use Rattle.nq_ir.specs.Paths.{paths}
-use Rattle.nq_model.specs.Terms.{PlacedTerm}
+use Rattle.nq_model.specs.Tables.{Columns, names_of, types_of}
+use Rattle.nq_model.specs.Terms.{PlacedNode, PlacedTerm, at}
+use Rattle.nq_model.specs.Typing.{shape_named}
 use Rattle.nq_model.specs.Types.{TypeTree}
 use Rattle.database_scripts.specs.Loads.{load_text}
 use Rattle.diagnostics.specs.RuleTexts.{rule_text}
@@ -19,7 +21,7 @@ use Rattle.command_line.specs.Commands.{lineage, stitch, stitch_json, check, sho
 use Rattle.command_line.specs.Commands.{show_normal, show_paths, show_natural, show_texts}
 use Rattle.command_line.specs.Commands.{Command, help, help_on}
 use Rattle.command_line.specs.Commands.{version, of_query, answer, generated, show_load, explain}
-use Rattle.command_line.specs.Commands.{explain_rule}
+use Rattle.command_line.specs.Commands.{explain_rule, Subject, a_query, an_sql_text, a_table}
 use Rattle.command_line.specs.Help.{help_text, version_text}
 use Rattle.command_line.specs.Topics.{topic_text}
 use Rattle.command_line.specs.Paths.{paths_text}
@@ -29,17 +31,22 @@ use Rattle.nq_execute.specs.Plans.{Writing, RowWriting, Plan}
 use Rattle.nq_execute.specs.declared.plan.TraceWriting.{TraceWriting}
 use Rattle.lineage_compile.specs.Tables.{with_numbers}
 use Rattle.explanations.specs.Explanations.{table_names}
-use Rattle.nq_top.specs.Explaining.{Explained}
+use Rattle.explanations.specs.SqlColumns.{columns_line}
+use Rattle.explanations.specs.SqlExplanations.{no_table_text}
+use Rattle.nq_top.specs.Explaining.{Explained, table_refused, text_refused}
 use Rattle.nq_top.specs.Foreign.{Foreign, foreign_to}
 use Rattle.nq_top.specs.Limits.{text_limit, tables_limit}
 use Rattle.nq_top.specs.Lines.{file_by, answer_file_of, accepted_line, type_line}
 use Rattle.nq_top.specs.Natural.{Natural, natural_draft, natural_read}
 use Rattle.nq_top.specs.Plans.{Draft, drafted, Question, draft_to, question_to, sql_draft, generated_plan, generated_question}
-use Rattle.nq_top.specs.Reading.{PlainReading, Reading, TypedTerm, SqlColumns, schema_read, term_read}
+use Rattle.nq_top.specs.Reading.{PlainReading, Reading, TypedTerm, SqlColumns}
+use Rattle.nq_top.specs.Reading.{schema_read, term_read}
 use Rattle.nq_top.specs.Reading.{query_read, rows_read, sql_read, answer_read, links_read}
-use Rattle.nq_top.specs.Reading.{found_over, typed_over}
+use Rattle.nq_top.specs.Reading.{columns_read, found_over, typed_over}
 use Rattle.nq_top.specs.Shown.{Shown, shown_form, form_line, shown_texts}
 use Rattle.nq_top.specs.Traced.{lineage_draft}
+use Rattle.table_reader.specs.Tables.{table_of}
+use Rattle.table_reader.specs.declared.TableFault.{TableFault}
 use Rattle.nq_top.specs.declared.tables.TableTexts.{TableTexts}
 use Rattle.nq_top.specs.declared.tables.TableTexts.TheVariants.{Csv, Json}
 
@@ -208,19 +215,20 @@ rows_judged writing files folder schema asked =
 
 -- the line of the type of a query over a schema, or what explains why its text is refused, where
 -- these types are found
-abbrev pub type_or_cause : Schema → List ℕ → List ℕ → List TypeTree → Result TypedTerm Refused
-    → Verdict
+abbrev pub type_or_cause : Schema → List ℕ → List ℕ → List TypeTree
+    → Result TypedTerm Refused → Verdict
 type_or_cause schema name text found (Ok query) = written (type_line query.type)
-type_or_cause schema name text found (Err r) = explained (record {
+type_or_cause schema name text found (Err r) = explained (text_refused (record {
   name = name;
   text = text;
   tables = table_names schema;
   found = found;
   why = r;
-})
+}))
 
 -- the same of the term that the text spells
-abbrev pub typed_or_explained : Schema → List ℕ → List ℕ → Result PlacedTerm Refused → Verdict
+abbrev pub typed_or_explained : Schema → List ℕ → List ℕ → Result PlacedTerm Refused
+    → Verdict
 typed_or_explained schema name text read =
     type_or_cause schema name text (found_over schema read) (typed_over schema read)
 
@@ -230,18 +238,79 @@ query_explained reading files schema name =
     fetched_then files name text_limit
     (λ text. at_once (typed_or_explained schema name text (term_read reading.queries text)))
 
--- the same of a query over the schema that is read, or what explains why that is refused
-abbrev pub schema_explained : Reading → Files → List ℕ → List ℕ → List ℕ
-    → Result Schema Refused → Judgement
-schema_explained reading files query name text (Ok schema) =
-    query_explained reading files schema query
-schema_explained reading files query name text (Err r) =
-    at_once (explained (record { name = name; text = text; tables = []; found = []; why = r }))
+-- the line of the columns of an SQL text over a schema, or what explains why it is refused
+abbrev pub columns_or_cause : Schema → List ℕ → List ℕ → Result Columns Refused
+    → Verdict
+columns_or_cause schema name text (Ok columns) =
+    written (columns_line (names_of columns) (types_of columns))
+columns_or_cause schema name text (Err r) = explained (text_refused (record {
+  name = name;
+  text = text;
+  tables = table_names schema;
+  found = [];
+  why = r;
+}))
 
-abbrev pub explain_judged : Reading → Files → List ℕ → List ℕ → Judgement
-explain_judged reading files schema query =
+-- the same of the SQL text under a name
+abbrev pub sql_explained : Reading → Files → Schema → List ℕ → Judgement
+sql_explained reading files schema name =
+    fetched_then files name text_limit
+    (λ text. at_once (columns_or_cause schema name text (columns_read reading.sqls schema text)))
+
+-- the query that gives the rows of a table
+abbrev pub table_query : List ℕ → PlacedTerm
+table_query table = at 0 (PlacedNode.table table)
+
+-- the line of the type of the rows of a table, or what explains why its text is refused
+abbrev pub rows_or_cause : Schema → TableShape → List ℕ → List ℕ
+    → Result (List (List Cell)) TableFault → Verdict
+rows_or_cause schema shape name text (Ok rows) =
+    typed_or_explained schema name text (Ok (table_query shape.name))
+rows_or_cause schema shape name text (Err fault) =
+    explained (table_refused name text shape fault)
+
+-- the same of the CSV text of a table in a folder
+abbrev pub shape_explained : Files → List ℕ → Schema → TableShape → Judgement
+shape_explained files folder schema shape =
+    fetched_then files (file_by Csv folder shape.name) tables_limit
+    (λ text. at_once (rows_or_cause schema shape (file_by Csv folder shape.name) text
+    (table_of shape text)))
+
+-- the same of the table of a name, or that there is none
+abbrev pub table_explained : Files → Schema → List ℕ → List ℕ → Option TableShape
+    → Judgement
+table_explained files schema table folder (Some shape) =
+    shape_explained files folder schema shape
+table_explained files schema table folder None =
+    at_once (written (no_table_text table (table_names schema)))
+
+-- the type of a subject over a schema, or what explains why its text is refused
+abbrev pub subject_explained : Reading → Files → Schema → Subject → Judgement
+subject_explained reading files schema (a_query name) =
+    query_explained reading files schema name
+subject_explained reading files schema (an_sql_text name) =
+    sql_explained reading files schema name
+subject_explained reading files schema (a_table table folder) =
+    table_explained files schema table folder (shape_named table schema.tables)
+
+-- the same of a subject over the schema that is read, or what explains why that is refused
+abbrev pub schema_explained : Reading → Files → Subject → List ℕ → List ℕ
+    → Result Schema Refused → Judgement
+schema_explained reading files subject name text (Ok schema) =
+    subject_explained reading files schema subject
+schema_explained reading files subject name text (Err r) =
+    at_once (explained (text_refused (record {
+      name = name;
+      text = text;
+      tables = [];
+      found = [];
+      why = r;
+    })))
+
+abbrev pub explain_judged : Reading → Files → List ℕ → Subject → Judgement
+explain_judged reading files schema subject =
     fetched_then files schema text_limit
-    (λ text. schema_explained reading files query schema text (schema_read reading.schemas text))
+    (λ text. schema_explained reading files subject schema text (schema_read reading.schemas text))
 
 -- the schema, then the query or the SQL text if there is one, then each table text in the order of
 -- the schema
@@ -261,7 +330,8 @@ command_judged reading files (generated size) =
     at_once (planned (generated_plan reading.plain size) generated_question)
 command_judged reading files (show_load database schema) =
     schema_then reading files schema (λ found. at_once (written (load_text database found)))
-command_judged reading files (explain schema query) = explain_judged reading files schema query
+command_judged reading files (explain schema subject) =
+    explain_judged reading files schema subject
 command_judged reading files (explain_rule rule) = at_once (written (rule_text rule))
 
 -- the words, and then the command that they are
@@ -283,5 +353,5 @@ held_for (Some (of_query aim schema name)) held = held
 held_for (Some (answer writing schema name folder)) held = held
 held_for (Some (generated size)) held = Some (files_of held)
 held_for (Some (show_load database schema)) held = held
-held_for (Some (explain schema query)) held = held
+held_for (Some (explain schema subject)) held = held
 held_for (Some (explain_rule rule)) held = Some (files_of held)

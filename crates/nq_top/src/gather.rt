@@ -196,7 +196,7 @@ pub fn gather<I: Inputs>(
             let schema = read_schema(alloc, inputs, schema)?;
             Ok(Gathered::Text(load_script(alloc, database, &schema)?))
         }
-        Command::Explain(schema, query) => gather_explained(alloc, inputs, schema, query),
+        Command::Explain(schema, subject) => gather_explained(alloc, inputs, schema, subject),
         Command::ExplainRule(rule) => Ok(Gathered::Text(rule_text(alloc, rule)?)),
     }
 }

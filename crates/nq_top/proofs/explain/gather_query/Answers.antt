@@ -1,5 +1,6 @@
 use Rattle.std.proofs.Common.{List, ℕ, rules, subst}
 use Rattle.nq_top.specs.Judging.{at_once, typed_or_explained}
+use Rattle.nq_top.specs.Limits.{text_limit}
 use Rattle.nq_top.specs.Reading.{Reading, term_read}
 use Rattle.nq_top.specs.Steps.{Says}
 use Rattle.nq_top.proofs.Explainings.{text_goes, text_says}
@@ -11,7 +12,7 @@ returns-in_err-made-clause-tells g c =
     let judged = λ (reading : Reading) (text : List ℕ).
     at_once (typed_or_explained c.args.schema.now c.args.name.now text
     (term_read reading.queries text)) in
-    text_goes _ _ c.args.name.now c.in_ok-text.text c.as_slice.result.now
+    text_goes text_limit _ _ c.args.name.now c.in_ok-text.text c.as_slice.result.now
     (λ reading files text. judged reading text) _ _ _ _ c.as_slice.ensures
     c.in_ok-text.ensures.same c.in_ok-text.ensures.says c.in_ok-text.ensures.names
     (memory_stops _ (λ reading files. judged reading c.as_slice.result.now) _ _ (search rules))
@@ -21,7 +22,7 @@ returns-clause-tells g c =
     let named = λ (reading : Reading) (name : List ℕ).
     Says (typed_or_explained c.args.schema.now name c.as_slice.result.now
     (term_read reading.queries c.as_slice.result.now)) c.in_ok-made.made in
-    text_says _ c.args.name.now c.in_ok-text.text c.as_slice.result.now
+    text_says text_limit _ c.args.name.now c.in_ok-text.text c.as_slice.result.now
     (λ reading text. typed_or_explained c.args.schema.now c.args.name.now text
     (term_read reading.queries text)) _ _ c.in_ok-made.made c.as_slice.ensures
     c.in_ok-text.ensures.says c.in_ok-text.ensures.names
