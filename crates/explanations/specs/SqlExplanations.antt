@@ -1,6 +1,7 @@
 -- The explanation of a fault of an SQL text: what is said of its place, the line of the place with
 -- a caret under it, and then lines that tell more.
-use Rattle.std.specs.Prelude.{◌≡◌, ℕ, ◌≤◌, ⊤, List, ◌++◌, ◌⊎◌, map, codes}
+use Rattle.std.specs.Prelude.{◌≡◌, ℕ, ◌≤◌, ⊤, if◌then◌else◌, List, ◌++◌, ◌⊎◌}
+use Rattle.std.specs.Prelude.{map, codes}
 use Rattle.std.specs.Prelude.{Option, Some, None, Result, Ok, Err}
 use Rattle.nq_model.specs.OpenLists.{Fault}
 use Rattle.nq_model.specs.declared.memory.Memory.{Memory}
@@ -22,6 +23,7 @@ use Rattle.diagnostics.specs.declared.sentences.SqlFaultKind.TheVariants as sql
 use Rattle.explanations.specs.Explanations.{found_line, missing_text, nearest_line, rule_line}
 use Rattle.explanations.specs.Explanations.{stop_text, tables_line}
 use Rattle.explanations.specs.Groups.{names}
+use Rattle.explanations.specs.Lists.{among}
 use Rattle.explanations.specs.Nearest.{nearest}
 use Rattle.explanations.specs.SqlGroups.{sql_groups}
 use Rattle.explanations.specs.SqlHints.{sql_stop_sentence}
@@ -38,11 +40,18 @@ sql_stopped_text kind file text place there expected =
     stop_text file text place (sql_stop_sentence kind there expected) there.found
     (names sql_groups expected)
 
--- of a scope rule
-unfoldable pub scope_text : List ℕ → List ℕ → ℕ → ScopeRule → List ℕ
-scope_text file text place broken =
-    excerpt_text file text place (scope_asks broken)
+-- of a scope rule, with this sentence
+unfoldable pub scope_text : List ℕ → List ℕ → ℕ → List ℕ → ScopeRule → List ℕ
+scope_text file text place sentence broken =
+    excerpt_text file text place sentence
     ++ rule_line (scope_number broken) (scope_right broken)
+
+-- of an alias that none around has: whether a table has this name
+abbrev pub alias_sentence : List (List ℕ) → List ℕ → List ℕ
+alias_sentence tables name =
+    if among tables name
+    then codes "This is a table's name. Write the alias that FROM gives it, as in \"d\".\"name\"."
+    else scope_asks rule.Alias
 
 -- of a name that no table has, which stands in no text
 unfoldable pub no_table_text : List ℕ → List (List ℕ) → List ℕ
@@ -96,12 +105,23 @@ ExplainsSource file text place tables made =
     (tokens : List Token) → HasTokens First text tokens
     → made ≡ missing_text file text place (scope_asks rule.Source) tables (name_at place tokens)
 
+-- of an alias that none around has, in a text that has tokens: it stands at the place
+abbrev pub ExplainsAlias : List ℕ → List ℕ → ℕ → List (List ℕ) → List ℕ
+    → Type 0
+ExplainsAlias file text place tables made =
+    (tokens : List Token) → HasTokens First text tokens
+    → made
+    ≡ scope_text file text place (alias_sentence tables (name_at place tokens)) rule.Alias
+
 -- the explanation of a scope rule that a text breaks, and of that of this number
 abbrev pub ExplainsBrokenScope : List ℕ → List ℕ → ℕ → List (List ℕ) → ScopeRule
     → List ℕ → Type 0
 ExplainsBrokenScope file text place tables rule.Source made =
     ExplainsSource file text place tables made
-ExplainsBrokenScope file text place tables broken made = made ≡ scope_text file text place broken
+ExplainsBrokenScope file text place tables rule.Alias made =
+    ExplainsAlias file text place tables made
+ExplainsBrokenScope file text place tables broken made =
+    made ≡ scope_text file text place (scope_asks broken) broken
 
 abbrev pub ExplainsScopeRule : List ℕ → List ℕ → ℕ → List (List ℕ) → ℕ
     → List ℕ → Type 0

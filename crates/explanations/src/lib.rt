@@ -15,6 +15,7 @@ mod sql_faults;
 mod sql_groups;
 mod sql_hints;
 mod sql_places;
+mod sql_scopes;
 mod sql_stops;
 mod sql_words;
 mod stops;

@@ -5,12 +5,13 @@ ghost use Rattle.diagnostics.specs.Sentences.{sql_sentence};
 ghost use Rattle.explanations.specs.Explanations.{table_names};
 ghost use Rattle.explanations.specs.Lists.{words_view};
 ghost use Rattle.explanations.specs.SqlExplanations.{ExplainsBrokenScope, ExplainsScope};
-ghost use Rattle.explanations.specs.SqlExplanations.{ExplainsSql, no_table_text, scope_text};
+ghost use Rattle.explanations.specs.SqlExplanations.{ExplainsSql, no_table_text};
 
-use crate::lines::{put_found, put_nearest, put_rule, put_tables, table_names};
+use crate::lines::{put_found, put_nearest, put_tables, table_names};
 use crate::nearest::nearest;
 use crate::sql_places::place_sentence;
-use crate::sql_stops::{explain_source, explain_sql_stop};
+use crate::sql_scopes::{broken, explain_alias, explain_source};
+use crate::sql_stops::explain_sql_stop;
 use diagnostics::{ScopeRule, SqlFaultKind, excerpt, scope_rule, sql_sentence};
 use nq_model::{List, Memory, Schema};
 use sql_reader::SqlFault;
@@ -58,22 +59,6 @@ pub fn explain_sql(
     }
 }
 
-// The explanation of a broken scope rule, but that of sources.
-#[tactic(auto, unfolding(crate::specs::SqlExplanations::scope_text))]
-fn broken(
-    alloc: Global,
-    file: &[u8],
-    text: &[u8],
-    place: u64,
-    rule: ScopeRule,
-) -> Result<List<u8>, Memory>
-    ensures { IfOk result (λ made. made ≡ scope_text file.now text.now place rule) }
-{
-    let mut made = excerpt(alloc, file, text, place, rule.asks())?;
-    put_rule(alloc, &mut made, rule.number(), rule.right())?;
-    Ok(made)
-}
-
 // The explanation of a broken scope rule, over these tables.
 fn explain_broken(
     alloc: Global,
@@ -88,7 +73,8 @@ fn explain_broken(
 {
     match rule {
         ScopeRule::Source => explain_source(alloc, file, text, place, tables),
-        _ => broken(alloc, file, text, place, rule),
+        ScopeRule::Alias => explain_alias(alloc, file, text, place, tables),
+        _ => broken(alloc, file, text, place, rule.asks(), rule),
     }
 }
 

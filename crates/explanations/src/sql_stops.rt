@@ -1,25 +1,28 @@
-// Where a text ceases to be SQL that nq takes, and sources that are missing.
+// Where a text ceases to be SQL that nq takes.
 ghost use Rattle.std.specs.Prelude.{◌≡◌, IfOk, map};
 ghost use Rattle.explanations.specs.Lists.{words_view};
-ghost use Rattle.explanations.specs.SqlExplanations.{ExplainsSource, ExplainsSqlStop, SqlTokensIn};
+ghost use Rattle.explanations.specs.SqlExplanations.{ExplainsSqlStop, SqlTokensIn};
 ghost use Rattle.explanations.specs.SqlExplanations.{sql_stopped_text};
 ghost use Rattle.explanations.specs.SqlWords.{sql_around, sql_kind_words};
 ghost use Rattle.explanations.specs.Words.{around_view};
 
 use crate::sql_groups::sql_names;
 use crate::sql_hints::sql_stop_sentence;
-use crate::sql_words::{name_at, sql_kind_words, sql_words_around};
-use crate::stops::{missing, stop_text};
+use crate::sql_words::{sql_kind_words, sql_words_around};
+use crate::stops::stop_text;
 use crate::words::Around;
-use diagnostics::{ScopeRule, SqlFaultKind, excerpt, sql_sentence};
+use diagnostics::{SqlFaultKind, excerpt, sql_sentence};
 use expected_sql_tokens::{SqlTokenKind, expected_sql_kinds};
 use nq_model::{List, Memory};
 use sql_reader::{SqlFault, Token, tokens};
 use std::alloc::Global;
 use std::str;
 
-// The tokens of a text, if it has any.
-fn tokens_in<'a>(alloc: Global, text: &'a [u8]) -> Result<Option<List<Token<'a>>>, Memory>
+/// The tokens of a text, if it has any.
+pub(crate) fn tokens_in<'a>(
+    alloc: Global,
+    text: &'a [u8],
+) -> Result<Option<List<Token<'a>>>, Memory>
     ensures { SqlTokensIn result text.now }
 {
     match str::from_utf8(text) {
@@ -92,33 +95,5 @@ pub(crate) fn explain_sql_stop(
             None => excerpt(alloc, file, text, place, sql_sentence(kind)),
         },
         None => excerpt(alloc, file, text, place, sql_sentence(kind)),
-    }
-}
-
-/// The explanation of a source that is none of these tables, and no WITH query, whose name stands
-/// at the place.
-pub(crate) fn explain_source(
-    alloc: Global,
-    file: &[u8],
-    text: &[u8],
-    place: u64,
-    tables: &[&str],
-) -> Result<List<u8>, Memory>
-    ensures { IfOk result (ExplainsSource file.now text.now place (words_view tables.now)) }
-{
-    match tokens_in(alloc, text)? {
-        Some(tokens) => {
-            let name = name_at(tokens.as_slice(), place);
-            missing(
-                alloc,
-                file,
-                text,
-                place,
-                ScopeRule::Source.asks(),
-                tables,
-                name,
-            )
-        }
-        None => excerpt(alloc, file, text, place, ScopeRule::Source.asks()),
     }
 }

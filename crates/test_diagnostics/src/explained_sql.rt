@@ -35,7 +35,7 @@ fn explained(alloc: Global, text: &[u8], depth: u64) -> Result<List<u8>, Memory>
 }
 
 // An SQL text, and what is said of it.
-const EXPLAINED: [(&str, &str); 21] = [
+const EXPLAINED: [(&str, &str); 23] = [
     // Words and bytes with which nothing begins.
     (
         "SELECT * FROM departments",
@@ -208,6 +208,23 @@ nearest: departments
 SELECT \"d\".\"nam\" AS \"n\" FROM \"departments\" AS \"d\"
        ^
 rule: 4, kept by: SELECT \"d\".\"name\" AS \"n\" FROM \"departments\" AS \"d\"
+",
+    ),
+    // An alias that none has, which is the name of a table, and one that is not.
+    (
+        "SELECT \"departments\".\"name\" AS \"n\" FROM \"departments\" AS \"d\"",
+        "q:1:8: This is a table's name. Write the alias that FROM gives it, as in \"d\".\"name\".
+SELECT \"departments\".\"name\" AS \"n\" FROM \"departments\" AS \"d\"
+       ^
+rule: 3, kept by: SELECT \"d\".\"name\" AS \"n\" FROM \"departments\" AS \"d\"
+",
+    ),
+    (
+        "SELECT \"x\".\"name\" AS \"n\" FROM \"departments\" AS \"d\"",
+        "q:1:8: The alias before a column is that of a source here, or in a SELECT around this one.
+SELECT \"x\".\"name\" AS \"n\" FROM \"departments\" AS \"d\"
+       ^
+rule: 3, kept by: SELECT \"d\".\"name\" AS \"n\" FROM \"departments\" AS \"d\"
 ",
     ),
     // An accepted text: its columns.
