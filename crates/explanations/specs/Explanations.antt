@@ -85,11 +85,17 @@ unfoldable pub missing_text : List ℕ → List ℕ → ℕ → List ℕ → Lis
 missing_text file text place asks tables name =
     excerpt_text file text place asks ++ (tables_line tables ++ nearest_line (nearest tables name))
 
+-- of a name that no table has, which stands in no text
+unfoldable pub no_table_text : List ℕ → List (List ℕ) → List ℕ
+no_table_text name tables =
+    codes "No table of the schema has this name.\n"
+    ++ (found_line name ++ (tables_line tables ++ nearest_line (nearest tables name)))
+
 -- 2. faults of queries
 
 -- where the text ceases to be a query
-unfoldable pub stopped_text : QueryFaultKind → List ℕ → List ℕ → ℕ → Around → List (List ℕ)
-    → List ℕ
+unfoldable pub stopped_text : QueryFaultKind → List ℕ → List ℕ → ℕ → Around
+    → List (List ℕ) → List ℕ
 stopped_text kind file text place there expected =
     stop_text file text place (stop_sentence kind there expected) there.found
     (names groups expected)
@@ -98,7 +104,8 @@ stopped_text kind file text place there expected =
 abbrev pub name_line : List (List ℕ) → List ℕ → List ℕ
 name_line tables name = if among tables name then table_line name else tables_line tables
 
-unfoldable pub unbound_text : List ℕ → List ℕ → ℕ → List (List ℕ) → List ℕ → List ℕ
+unfoldable pub unbound_text : List ℕ → List ℕ → ℕ → List (List ℕ) → List ℕ
+    → List ℕ
 unbound_text file text place tables name =
     excerpt_text file text place (name_sentence tables name) ++ name_line tables name
 
@@ -113,8 +120,8 @@ broken_text file text place found broken =
 
 -- Of a text that ceases to be a query of this depth at a place: its tokens, and just the kinds of
 -- tokens with which a query could have gone on there.
-pub record Stopped (d : ℕ) (kind : QueryFaultKind) (file text : List ℕ) (place : ℕ) (made : List ℕ)
-    : Type 0 where
+pub record Stopped (d : ℕ) (kind : QueryFaultKind) (file text : List ℕ) (place : ℕ)
+    (made : List ℕ) : Type 0 where
   pub tokens : List Token
   pub cut : HasTokens text tokens
   pub kinds : List TokenKind
@@ -122,7 +129,8 @@ pub record Stopped (d : ℕ) (kind : QueryFaultKind) (file text : List ℕ) (pla
   pub is : made ≡ stopped_text kind file text place (around place tokens) (map kind_words kinds)
 
 -- the same, where the text does cease to be one there
-abbrev pub ExplainsStop : ℕ → QueryFaultKind → List ℕ → List ℕ → ℕ → List ℕ → Type 0
+abbrev pub ExplainsStop : ℕ → QueryFaultKind → List ℕ → List ℕ → ℕ → List ℕ
+    → Type 0
 ExplainsStop d kind file text place made =
     (fault : Fault) → EndsOpen d text fault place → Stopped d kind file text place made
 
@@ -140,7 +148,8 @@ TokensIn (Err e) text = ⊤
 
 -- the explanation of a fault of a query of this depth, over a schema with these tables; want of
 -- memory has none
-abbrev pub ExplainsSyntax : ℕ → List ℕ → List ℕ → List (List ℕ) → SyntaxFault → List ℕ → Type 0
+abbrev pub ExplainsSyntax : ℕ → List ℕ → List ℕ → List (List ℕ) → SyntaxFault
+    → List ℕ → Type 0
 ExplainsSyntax d file text tables code.Memory made = ⊥
 ExplainsSyntax d file text tables (code.NotUtf8 place) made =
     made ≡ excerpt_text file text place (query_sentence query.NotUtf8)
@@ -173,15 +182,15 @@ ExplainsBroken file text place tables found rule.Table made =
 ExplainsBroken file text place tables found broken made =
     made ≡ broken_text file text place found broken
 
-abbrev pub ExplainsRule : List ℕ → List ℕ → ℕ → List (List ℕ) → List TypeTree → ℕ
-    → List ℕ → Type 0
+abbrev pub ExplainsRule : List ℕ → List ℕ → ℕ → List (List ℕ) → List TypeTree
+    → ℕ → List ℕ → Type 0
 ExplainsRule file text place tables found number made =
     (broken : TypingRule) × (typing_number broken ≡ number)
     × ExplainsBroken file text place tables found broken made
 
 -- the same, unless the number is that of no rule
-abbrev pub ExplainsType : List ℕ → List ℕ → ℕ → List (List ℕ) → List TypeTree → ℕ
-    → List ℕ → Type 0
+abbrev pub ExplainsType : List ℕ → List ℕ → ℕ → List (List ℕ) → List TypeTree
+    → ℕ → List ℕ → Type 0
 ExplainsType file text place tables found number made =
     ExplainsRule file text place tables found number made ⊎ (1 ≤ number → 26 ≤ number)
 

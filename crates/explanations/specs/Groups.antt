@@ -1,5 +1,6 @@
 -- Groups of kinds of tokens that have one name.
-use Rattle.std.specs.Prelude.{ℕ, Bool, not, ◌&&◌, if◌then◌else◌, List, [], ◌∷◌, ◌++◌, map, codes}
+use Rattle.std.specs.Prelude.{ℕ, Bool, not, ◌&&◌, if◌then◌else◌, List, [], ◌∷◌}
+use Rattle.std.specs.Prelude.{◌++◌, map, codes}
 use Rattle.std.specs.Borrow.{Bor}
 use Rattle.explanations.specs.Lists.{words_view, all_among}
 
@@ -31,16 +32,16 @@ beginnings =
 -- what stands between operators begins with these alone
 abbrev pub operands : List (List ℕ)
 operands =
-    codes "table" ∷ codes "empty" ∷ codes "true" ∷ codes "false" ∷ codes "a name of your own"
-    ∷ codes "a number" ∷ codes "a text in quotes" ∷ codes "-" ∷ codes "(" ∷ codes "["
-    ∷ codes "!" ∷ []
+    codes "table" ∷ codes "empty" ∷ codes "true" ∷ codes "false"
+    ∷ codes "a name of your own" ∷ codes "a number" ∷ codes "a text in quotes" ∷ codes "-"
+    ∷ codes "(" ∷ codes "[" ∷ codes "!" ∷ []
 
 -- all words of the first edition, as a label may be
 abbrev pub all_words : List (List ℕ)
 all_words =
     codes "for" ∷ codes "where" ∷ codes "if" ∷ codes "then" ∷ codes "else" ∷ codes "fun"
-    ∷ codes "let" ∷ codes "table" ∷ codes "empty" ∷ codes "true" ∷ codes "false" ∷ codes "int"
-    ∷ codes "bool" ∷ codes "text" ∷ codes "a name of your own" ∷ []
+    ∷ codes "let" ∷ codes "table" ∷ codes "empty" ∷ codes "true" ∷ codes "false"
+    ∷ codes "int" ∷ codes "bool" ∷ codes "text" ∷ codes "a name of your own" ∷ []
 
 -- what the second edition adds to each
 abbrev pub second : List (List ℕ)
@@ -55,11 +56,15 @@ groups =
     ∷ (codes "an operand", operands)
     ∷ (codes "any word", second ++ all_words)
     ∷ (codes "any word", all_words)
-    ∷ (codes "a type", codes "int" ∷ codes "bool" ∷ codes "text" ∷ codes "(" ∷ codes "[" ∷ [])
+    ∷ (
+      codes "a type",
+      codes "int" ∷ codes "bool" ∷ codes "text" ∷ codes "(" ∷ codes "[" ∷ [],
+    )
     ∷ (
       codes "an operator",
-      codes "++" ∷ codes "||" ∷ codes "&&" ∷ codes "==" ∷ codes "!=" ∷ codes "<" ∷ codes "<="
-          ∷ codes ">" ∷ codes ">=" ∷ codes "+" ∷ codes "-" ∷ codes "*" ∷ [],
+      codes "++" ∷ codes "||" ∷ codes "&&" ∷ codes "==" ∷ codes "!=" ∷ codes "<"
+          ∷ codes "<=" ∷ codes ">" ∷ codes ">=" ∷ codes "+" ∷ codes "-" ∷ codes "*"
+          ∷ [],
     )
     ∷ map alone
     (codes "for" ∷ codes "where" ∷ codes "if" ∷ codes "then" ∷ codes "else" ∷ codes "fun"
@@ -67,9 +72,9 @@ groups =
     ∷ codes "true" ∷ codes "false" ∷ codes "int" ∷ codes "bool" ∷ codes "text"
     ∷ codes "a name of your own" ∷ codes "a number" ∷ codes "a text in quotes" ∷ codes "++"
     ∷ codes "||" ∷ codes "&&" ∷ codes "==" ∷ codes "!=" ∷ codes "<" ∷ codes "<="
-    ∷ codes ">" ∷ codes ">=" ∷ codes "+" ∷ codes "-" ∷ codes "*" ∷ codes "=" ∷ codes "<-"
-    ∷ codes "->" ∷ codes "!" ∷ codes "(" ∷ codes ")" ∷ codes "[" ∷ codes "]"
-    ∷ codes "a comma" ∷ codes "a colon" ∷ codes "a semicolon" ∷ codes "a dot"
+    ∷ codes ">" ∷ codes ">=" ∷ codes "+" ∷ codes "-" ∷ codes "*" ∷ codes "="
+    ∷ codes "<-" ∷ codes "->" ∷ codes "!" ∷ codes "(" ∷ codes ")" ∷ codes "["
+    ∷ codes "]" ∷ codes "a comma" ∷ codes "a colon" ∷ codes "a semicolon" ∷ codes "a dot"
     ∷ codes "the end of the text" ∷ [])
 
 -- the group is named: all of its kinds are expected, and no group before has them all
@@ -90,7 +95,7 @@ names named expected = names_from expected [] named
 
 -- the names that were found, and then those of these groups, where the kinds taken are in groups
 -- before
-abbrev pub found_and : List (List ℕ) → List (Bor (List ℕ)) → List (Bor (List ℕ)) → List Row
-    → List (List ℕ)
+abbrev pub found_and : List (List ℕ) → List (Bor (List ℕ)) → List (Bor (List ℕ))
+    → List Row → List (List ℕ)
 found_and expected found taken rows =
     words_view found ++ names_from expected (words_view taken) (groups_view rows)

@@ -33,7 +33,8 @@ is_said before found expected h =
     is_any_or h.before before && (is_any_or h.found found && all_among expected h.expected)
 
 -- the sentence of the first of the hints that is said, or this one
-abbrev pub first_said : List ℕ → List ℕ → List (List ℕ) → List ℕ → List Hint → List ℕ
+abbrev pub first_said : List ℕ → List ℕ → List (List ℕ) → List ℕ → List Hint
+    → List ℕ
 first_said before found expected otherwise [] = otherwise
 first_said before found expected otherwise (h ∷ hs) =
     if is_said before found expected h then h.sentence

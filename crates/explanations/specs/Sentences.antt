@@ -1,5 +1,6 @@
 -- The sentence that is said of each fault.
-use Rattle.std.specs.Prelude.{ℕ, ◌==◌, if◌then◌else◌, List, [], codes, Option, Some, None}
+use Rattle.std.specs.Prelude.{ℕ, ◌==◌, if◌then◌else◌, List, [], codes}
+use Rattle.std.specs.Prelude.{Option, Some, None}
 use Rattle.diagnostics.specs.Sentences.{query_sentence}
 use Rattle.diagnostics.specs.declared.sentences.QueryFaultKind.{QueryFaultKind}
 use Rattle.diagnostics.specs.declared.sentences.QueryFaultKind.TheVariants as query

@@ -1,8 +1,7 @@
 -- The explanation of a fault of an SQL text: what is said of its place, the line of the place with
 -- a caret under it, and then lines that tell more.
-use Rattle.std.specs.Prelude.{◌≡◌, ℕ, ◌≤◌, ⊤, if◌then◌else◌, List, ◌++◌, ◌⊎◌}
-use Rattle.std.specs.Prelude.{map, codes}
-use Rattle.std.specs.Prelude.{Option, Some, None, Result, Ok, Err}
+use Rattle.std.specs.Prelude.{◌≡◌, ℕ, ◌≤◌, ⊤, if◌then◌else◌, List, ◌++◌}
+use Rattle.std.specs.Prelude.{◌⊎◌, map, codes, Option, Some, None, Result, Ok, Err}
 use Rattle.nq_model.specs.OpenLists.{Fault}
 use Rattle.nq_model.specs.declared.memory.Memory.{Memory}
 use Rattle.sql_profile.specs.Texts.{EndsOpen, HasTokens}
@@ -20,11 +19,9 @@ use Rattle.diagnostics.specs.declared.scope_rules.ScopeRule.{ScopeRule}
 use Rattle.diagnostics.specs.declared.scope_rules.ScopeRule.TheVariants as rule
 use Rattle.diagnostics.specs.declared.sentences.SqlFaultKind.{SqlFaultKind}
 use Rattle.diagnostics.specs.declared.sentences.SqlFaultKind.TheVariants as sql
-use Rattle.explanations.specs.Explanations.{found_line, missing_text, nearest_line, rule_line}
-use Rattle.explanations.specs.Explanations.{stop_text, tables_line}
+use Rattle.explanations.specs.Explanations.{missing_text, rule_line, stop_text}
 use Rattle.explanations.specs.Groups.{names}
 use Rattle.explanations.specs.Lists.{among}
-use Rattle.explanations.specs.Nearest.{nearest}
 use Rattle.explanations.specs.SqlGroups.{sql_groups}
 use Rattle.explanations.specs.SqlHints.{sql_stop_sentence}
 use Rattle.explanations.specs.SqlPlaces.{place_sentence}
@@ -52,12 +49,6 @@ alias_sentence tables name =
     if among tables name
     then codes "This is a table's name. Write the alias that FROM gives it, as in \"d\".\"name\"."
     else scope_asks rule.Alias
-
--- of a name that no table has, which stands in no text
-unfoldable pub no_table_text : List ℕ → List (List ℕ) → List ℕ
-no_table_text name tables =
-    codes "No table of the schema has this name.\n"
-    ++ (found_line name ++ (tables_line tables ++ nearest_line (nearest tables name)))
 
 -- 2. what is explained
 

@@ -19,10 +19,12 @@ mod sql_scopes;
 mod sql_stops;
 mod sql_words;
 mod stops;
+mod table_names;
 mod types;
 mod words;
 
 pub use faults::{explain_schema, explain_syntax, explain_type};
 pub use laws::naming_laws;
 pub use sql_columns::columns_line;
-pub use sql_faults::{explain_scope, explain_sql, explain_table_name};
+pub use sql_faults::{explain_scope, explain_sql};
+pub use table_names::explain_table_name;

@@ -45,7 +45,8 @@ pub(crate) fn stop_sentence(
     around: Around<'_>,
     expected: &[&str],
 ) -> &'static str
-    ensures { result.now ≡ stop_sentence kind (around_view around.entry) (words_view expected.now) }
+    ensures { result.now
+        ≡ stop_sentence kind (around_view around.entry) (words_view expected.now) }
 {
     match kind {
         QueryFaultKind::Deep => query_sentence(kind),

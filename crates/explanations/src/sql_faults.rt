@@ -1,14 +1,13 @@
-// The explanation of each fault of an SQL text, and of a name that no table has.
+// The explanation of each fault of an SQL text.
 ghost use Rattle.std.specs.Prelude.{◌≡◌, IfOk};
 ghost use Rattle.diagnostics.specs.Excerpts.{excerpt_text};
 ghost use Rattle.diagnostics.specs.Sentences.{sql_sentence};
 ghost use Rattle.explanations.specs.Explanations.{table_names};
 ghost use Rattle.explanations.specs.Lists.{words_view};
 ghost use Rattle.explanations.specs.SqlExplanations.{ExplainsBrokenScope, ExplainsScope};
-ghost use Rattle.explanations.specs.SqlExplanations.{ExplainsSql, no_table_text};
+ghost use Rattle.explanations.specs.SqlExplanations.{ExplainsSql};
 
-use crate::lines::{put_found, put_nearest, put_tables, table_names};
-use crate::nearest::nearest;
+use crate::lines::table_names;
 use crate::sql_places::place_sentence;
 use crate::sql_scopes::{broken, explain_alias, explain_source};
 use crate::sql_stops::explain_sql_stop;
@@ -96,18 +95,4 @@ pub fn explain_scope(
         Some(rule) => explain_broken(alloc, file, text, place, rule, tables.as_slice()),
         None => excerpt(alloc, file, text, place, "The SQL text breaks a rule."),
     }
-}
-
-/// The explanation of a name that no table of the schema has. Fails only if memory runs out.
-#[tactic(auto, unfolding(crate::specs::SqlExplanations::no_table_text))]
-pub fn explain_table_name(alloc: Global, name: &str, schema: &Schema) -> Result<List<u8>, Memory>
-    ensures { IfOk result (λ made. made ≡ no_table_text name.now (table_names schema.now)) }
-{
-    let tables = table_names(alloc, schema)?;
-    let mut made = List::new(alloc);
-    made.extend_from_slice(b"No table of the schema has this name.\n")?;
-    put_found(&mut made, name)?;
-    put_tables(&mut made, tables.as_slice())?;
-    put_nearest(&mut made, nearest(tables.as_slice(), name))?;
-    Ok(made)
 }

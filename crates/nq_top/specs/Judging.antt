@@ -32,7 +32,7 @@ use Rattle.nq_execute.specs.declared.plan.TraceWriting.{TraceWriting}
 use Rattle.lineage_compile.specs.Tables.{with_numbers}
 use Rattle.explanations.specs.Explanations.{table_names}
 use Rattle.explanations.specs.SqlColumns.{columns_line}
-use Rattle.explanations.specs.SqlExplanations.{no_table_text}
+use Rattle.explanations.specs.Explanations.{no_table_text}
 use Rattle.nq_top.specs.Explaining.{Explained, table_refused, text_refused}
 use Rattle.nq_top.specs.Foreign.{Foreign, foreign_to}
 use Rattle.nq_top.specs.Limits.{text_limit, tables_limit}
