@@ -6,56 +6,10 @@ use Rattle.nq_model.specs.declared.term.Binary.TheVariants.{And, Or}
 use Rattle.sql_profile.specs.Tokens as sql
 use Rattle.sql_reader.specs.TokenKinds as reader
 use Rattle.sql_reader.specs.TokenKinds.{token_kind}
-use Rattle.expected_sql_tokens.specs.Kinds.{kind_view, sample}
+use Rattle.expected_sql_tokens.specs.Kinds.{kind_for, kind_view, sample}
 use Rattle.expected_sql_tokens.specs.declared.kinds.TheConstants.{KINDS}
 use Rattle.expected_sql_tokens.specs.declared.kinds.SqlTokenKind.{SqlTokenKind}
 use Rattle.expected_sql_tokens.specs.declared.kinds.SqlTokenKind.TheVariants as kinds
-
-abbrev pub kind_for : reader.TokenKind → SqlTokenKind
-kind_for (reader.AKeyword sql.With) = kinds.With
-kind_for (reader.AKeyword sql.As) = kinds.As
-kind_for (reader.AKeyword sql.Union) = kinds.UnionWord
-kind_for (reader.AKeyword sql.All) = kinds.All
-kind_for (reader.AKeyword sql.Select) = kinds.Select
-kind_for (reader.AKeyword sql.From) = kinds.From
-kind_for (reader.AKeyword sql.Where) = kinds.Where
-kind_for (reader.AKeyword sql.RowNumber) = kinds.RowNumber
-kind_for (reader.AKeyword sql.Over) = kinds.Over
-kind_for (reader.AKeyword sql.Order) = kinds.Order
-kind_for (reader.AKeyword sql.By) = kinds.By
-kind_for (reader.AKeyword sql.Not) = kinds.Not
-kind_for (reader.AKeyword sql.Exists) = kinds.Exists
-kind_for (reader.AKeyword sql.Case) = kinds.Case
-kind_for (reader.AKeyword sql.When) = kinds.When
-kind_for (reader.AKeyword sql.Then) = kinds.Then
-kind_for (reader.AKeyword sql.Else) = kinds.Else
-kind_for (reader.AKeyword sql.Stop) = kinds.Stop
-kind_for (reader.AKeyword sql.Count) = kinds.Count
-kind_for (reader.AKeyword sql.Sum) = kinds.Sum
-kind_for (reader.AKeyword sql.Coalesce) = kinds.Coalesce
-kind_for (reader.ATruth true) = kinds.True
-kind_for (reader.ATruth false) = kinds.False
-kind_for reader.AZero = kinds.Zero
-kind_for reader.ANumber = kinds.Number
-kind_for reader.ALiteral = kinds.Literal
-kind_for reader.AName = kinds.Name
-kind_for (reader.AnOperator And) = kinds.And
-kind_for (reader.AnOperator Or) = kinds.Or
-kind_for (reader.AnOperator Eq) = kinds.Equal
-kind_for (reader.AnOperator Ne) = kinds.Unequal
-kind_for (reader.AnOperator Lt) = kinds.Less
-kind_for (reader.AnOperator Le) = kinds.AtMost
-kind_for (reader.AnOperator Gt) = kinds.Greater
-kind_for (reader.AnOperator Ge) = kinds.AtLeast
-kind_for (reader.AnOperator Add) = kinds.Plus
-kind_for (reader.AnOperator Sub) = kinds.Minus
-kind_for (reader.AnOperator Mul) = kinds.Times
-kind_for reader.AnOpening = kinds.Opening
-kind_for reader.AClosing = kinds.Closing
-kind_for reader.AComma = kinds.Comma
-kind_for reader.ADot = kinds.Dot
-kind_for reader.ASemicolon = kinds.Semicolon
-kind_for reader.TheEnd = kinds.End
 
 pub kind_back : (k : reader.TokenKind) → kind_view (kind_for k) ≡ k
 kind_back (reader.AKeyword sql.With) = refl

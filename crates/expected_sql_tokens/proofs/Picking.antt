@@ -14,10 +14,10 @@ use Rattle.sql_reader.specs.Symbols.{token_view}
 use Rattle.sql_reader.specs.TokenKinds.{token_kind}
 use Rattle.sql_reader.specs.declared.token.Token.{Token as CodeToken}
 use Rattle.expected_sql_tokens.specs.Expected.{GoesOnWith, TellsKind, Picks, Expects}
-use Rattle.expected_sql_tokens.specs.Kinds.{sample}
+use Rattle.expected_sql_tokens.specs.Kinds.{kind_for, sample}
 use Rattle.expected_sql_tokens.specs.declared.kinds.TheConstants.{KINDS}
 use Rattle.expected_sql_tokens.specs.declared.kinds.SqlTokenKind.{SqlTokenKind}
-use Rattle.expected_sql_tokens.proofs.KindFacts.{kind_for, kind_back, sample_kind, in_table}
+use Rattle.expected_sql_tokens.proofs.KindFacts.{kind_back, sample_kind, in_table}
 
 module _ (d : ℕ) (before : List Token) where
   none_in : (k : SqlTokenKind) → Contains [] k → ⊥

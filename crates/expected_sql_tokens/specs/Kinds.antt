@@ -1,4 +1,4 @@
--- The kinds of tokens as the reader says them, and a token of each.
+-- The kinds of tokens as the reader says them, that of a token, and a token of each.
 use Rattle.std.specs.Prelude.{true, false, [], codes}
 use Rattle.nq_model.specs.declared.term.Binary.TheVariants.{Add, Sub, Mul, Eq, Ne, Lt, Le, Gt, Ge}
 use Rattle.nq_model.specs.declared.term.Binary.TheVariants.{And, Or}
@@ -54,6 +54,57 @@ kind_view kinds.Comma = reader.AComma
 kind_view kinds.Dot = reader.ADot
 kind_view kinds.Semicolon = reader.ASemicolon
 kind_view kinds.End = reader.TheEnd
+
+-- the kind that the reader says like this
+abbrev pub kind_for : reader.TokenKind → SqlTokenKind
+kind_for (reader.AKeyword sql.With) = kinds.With
+kind_for (reader.AKeyword sql.As) = kinds.As
+kind_for (reader.AKeyword sql.Union) = kinds.UnionWord
+kind_for (reader.AKeyword sql.All) = kinds.All
+kind_for (reader.AKeyword sql.Select) = kinds.Select
+kind_for (reader.AKeyword sql.From) = kinds.From
+kind_for (reader.AKeyword sql.Where) = kinds.Where
+kind_for (reader.AKeyword sql.RowNumber) = kinds.RowNumber
+kind_for (reader.AKeyword sql.Over) = kinds.Over
+kind_for (reader.AKeyword sql.Order) = kinds.Order
+kind_for (reader.AKeyword sql.By) = kinds.By
+kind_for (reader.AKeyword sql.Not) = kinds.Not
+kind_for (reader.AKeyword sql.Exists) = kinds.Exists
+kind_for (reader.AKeyword sql.Case) = kinds.Case
+kind_for (reader.AKeyword sql.When) = kinds.When
+kind_for (reader.AKeyword sql.Then) = kinds.Then
+kind_for (reader.AKeyword sql.Else) = kinds.Else
+kind_for (reader.AKeyword sql.Stop) = kinds.Stop
+kind_for (reader.AKeyword sql.Count) = kinds.Count
+kind_for (reader.AKeyword sql.Sum) = kinds.Sum
+kind_for (reader.AKeyword sql.Coalesce) = kinds.Coalesce
+kind_for (reader.ATruth true) = kinds.True
+kind_for (reader.ATruth false) = kinds.False
+kind_for reader.AZero = kinds.Zero
+kind_for reader.ANumber = kinds.Number
+kind_for reader.ALiteral = kinds.Literal
+kind_for reader.AName = kinds.Name
+kind_for (reader.AnOperator And) = kinds.And
+kind_for (reader.AnOperator Or) = kinds.Or
+kind_for (reader.AnOperator Eq) = kinds.Equal
+kind_for (reader.AnOperator Ne) = kinds.Unequal
+kind_for (reader.AnOperator Lt) = kinds.Less
+kind_for (reader.AnOperator Le) = kinds.AtMost
+kind_for (reader.AnOperator Gt) = kinds.Greater
+kind_for (reader.AnOperator Ge) = kinds.AtLeast
+kind_for (reader.AnOperator Add) = kinds.Plus
+kind_for (reader.AnOperator Sub) = kinds.Minus
+kind_for (reader.AnOperator Mul) = kinds.Times
+kind_for reader.AnOpening = kinds.Opening
+kind_for reader.AClosing = kinds.Closing
+kind_for reader.AComma = kinds.Comma
+kind_for reader.ADot = kinds.Dot
+kind_for reader.ASemicolon = kinds.Semicolon
+kind_for reader.TheEnd = kinds.End
+
+-- the kind of a token
+abbrev pub kind_of : Token → SqlTokenKind
+kind_of t = kind_for (reader.token_kind t)
 
 -- a token of the kind, at the beginning of a text
 abbrev pub sample : SqlTokenKind → Token

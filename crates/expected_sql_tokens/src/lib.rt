@@ -4,6 +4,8 @@
 mod expected;
 mod kinds;
 mod samples;
+mod token_kinds;
 
 pub use expected::expected_sql_kinds;
 pub use kinds::{KINDS, SqlTokenKind};
+pub use token_kinds::kind_of;

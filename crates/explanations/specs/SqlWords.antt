@@ -1,11 +1,7 @@
 -- What is said of kinds of tokens of SQL texts, and of the tokens of one.
-use Rattle.std.specs.Prelude.{ℕ, ◌==◌, Bool, true, false, if◌then◌else◌, List, []}
-use Rattle.std.specs.Prelude.{◌∷◌, codes}
-use Rattle.nq_model.specs.declared.term.Binary.{Binary}
-use Rattle.nq_model.specs.declared.term.Binary.TheVariants as binary
-use Rattle.sql_profile.specs.Tokens.{Keyword, Constant, Number, Literal, Truth, Token, Value, Name}
-use Rattle.sql_profile.specs.Tokens.{Key, Oper, Open, Close, Comma, Dot, Semi, End, place_of}
-use Rattle.sql_profile.specs.Tokens as sql
+use Rattle.std.specs.Prelude.{ℕ, ◌==◌, if◌then◌else◌, List, [], ◌∷◌, codes}
+use Rattle.sql_profile.specs.Tokens.{Token, Name, place_of}
+use Rattle.expected_sql_tokens.specs.Kinds.{kind_of}
 use Rattle.expected_sql_tokens.specs.declared.kinds.SqlTokenKind.{SqlTokenKind}
 use Rattle.expected_sql_tokens.specs.declared.kinds.SqlTokenKind.TheVariants as kinds
 use Rattle.explanations.specs.Words.{Around}
@@ -56,63 +52,14 @@ sql_kind_words kinds.Dot = codes "a dot"
 sql_kind_words kinds.Semicolon = codes "a semicolon"
 sql_kind_words kinds.End = codes "the end of the text"
 
-abbrev pub keyword_words : Keyword → List ℕ
-keyword_words sql.With = codes "WITH"
-keyword_words sql.As = codes "AS"
-keyword_words sql.Union = codes "UNION"
-keyword_words sql.All = codes "ALL"
-keyword_words sql.Select = codes "SELECT"
-keyword_words sql.From = codes "FROM"
-keyword_words sql.Where = codes "WHERE"
-keyword_words sql.RowNumber = codes "ROW_NUMBER"
-keyword_words sql.Over = codes "OVER"
-keyword_words sql.Order = codes "ORDER"
-keyword_words sql.By = codes "BY"
-keyword_words sql.Not = codes "NOT"
-keyword_words sql.Exists = codes "EXISTS"
-keyword_words sql.Case = codes "CASE"
-keyword_words sql.When = codes "WHEN"
-keyword_words sql.Then = codes "THEN"
-keyword_words sql.Else = codes "ELSE"
-keyword_words sql.Stop = codes "END"
-keyword_words sql.Count = codes "COUNT"
-keyword_words sql.Sum = codes "SUM"
-keyword_words sql.Coalesce = codes "COALESCE"
-
-abbrev pub sql_operator_words : Binary → List ℕ
-sql_operator_words binary.Or = codes "OR"
-sql_operator_words binary.And = codes "AND"
-sql_operator_words binary.Eq = codes "="
-sql_operator_words binary.Ne = codes "<>"
-sql_operator_words binary.Lt = codes "<"
-sql_operator_words binary.Le = codes "<="
-sql_operator_words binary.Gt = codes ">"
-sql_operator_words binary.Ge = codes ">="
-sql_operator_words binary.Add = codes "+"
-sql_operator_words binary.Sub = codes "-"
-sql_operator_words binary.Mul = codes "*"
-
-abbrev pub truth_words : Bool → List ℕ
-truth_words true = codes "TRUE"
-truth_words false = codes "FALSE"
-
-abbrev pub constant_words : Constant → List ℕ
-constant_words (Number n digits) = codes "a number"
-constant_words (Literal t) = codes "a text in single quotes"
-constant_words (Truth b) = truth_words b
+-- the kind that is told of a token that is found: there a `0` is a number like any other
+abbrev pub found_kind : SqlTokenKind → SqlTokenKind
+found_kind kinds.Zero = kinds.Number
+found_kind kind = kind
 
 -- what is said of a token
 abbrev pub sql_token_words : Token → List ℕ
-sql_token_words (Value p c) = constant_words c
-sql_token_words (Name p n) = codes "a name in double quotes"
-sql_token_words (Key p k) = keyword_words k
-sql_token_words (Oper p op) = sql_operator_words op
-sql_token_words (Open p) = codes "("
-sql_token_words (Close p) = codes ")"
-sql_token_words (Comma p) = codes "a comma"
-sql_token_words (Dot p) = codes "a dot"
-sql_token_words (Semi p) = codes "a semicolon"
-sql_token_words (End p) = codes "the end of the text"
+sql_token_words t = sql_kind_words (found_kind (kind_of t))
 
 -- the words of the first token at a place, and of the one before it, behind a token of these words;
 -- empty where there is none

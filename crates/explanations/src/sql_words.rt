@@ -1,14 +1,13 @@
 // What is said of kinds of tokens of SQL texts, and of the tokens of one.
-ghost use Rattle.std.specs.Prelude.{◌≡◌, ℕ, [], map};
+ghost use Rattle.std.specs.Prelude.{◌≡◌, [], map};
 ghost use Rattle.explanations.specs.SqlWords.{name_at, name_of, sql_around, sql_kind_words};
-ghost use Rattle.explanations.specs.SqlWords.{sql_operator_words, sql_token_words, truth_words};
+ghost use Rattle.explanations.specs.SqlWords.{sql_token_words};
 ghost use Rattle.explanations.specs.Words.{around_view};
-ghost use Rattle.sql_reader.specs.Symbols.{mark_token, token_view};
+ghost use Rattle.sql_reader.specs.Symbols.{token_view};
 
 use crate::words::Around;
-use expected_sql_tokens::SqlTokenKind;
-use nq_model::Binary;
-use sql_reader::{Mark, Symbol, Token};
+use expected_sql_tokens::{SqlTokenKind, kind_of};
+use sql_reader::{Symbol, Token};
 
 /// What is said of a kind of tokens.
 pub(crate) fn sql_kind_words(kind: SqlTokenKind) -> &'static str
@@ -62,78 +61,13 @@ pub(crate) fn sql_kind_words(kind: SqlTokenKind) -> &'static str
     }
 }
 
-// What is said of an operator.
-fn operator_words(operator: Binary) -> &'static str
-    ensures { result.now ≡ sql_operator_words operator }
-{
-    match operator {
-        Binary::Or => "OR",
-        Binary::And => "AND",
-        Binary::Eq => "=",
-        Binary::Ne => "<>",
-        Binary::Lt => "<",
-        Binary::Le => "<=",
-        Binary::Gt => ">",
-        Binary::Ge => ">=",
-        Binary::Add => "+",
-        Binary::Sub => "-",
-        Binary::Mul => "*",
-    }
-}
-
-// What is said of a truth value.
-fn truth_words(truth: bool) -> &'static str
-    ensures { result.now ≡ truth_words truth }
-{
-    if truth { "TRUE" } else { "FALSE" }
-}
-
-// What is said of a keyword or a symbol.
-fn mark_words(mark: Mark) -> &'static str
-    ensures { (place : ℕ) → result.now ≡ sql_token_words (mark_token mark place) }
-{
-    match mark {
-        Mark::Operator(operator) => operator_words(operator),
-        Mark::Truth(truth) => truth_words(truth),
-        Mark::Opening => "(",
-        Mark::Closing => ")",
-        Mark::Comma => "a comma",
-        Mark::Dot => "a dot",
-        Mark::Semicolon => "a semicolon",
-        Mark::With => "WITH",
-        Mark::As => "AS",
-        Mark::Union => "UNION",
-        Mark::All => "ALL",
-        Mark::Select => "SELECT",
-        Mark::From => "FROM",
-        Mark::Where => "WHERE",
-        Mark::RowNumber => "ROW_NUMBER",
-        Mark::Over => "OVER",
-        Mark::Order => "ORDER",
-        Mark::By => "BY",
-        Mark::Not => "NOT",
-        Mark::Exists => "EXISTS",
-        Mark::Case => "CASE",
-        Mark::When => "WHEN",
-        Mark::Then => "THEN",
-        Mark::Else => "ELSE",
-        Mark::Stop => "END",
-        Mark::Count => "COUNT",
-        Mark::Sum => "SUM",
-        Mark::Coalesce => "COALESCE",
-    }
-}
-
-// What is said of a token.
+// What is said of a token: there a `0` is a number like any other.
 fn token_words(token: Token<'_>) -> &'static str
     ensures { result.now ≡ sql_token_words (token_view token.entry) }
 {
-    match token.symbol {
-        Symbol::Number(_) => "a number",
-        Symbol::Literal(_) => "a text in single quotes",
-        Symbol::Name(_) => "a name in double quotes",
-        Symbol::Mark(mark) => mark_words(mark),
-        Symbol::End => "the end of the text",
+    match kind_of(token) {
+        SqlTokenKind::Zero => sql_kind_words(SqlTokenKind::Number),
+        kind => sql_kind_words(kind),
     }
 }
 
