@@ -99,7 +99,7 @@ no_last (x ∷ xs) h =
     let n : length (x ∷ xs) - 1 ≡ length xs = omega arith in absurd (last_there x xs (sym (ap (slice_get (x ∷ xs)) n) ∙ h))
 
 module _ (e : Expr) (op : Binary) (first : Box Expr Global) (more : List Link) (is : e.node ≡ node.Chain op first more) where
-  placed_so : placed_expr e ≡ chain_at op (placed_expr first.value) (map placed_link more)
+  pub placed_so : placed_expr e ≡ chain_at op (placed_expr first.value) (map placed_link more)
   placed_so = expr_placed e ∙ ap (λ n. placed_node n e.place) is ∙ node_chain op first more e.place
 
   pub place_of_last : (links : List Link) (link : Link) → links ≡ more → slice_get links (length links - 1) ≡ Some link → link.place ≡ expr_place (placed_expr e)

@@ -6,3 +6,7 @@ pub mod Outcomes
 pub mod Turns
 pub mod Selects
 pub mod Chains
+pub mod FoundOperands
+pub mod FoundChains
+pub mod FoundSources
+pub mod FoundTurns

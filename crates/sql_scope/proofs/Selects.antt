@@ -45,7 +45,7 @@ total_parted ts env place g over value =
     parted (judge_sources ts [] over.from) (λ own. judge_keep ts (own ++ env) over.keep) (λ own. judge_summed ts (own ++ env) value)
 
 module _ (ts : Shapes) (env : Aliases) (e : Expr) (over : Box Picked Global) (k : Picked) (same : k ≡ over.value) where
-  count_judged : e.node ≡ node.Count over → judge_expr ts env (placed_expr e) ≡ and_then (judge_picked ts env (placed_picked k)) (λ own. Fine Int)
+  pub count_judged : e.node ≡ node.Count over → judge_expr ts env (placed_expr e) ≡ and_then (judge_picked ts env (placed_picked k)) (λ own. Fine Int)
   count_judged is =
       ap (judge_expr ts env) (expr_placed e ∙ ap (λ n. placed_node n e.place) is ∙ node_count over e.place)
       ∙ total_parted ts env e.place HowMany (placed_picked over.value) (int_at e.place (pos 1))

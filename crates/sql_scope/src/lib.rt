@@ -5,6 +5,7 @@
 mod aliases;
 mod base;
 mod fault;
+mod found;
 mod names;
 mod place;
 mod rules;
@@ -13,4 +14,5 @@ mod text;
 mod walk;
 
 pub use fault::ScopeFault;
+pub use found::{Found, found_parts};
 pub use text::scope;

@@ -87,6 +87,18 @@ impl<'a> Names<'a, ColumnType> {
         Ok(types)
     }
 
+    // The columns, under names of their own.
+    pub(crate) fn copy(&self, alloc: Global) -> Result<List<(Label, ColumnType)>, Memory>
+        ensures { IfOk result (λ copy. copy ≡ self.now) }
+    {
+        let columns = self.listed.as_slice();
+        let mut copy = List::with_capacity(alloc, columns.len())?;
+        for column in columns {
+            copy.push((column.0.copy(alloc)?, column.1))?;
+        }
+        Ok(copy)
+    }
+
     // Whether there are as many columns of the same types in order.
     pub(crate) fn same_types(&self, others: &Names<'_, ColumnType>) -> bool
         ensures { result ≡ same_types (types_of self.now) (types_of others.now) }

@@ -27,7 +27,7 @@ pub(crate) fn judge_whole<'a>(
 
 // The type of an expression.
 #[cycle(judge)]
-fn judge_expr<'t, 'a>(
+pub(crate) fn judge_expr<'t, 'a>(
     alloc: Global,
     tables: &'t Tables<'a>,
     scope: &Scope<'_, 't, 'a>,
@@ -100,7 +100,7 @@ fn judge_links<'t, 'a>(
 
 // The aliases of a scalar query, whose condition, if there is one, is a truth value.
 #[cycle(judge)]
-fn judge_picked<'t, 'a>(
+pub(crate) fn judge_picked<'t, 'a>(
     alloc: Global,
     tables: &'t Tables<'a>,
     scope: &Scope<'_, 't, 'a>,
@@ -157,7 +157,7 @@ pub(crate) fn judge_query<'t, 'a>(
 
 // The columns of a SELECT.
 #[cycle(judge)]
-fn judge_select<'t, 'a>(
+pub(crate) fn judge_select<'t, 'a>(
     alloc: Global,
     tables: &'t Tables<'a>,
     scope: &Scope<'_, 't, 'a>,
@@ -203,7 +203,7 @@ fn judge_columns<'t, 'a>(
 
 // The condition of a SELECT, if there is one, is a truth value.
 #[cycle(judge)]
-fn judge_keep<'t, 'a>(
+pub(crate) fn judge_keep<'t, 'a>(
     alloc: Global,
     tables: &'t Tables<'a>,
     scope: &Scope<'_, 't, 'a>,
@@ -246,7 +246,7 @@ fn judge_items<'t, 'a>(
 }
 
 #[cycle(judge)]
-fn judge_value<'t, 'a>(
+pub(crate) fn judge_value<'t, 'a>(
     alloc: Global,
     tables: &'t Tables<'a>,
     scope: &Scope<'_, 't, 'a>,
@@ -278,7 +278,7 @@ fn judge_keys<'t, 'a>(
 }
 
 // The aliases of a FROM, each with the columns of its source.
-fn judge_sources<'t, 'a>(
+pub(crate) fn judge_sources<'t, 'a>(
     alloc: Global,
     tables: &'t Tables<'a>,
     sources: &'a [Source],
