@@ -5,3 +5,4 @@ pub mod SqlColumns
 pub mod SqlPlaces
 pub mod Alone
 pub mod Naming
+pub mod NoRule

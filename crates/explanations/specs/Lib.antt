@@ -11,4 +11,5 @@ pub mod SqlGroups
 pub mod SqlHints
 pub mod SqlPlaces
 pub mod SqlColumns
+pub mod SqlFound
 pub mod SqlExplanations

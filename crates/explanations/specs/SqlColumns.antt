@@ -1,5 +1,6 @@
 -- The columns of an SQL text, as they are shown.
-use Rattle.std.specs.Prelude.{ℕ, List, [], ◌∷◌, ◌++◌, codes, zip}
+use Rattle.std.specs.Prelude.{ℕ, List, [], ◌∷◌, ◌++◌, map, codes, zip}
+use Rattle.std.specs.Borrow.{Bor}
 use Rattle.nq_model.specs.SchemaTexts.{type_word}
 use Rattle.nq_model.specs.declared.table.ColumnType.{ColumnType}
 use Rattle.sql_profile.specs.AllowedAnswers.{query_names}
@@ -8,6 +9,10 @@ use Rattle.sql_profile.specs.Trees.{SqlTree}
 -- the names of the items of the first SELECT of the main query
 abbrev pub result_names : SqlTree → List (List ℕ)
 result_names tree = query_names tree.main
+
+-- columns as the program has them
+abbrev pub columns_view : List (Bor (List ℕ) × ColumnType) → List (List ℕ × ColumnType)
+columns_view columns = map (λ column. (column.0.now, column.1)) columns
 
 -- a name in double quotes, and its type
 abbrev pub column_text : List ℕ × ColumnType → List ℕ

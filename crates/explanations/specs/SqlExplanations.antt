@@ -10,6 +10,7 @@ use Rattle.sql_reader.specs.Symbols.{token_view}
 use Rattle.sql_reader.specs.declared.fault.SqlFault.{SqlFault}
 use Rattle.sql_reader.specs.declared.fault.SqlFault.TheVariants as code
 use Rattle.sql_reader.specs.declared.token.Token.{Token as Tokens}
+use Rattle.sql_scope.specs.declared.found.Found.{Found}
 use Rattle.expected_sql_tokens.specs.Expected.{Expects}
 use Rattle.expected_sql_tokens.specs.declared.kinds.SqlTokenKind.{SqlTokenKind}
 use Rattle.diagnostics.specs.Excerpts.{excerpt_text}
@@ -22,6 +23,7 @@ use Rattle.diagnostics.specs.declared.sentences.SqlFaultKind.TheVariants as sql
 use Rattle.explanations.specs.Explanations.{missing_text, rule_line, stop_text}
 use Rattle.explanations.specs.Groups.{names}
 use Rattle.explanations.specs.Lists.{among}
+use Rattle.explanations.specs.SqlFound.{sql_found_line}
 use Rattle.explanations.specs.SqlGroups.{sql_groups}
 use Rattle.explanations.specs.SqlHints.{sql_stop_sentence}
 use Rattle.explanations.specs.SqlPlaces.{place_sentence}
@@ -37,11 +39,12 @@ sql_stopped_text kind file text place there expected =
     stop_text file text place (sql_stop_sentence kind there expected) there.found
     (names sql_groups expected)
 
--- of a scope rule, with this sentence
-unfoldable pub scope_text : List ℕ → List ℕ → ℕ → List ℕ → ScopeRule → List ℕ
-scope_text file text place sentence broken =
+-- of a scope rule, with this sentence, where this was found
+unfoldable pub scope_text : List ℕ → List ℕ → ℕ → List ℕ → Found → ScopeRule
+    → List ℕ
+scope_text file text place sentence found broken =
     excerpt_text file text place sentence
-    ++ rule_line (scope_number broken) (scope_right broken)
+    ++ (sql_found_line found ++ rule_line (scope_number broken) (scope_right broken))
 
 -- of an alias that none around has: whether a table has this name
 abbrev pub alias_sentence : List (List ℕ) → List ℕ → List ℕ
@@ -97,31 +100,39 @@ ExplainsSource file text place tables made =
     → made ≡ missing_text file text place (scope_asks rule.Source) tables (name_at place tokens)
 
 -- of an alias that none around has, in a text that has tokens: it stands at the place
-abbrev pub ExplainsAlias : List ℕ → List ℕ → ℕ → List (List ℕ) → List ℕ
+abbrev pub ExplainsAlias : List ℕ → List ℕ → ℕ → List (List ℕ) → Found → List ℕ
     → Type 0
-ExplainsAlias file text place tables made =
+ExplainsAlias file text place tables found made =
     (tokens : List Token) → HasTokens First text tokens
     → made
-    ≡ scope_text file text place (alias_sentence tables (name_at place tokens)) rule.Alias
+    ≡ scope_text file text place (alias_sentence tables (name_at place tokens)) found rule.Alias
 
--- the explanation of a scope rule that a text breaks, and of that of this number
-abbrev pub ExplainsBrokenScope : List ℕ → List ℕ → ℕ → List (List ℕ) → ScopeRule
-    → List ℕ → Type 0
-ExplainsBrokenScope file text place tables rule.Source made =
+-- the explanation of a scope rule that a text breaks, where this was found, and of that of this
+-- number
+abbrev pub ExplainsBrokenScope : List ℕ → List ℕ → ℕ → List (List ℕ) → Found
+    → ScopeRule → List ℕ → Type 0
+ExplainsBrokenScope file text place tables found rule.Source made =
     ExplainsSource file text place tables made
-ExplainsBrokenScope file text place tables rule.Alias made =
-    ExplainsAlias file text place tables made
-ExplainsBrokenScope file text place tables broken made =
-    made ≡ scope_text file text place (scope_asks broken) broken
+ExplainsBrokenScope file text place tables found rule.Alias made =
+    ExplainsAlias file text place tables found made
+ExplainsBrokenScope file text place tables found broken made =
+    made ≡ scope_text file text place (scope_asks broken) found broken
 
-abbrev pub ExplainsScopeRule : List ℕ → List ℕ → ℕ → List (List ℕ) → ℕ
+abbrev pub ExplainsScopeRule : List ℕ → List ℕ → ℕ → List (List ℕ) → Found → ℕ
     → List ℕ → Type 0
-ExplainsScopeRule file text place tables number made =
+ExplainsScopeRule file text place tables found number made =
     (broken : ScopeRule) × (scope_number broken ≡ number)
-    × ExplainsBrokenScope file text place tables broken made
+    × ExplainsBrokenScope file text place tables found broken made
 
--- the same, unless the number is that of no rule
-abbrev pub ExplainsScope : List ℕ → List ℕ → ℕ → List (List ℕ) → ℕ → List ℕ
-    → Type 0
-ExplainsScope file text place tables number made =
-    ExplainsScopeRule file text place tables number made ⊎ (1 ≤ number → 11 ≤ number)
+-- of a number that no rule has, which no text breaks
+abbrev pub ExplainsNoRule : List ℕ → List ℕ → ℕ → ℕ → List ℕ → Type 0
+ExplainsNoRule file text place number made =
+    (1 ≤ number → 11 ≤ number)
+    × (made ≡ excerpt_text file text place (codes "The SQL text breaks a rule."))
+
+-- of the rule of a number, or of a number that none has
+abbrev pub ExplainsScope : List ℕ → List ℕ → ℕ → List (List ℕ) → Found → ℕ
+    → List ℕ → Type 0
+ExplainsScope file text place tables found number made =
+    ExplainsScopeRule file text place tables found number made
+    ⊎ ExplainsNoRule file text place number made

@@ -12,6 +12,7 @@ mod nearest;
 mod sentences;
 mod sql_columns;
 mod sql_faults;
+mod sql_found;
 mod sql_groups;
 mod sql_hints;
 mod sql_places;

@@ -1,19 +1,18 @@
-// The columns of an SQL text.
+// Columns, and those of an SQL text.
 ghost use Rattle.std.specs.Prelude.{◌≡◌, ◌++◌, IfOk, OnOk, zip};
-ghost use Rattle.explanations.specs.Lists.{words_view};
 ghost use Rattle.explanations.specs.SqlColumns.{column_text, columns_behind, columns_line};
-ghost use Rattle.explanations.specs.SqlColumns.{columns_text, result_names};
+ghost use Rattle.explanations.specs.SqlColumns.{columns_text, columns_view, result_names};
 ghost use Rattle.nq_model.specs.SchemaTexts.{type_word};
 ghost use Rattle.sql_profile.specs.AllowedAnswers.{item_names, query_names};
 ghost use Rattle.sql_profile.specs.Parts.{items_tree};
 ghost use Rattle.sql_profile.specs.Trees.{query_tree, sql_tree};
 
-use nq_model::{ColumnType, List, Memory};
+use nq_model::{ColumnType, Label, List, Memory};
 use sql_profile::{Item, Query, SqlText};
 use std::alloc::Global;
 
-// The word of a base type.
-fn type_word(ty: ColumnType) -> &'static str
+/// The word of a base type.
+pub(crate) fn type_word(ty: ColumnType) -> &'static str
     ensures { result.now ≡ type_word ty }
 {
     match ty {
@@ -34,32 +33,27 @@ fn put_column(text: &mut List<u8>, name: &str, ty: ColumnType) -> Result<(), Mem
 }
 
 // Puts columns, which stand behind others.
-#[tactic(auto, using(crate::proofs::SqlColumns::at_end))]
-fn put_behind(text: &mut List<u8>, names: &[&str], types: &[ColumnType]) -> Result<(), Memory>
+fn put_behind(text: &mut List<u8>, columns: &[(&str, ColumnType)]) -> Result<(), Memory>
     ensures { OnOk result (text.new
-        ≡ text.old ++ columns_behind (zip (words_view names.now) types.now)) }
+        ≡ text.old ++ columns_behind (columns_view columns.now)) }
 {
-    for at in 0..names.len().min(types.len()) {
+    for column in columns {
         text.extend_from_slice(b", ")?;
-        put_column(text, names[at], types[at])?;
+        put_column(text, column.0, column.1)?;
     }
     Ok(())
 }
 
-// Puts columns one after the other.
-fn put_columns(text: &mut List<u8>, names: &[&str], types: &[ColumnType]) -> Result<(), Memory>
-    ensures { OnOk result (text.new
-        ≡ text.old ++ columns_text (zip (words_view names.now) types.now)) }
+/// Puts columns one after the other.
+pub(crate) fn put_columns(text: &mut List<u8>, columns: &[(&str, ColumnType)]) -> Result<(), Memory>
+    ensures { OnOk result (text.new ≡ text.old ++ columns_text (columns_view columns.now)) }
 {
-    match names {
+    match columns {
         [] => Ok(()),
-        [name, more_names @ ..] => match types {
-            [] => Ok(()),
-            [ty, more_types @ ..] => {
-                put_column(text, name, *ty)?;
-                put_behind(text, more_names, more_types)
-            }
-        },
+        [column, behind @ ..] => {
+            put_column(text, column.0, column.1)?;
+            put_behind(text, behind)
+        }
     }
 }
 
@@ -73,16 +67,35 @@ fn first_items<'a>(query: &'a Query) -> &'a [Item]
     }
 }
 
-// The names of items.
-#[tactic(auto, using(crate::proofs::SqlColumns::taken_named))]
-fn names_of<'a>(alloc: Global, items: &'a [Item]) -> Result<List<&'a str>, Memory>
-    ensures { IfOk result (λ names. words_view names ≡ item_names (items_tree items.now)) }
+// The names of items, each with its type.
+#[tactic(auto, using(crate::proofs::SqlColumns::at_end, crate::proofs::SqlColumns::items_named))]
+fn columns_of<'a>(
+    alloc: Global,
+    items: &'a [Item],
+    types: &[ColumnType],
+) -> Result<List<(&'a str, ColumnType)>, Memory>
+    ensures { IfOk result (λ columns. columns_view columns
+        ≡ zip (item_names (items_tree items.now)) types.now) }
 {
-    let mut names = List::new(alloc);
-    for item in items {
-        names.push(item.name.as_str())?;
+    let mut columns = List::new(alloc);
+    for at in 0..items.len().min(types.len()) {
+        columns.push((items[at].name.as_str(), types[at]))?;
     }
-    Ok(names)
+    Ok(columns)
+}
+
+/// The columns of a source, their names lent.
+pub(crate) fn lent_columns(
+    alloc: Global,
+    columns: &[(Label, ColumnType)],
+) -> Result<List<(&str, ColumnType)>, Memory>
+    ensures { IfOk result (λ lent. columns_view lent ≡ columns.now) }
+{
+    let mut lent = List::new(alloc);
+    for column in columns {
+        lent.push((column.0.as_str(), column.1))?;
+    }
+    Ok(lent)
 }
 
 /// A line with the columns of an SQL text that has these types, as `"n": int, "name": text`. Fails
@@ -92,9 +105,9 @@ pub fn columns_line(alloc: Global, text: &SqlText, types: &[ColumnType]) -> Resu
     ensures { IfOk result (λ made. made
         ≡ columns_line (result_names (sql_tree text.now)) types.now) }
 {
-    let names = names_of(alloc, first_items(&text.main))?;
+    let columns = columns_of(alloc, first_items(&text.main), types)?;
     let mut made = List::new(alloc);
-    put_columns(&mut made, names.as_slice(), types)?;
+    put_columns(&mut made, columns.as_slice())?;
     made.extend_from_slice(b"\n")?;
     Ok(made)
 }

@@ -14,6 +14,7 @@ use crate::sql_stops::explain_sql_stop;
 use diagnostics::{ScopeRule, SqlFaultKind, excerpt, scope_rule, sql_sentence};
 use nq_model::{List, Memory, Schema};
 use sql_reader::SqlFault;
+use sql_scope::Found;
 use std::alloc::Global;
 
 // The excerpt for a fault of an SQL text.
@@ -58,7 +59,7 @@ pub fn explain_sql(
     }
 }
 
-// The explanation of a broken scope rule, over these tables.
+// The explanation of a broken scope rule, over these tables, where this was found.
 fn explain_broken(
     alloc: Global,
     file: &[u8],
@@ -66,19 +67,20 @@ fn explain_broken(
     place: u64,
     rule: ScopeRule,
     tables: &[&str],
+    found: &Found,
 ) -> Result<List<u8>, Memory>
     ensures { IfOk result (ExplainsBrokenScope file.now text.now place (words_view tables.now)
-        rule) }
+        found.now rule) }
 {
     match rule {
         ScopeRule::Source => explain_source(alloc, file, text, place, tables),
-        ScopeRule::Alias => explain_alias(alloc, file, text, place, tables),
-        _ => broken(alloc, file, text, place, rule.asks(), rule),
+        ScopeRule::Alias => explain_alias(alloc, file, text, place, tables, found),
+        _ => broken(alloc, file, text, place, rule.asks(), found, rule),
     }
 }
 
-/// The explanation of a scope rule that an SQL text breaks at a place, over the schema. Fails only
-/// if memory runs out.
+/// The explanation of a scope rule that an SQL text breaks at a place, over the schema, where this
+/// was found. Fails only if memory runs out.
 pub fn explain_scope(
     alloc: Global,
     file: &[u8],
@@ -86,13 +88,14 @@ pub fn explain_scope(
     number: u64,
     place: u64,
     schema: &Schema,
+    found: &Found,
 ) -> Result<List<u8>, Memory>
     ensures { IfOk result (λ made. ExplainsScope file.now text.now place (table_names schema.now)
-        number made) }
+        found.now number made) }
 {
     let tables = table_names(alloc, schema)?;
     match scope_rule(number) {
-        Some(rule) => explain_broken(alloc, file, text, place, rule, tables.as_slice()),
+        Some(rule) => explain_broken(alloc, file, text, place, rule, tables.as_slice(), found),
         None => excerpt(alloc, file, text, place, "The SQL text breaks a rule."),
     }
 }

@@ -6,14 +6,16 @@ ghost use Rattle.explanations.specs.SqlExplanations.{scope_text};
 
 use crate::lines::put_rule;
 use crate::lists::among;
+use crate::sql_found::put_sql_found;
 use crate::sql_stops::tokens_in;
 use crate::sql_words::name_at;
 use crate::stops::missing;
 use diagnostics::{ScopeRule, excerpt};
 use nq_model::{List, Memory};
+use sql_scope::Found;
 use std::alloc::Global;
 
-/// The explanation of a broken scope rule, with this sentence.
+/// The explanation of a broken scope rule, with this sentence, where this was found.
 #[tactic(auto, unfolding(crate::specs::SqlExplanations::scope_text))]
 pub(crate) fn broken(
     alloc: Global,
@@ -21,12 +23,14 @@ pub(crate) fn broken(
     text: &[u8],
     place: u64,
     sentence: &str,
+    found: &Found,
     rule: ScopeRule,
 ) -> Result<List<u8>, Memory>
     ensures { IfOk result (λ made. made
-        ≡ scope_text file.now text.now place sentence.now rule) }
+        ≡ scope_text file.now text.now place sentence.now found.now rule) }
 {
     let mut made = excerpt(alloc, file, text, place, sentence)?;
+    put_sql_found(alloc, &mut made, found)?;
     put_rule(alloc, &mut made, rule.number(), rule.right())?;
     Ok(made)
 }
@@ -42,23 +46,26 @@ fn alias_sentence(tables: &[&str], name: &str) -> &'static str
     }
 }
 
-/// The explanation of an alias that none around has, which stands at the place.
+/// The explanation of an alias that none around has, which stands at the place, where this was
+/// found.
 pub(crate) fn explain_alias(
     alloc: Global,
     file: &[u8],
     text: &[u8],
     place: u64,
     tables: &[&str],
+    found: &Found,
 ) -> Result<List<u8>, Memory>
-    ensures { IfOk result (ExplainsAlias file.now text.now place (words_view tables.now)) }
+    ensures { IfOk result (ExplainsAlias file.now text.now place (words_view tables.now)
+        found.now) }
 {
     let rule = ScopeRule::Alias;
     match tokens_in(alloc, text)? {
         Some(tokens) => {
             let sentence = alias_sentence(tables, name_at(tokens.as_slice(), place));
-            broken(alloc, file, text, place, sentence, rule)
+            broken(alloc, file, text, place, sentence, found, rule)
         }
-        None => broken(alloc, file, text, place, rule.asks(), rule),
+        None => broken(alloc, file, text, place, rule.asks(), found, rule),
     }
 }
 

@@ -51,10 +51,11 @@ expected: an expression or ROW_NUMBER
     },
     Row {
         text: r#"SELECT 1 AS "n" FROM "people" AS "p" JOIN "people" AS "q""#,
-        out: r#"q:1:38: There is no JOIN. List the sources behind FROM, and compare their columns in WHERE.
-SELECT 1 AS "n" FROM "people" AS "p" JOIN "people" AS "q"
+        out: "\
+q:1:38: There is no JOIN. List the sources behind FROM, and compare their columns in WHERE.
+SELECT 1 AS \"n\" FROM \"people\" AS \"p\" JOIN \"people\" AS \"q\"
                                      ^
-"#,
+",
         ..ACCEPTED_SQL
     },
     Row {
@@ -62,6 +63,7 @@ SELECT 1 AS "n" FROM "people" AS "p" JOIN "people" AS "q"
         out: r#"q:1:8: The source has the column: is its name misspelt?
 SELECT "p"."nam" AS "n" FROM "people" AS "p"
        ^
+found: "id": int, "name": text, "vip": bool
 rule: 4, kept by: SELECT "d"."name" AS "n" FROM "departments" AS "d"
 "#,
         ..ACCEPTED_SQL

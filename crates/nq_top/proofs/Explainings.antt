@@ -15,6 +15,7 @@ use Rattle.query_syntax.specs.declared.fault.SyntaxFault.{SyntaxFault}
 use Rattle.query_syntax.specs.declared.fault.SyntaxFault.TheVariants as syntax
 use Rattle.schema_reader.specs.declared.fault.SchemaFault.{SchemaFault}
 use Rattle.schema_reader.specs.declared.fault.SchemaFault.TheVariants as code
+use Rattle.sql_scope.specs.Found.{nothing}
 use Rattle.explanations.specs.Explanations.{ExplainsSchema, ExplainsSyntax, ExplainsType}
 use Rattle.explanations.specs.Explanations.{table_names}
 use Rattle.command_line.specs.Commands.{Subject}
@@ -45,7 +46,7 @@ use Rattle.nq_top.proofs.Steps.{fetch_next, gather_through, leads_after}
 abbrev pub Why : {A : Type 0} → Result A Refused → List ℕ → List ℕ → List (List ℕ)
     → List ℕ → Type 0
 Why given name text tables made =
-    (r : Refused) × (given ≡ Err r) × ExplainsRefused name text tables [] r made
+    (r : Refused) × (given ≡ Err r) × ExplainsRefused name text tables [] nothing r made
 
 why_schema : {A : Type 0} (given : Result A Refused) (name text : List ℕ) (fault : SchemaFault)
     (made : List ℕ) → Refuses given (schema_refusal fault)
@@ -258,6 +259,7 @@ schema_faulty (Some files) subject name file text bytes fault made old new same 
       text = bytes;
       tables = [];
       found = [];
+      parts = nothing;
       why = why.0;
     }))) = ap (schema_explained reading files subject name bytes) why.1 in
     let P : Judgement → Type 0 = λ j. GatherTells j old new (Ok (gathered.Text made)) in

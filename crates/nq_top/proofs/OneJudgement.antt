@@ -9,7 +9,6 @@ use Rattle.command_line.specs.Commands.{version, of_query, answer, generated, sh
 use Rattle.command_line.specs.Commands.{explain_rule, Subject, a_query, an_sql_text, a_table}
 use Rattle.command_line.specs.declared.refusal.Refused.{Refused}
 use Rattle.command_line.specs.declared.refusal.Refused.TheVariants.{TooLong, Query as QueryRefused, Schema as SchemaRefused}
-use Rattle.nq_model.specs.Tables.{Columns}
 use Rattle.nq_model.specs.Terms.{PlacedTerm, bare}
 use Rattle.nq_model.specs.Types.{TypeTree}
 use Rattle.nq_model.specs.Typing.{IsAccepted}
@@ -25,19 +24,20 @@ use Rattle.nq_execute.specs.Plans.{Finish, Indexes, Writing}
 use Rattle.nq_execute.specs.declared.plan.TraceWriting.{TraceWriting}
 use Rattle.shred_types.specs.Columns.{columns_at}
 use Rattle.sql_profile.specs.declared.answer.Answer.{Answer}
+use Rattle.sql_profile.specs.Trees.{PlacedSql}
 use Rattle.sql_profile.specs.declared.server.Loaded.{Loaded}
+use Rattle.sql_reader.specs.declared.fault.SqlFault.{SqlFault}
 use Rattle.nq_top.specs.Judging.{Judgement, Verdict, refused, planned, written, shown, keyed}
 use Rattle.nq_top.specs.Judging.{linked, at_once, after, judged, fetched_then, read_then, text_then}
 use Rattle.nq_top.specs.Judging.{loaded_as, tables_judged, answers_then, draft_judged}
 use Rattle.nq_top.specs.Judging.{stitch_judged, aim_judged, typed_or_explained}
-use Rattle.nq_top.specs.Judging.{columns_or_cause, schema_explained, subject_explained}
+use Rattle.nq_top.specs.Judging.{columns_or_explained, schema_explained, subject_explained}
 use Rattle.nq_top.specs.Judging.{judgement}
 use Rattle.nq_top.specs.Limits.{text_limit, tables_limit}
 use Rattle.nq_top.specs.Lines.{file_by, answer_file_of}
 use Rattle.nq_top.specs.Natural.{Natural, keyed_as, natural_draft, natural_of, natural_read}
 use Rattle.nq_top.specs.Plans.{Draft, drafted, Question, draft_to, question_to}
 use Rattle.nq_top.specs.Plans.{generated_question}
-use Rattle.nq_top.specs.Reading.{columns_over, columns_read}
 use Rattle.nq_top.specs.Reading.{Reading, TypedTerm, refused_as, schema_read, term_read, type_read, typed_as, typed_over, query_read, sql_read, tree_read, rows_read, answer_read, links_read}
 use Rattle.natural_index.specs.Naming.{no_key}
 use Rattle.nq_ir.specs.Trees.{FormTree}
@@ -207,11 +207,6 @@ module _ (reading other : Reading) where
   unfolding sql_read
   sql_same schema text = ap (tree_read schema text) (one_sql reading other text)
 
-  columns_same : (schema : Schema) (text : List ℕ)
-      → columns_read reading.sqls schema text ≡ columns_read other.sqls schema text
-  unfolding columns_read
-  columns_same schema text = ap (columns_over schema) (one_sql reading other text)
-
   -- and one explanation of a subject and of a schema
   subject_same : (files : Files) (schema : Schema) (subject : Subject)
       → subject_explained reading files schema subject
@@ -224,8 +219,8 @@ module _ (reading other : Reading) where
   subject_same files schema (an_sql_text name) =
       fetched_same files name text_limit _ _
       (λ asked. ap
-      (λ (r : Result Columns Refused). at_once (columns_or_cause schema name asked r))
-      (columns_same schema asked))
+      (λ (r : Result PlacedSql SqlFault). at_once (columns_or_explained schema name asked r))
+      (one_sql reading other asked))
   subject_same files schema (a_table table folder) = refl
 
   schema_explained_same : (files : Files) (subject : Subject) (name text : List ℕ)

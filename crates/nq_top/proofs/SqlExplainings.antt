@@ -14,15 +14,17 @@ use Rattle.sql_profile.proofs.Scoped.{tree_fine}
 use Rattle.sql_reader.specs.Parsing.{Parsed}
 use Rattle.sql_reader.specs.declared.fault.SqlFault.{SqlFault}
 use Rattle.sql_reader.specs.declared.fault.SqlFault.TheVariants as code
+use Rattle.sql_scope.specs.Found.{text_found}
+use Rattle.sql_scope.specs.declared.found.Found.{Found}
 use Rattle.explanations.specs.Explanations.{table_names}
 use Rattle.explanations.specs.SqlColumns.{columns_line, result_names}
 use Rattle.explanations.specs.SqlExplanations.{ExplainsScope, ExplainsSql}
 use Rattle.sql_profile.specs.AllowedAnswers.{item_names, query_names}
 use Rattle.command_line.specs.declared.refusal.Refused.{Refused}
 use Rattle.command_line.specs.declared.refusal.Refused.TheVariants.{Sql as SqlRefused, IllScoped}
-use Rattle.nq_top.specs.Judging.{columns_or_cause}
+use Rattle.nq_top.specs.Judging.{columns_or_cause, columns_or_explained}
 use Rattle.nq_top.specs.Limits.{depth_limit}
-use Rattle.nq_top.specs.Reading.{SqlReading, columns_as, columns_over, columns_read}
+use Rattle.nq_top.specs.Reading.{SqlReading, columns_as}
 use Rattle.nq_top.specs.Steps.{Says}
 use Rattle.nq_top.proofs.SqlReadings.{fault_of, says_fault, says_tree}
 
@@ -54,42 +56,46 @@ pub columns_written : {E : Type 0} (schema : Schema) (name text : List ℕ) (t :
     → (columns : Columns) × IsWellScoped (shapes_of_schema schema.tables) (sql_tree t) columns
     × (types ≡ types_of columns)
     → IfOk result (λ made. made ≡ columns_line (result_names (sql_tree t)) types)
-    → IfOk result (Says (columns_or_cause schema name text (columns_over schema (Ok (placed t)))))
+    → IfOk result (Says (columns_or_explained schema name text (Ok (placed t))))
 columns_written schema name text t types (Err e) scoped is = tt
 columns_written schema name text t types (Ok made) (columns, scoped, typed) is =
     let ts = shapes_of_schema schema.tables in
+    let parts = text_found ts (placed t) in
     let P : Verdict Columns → Type 0 = λ v.
-    Says (columns_or_cause schema name text (columns_as v)) made in
+    Says (columns_or_cause schema name text parts (columns_as v)) made in
     subst P (sym (tree_fine ts (placed t) columns scoped))
     (is ∙ ap (λ ns. columns_line ns types) (result_named ts (sql_tree t) columns scoped)
     ∙ ap (columns_line (names_of columns)) typed)
 
 -- or the rule of scope that it breaks is explained
 pub scope_explained : {E : Type 0} (schema : Schema) (name text : List ℕ) (t : SqlText)
-    (rule number place : ℕ) (result : Result (List ℕ) E)
+    (rule number place : ℕ) (found : Found) (result : Result (List ℕ) E)
     → judge (shapes_of_schema schema.tables) (placed t) ≡ Broken rule place → number ≡ rule
-    → IfOk result (λ made. ExplainsScope name text place (table_names schema) number made)
-    → IfOk result (Says (columns_or_cause schema name text (columns_over schema (Ok (placed t)))))
-scope_explained schema name text t rule number place (Err e) is same says = tt
-scope_explained schema name text t rule number place (Ok made) is same says =
+    → found ≡ text_found (shapes_of_schema schema.tables) (placed t)
+    → IfOk result (λ made. ExplainsScope name text place (table_names schema) found number made)
+    → IfOk result (Says (columns_or_explained schema name text (Ok (placed t))))
+scope_explained schema name text t rule number place found (Err e) is same finds says = tt
+scope_explained schema name text t rule number place found (Ok made) is same finds says =
+    let parts = text_found (shapes_of_schema schema.tables) (placed t) in
     let P : Verdict Columns → Type 0 = λ v.
-    Says (columns_or_cause schema name text (columns_as v)) made in
-    let Q : ℕ → Type 0 = λ n. ExplainsScope name text place (table_names schema) n made in
-    subst P (sym is) (subst Q same says)
+    Says (columns_or_cause schema name text parts (columns_as v)) made in
+    let tables = table_names schema in
+    let F : Found → Type 0 = λ f. ExplainsScope name text place tables f number made in
+    let Q : ℕ → Type 0 = λ n. ExplainsScope name text place tables parts n made in
+    subst P (sym is) (subst Q same (subst F finds says))
 
 -- 3. texts
 
 -- what is said of the tree that a text spells is said of the text
 pub tree_if_ok : {E : Type 0} (schema : Schema) (name text : List ℕ) (t : SqlText)
     (result : Result (List ℕ) E) → Parsed (Ok t) depth_limit text
-    → IfOk result (Says (columns_or_cause schema name text (columns_over schema (Ok (placed t)))))
+    → IfOk result (Says (columns_or_explained schema name text (Ok (placed t))))
     → IfOk result (λ made. (reading : SqlReading) →
-    Says (columns_or_cause schema name text (columns_read reading schema text)) made)
-unfolding columns_read
+    Says (columns_or_explained schema name text (reading.says text)) made)
 tree_if_ok schema name text t (Err e) parsed says = tt
 tree_if_ok schema name text t (Ok made) parsed says = λ reading.
     let P : Result PlacedSql SqlFault → Type 0 = λ r.
-    Says (columns_or_cause schema name text (columns_over schema r)) made in
+    Says (columns_or_explained schema name text r) made in
     subst P (sym (says_tree (reading.says text) text (placed t) (reading.right text) parsed)) says
 
 -- a fault that was found is that of the reading
@@ -113,10 +119,9 @@ pub fault_if_ok : {E : Type 0} (schema : Schema) (name text : List ℕ) (fault :
     (result : Result (List ℕ) E) → Parsed (Err fault) depth_limit text
     → IfOk result (ExplainsSql depth_limit name text fault)
     → IfOk result (λ made. (reading : SqlReading) →
-    Says (columns_or_cause schema name text (columns_read reading schema text)) made)
-unfolding columns_read
+    Says (columns_or_explained schema name text (reading.says text)) made)
 fault_if_ok schema name text fault (Err e) parsed says = tt
 fault_if_ok schema name text fault (Ok made) parsed says = λ reading.
     let P : Result PlacedSql SqlFault → Type 0 = λ r.
-    Says (columns_or_cause schema name text (columns_over schema r)) made in
+    Says (columns_or_explained schema name text r) made in
     subst P (sym (reads_fault reading text fault parsed made name says)) says

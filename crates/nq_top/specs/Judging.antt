@@ -14,8 +14,12 @@ use Rattle.nq_model.specs.Types.{TypeTree}
 use Rattle.database_scripts.specs.Loads.{load_text}
 use Rattle.diagnostics.specs.RuleTexts.{rule_text}
 use Rattle.shred_types.specs.Columns.{columns_at}
+use Rattle.sql_profile.specs.Trees.{PlacedSql}
 use Rattle.sql_profile.specs.declared.answer.Answer.{Answer}
 use Rattle.sql_profile.specs.declared.server.Loaded.{Loaded}
+use Rattle.sql_reader.specs.declared.fault.SqlFault.{SqlFault}
+use Rattle.sql_scope.specs.Found.{nothing}
+use Rattle.sql_scope.specs.declared.found.Found.{Found}
 use Rattle.command_line.specs.Commands.{Showing, Aim, run, run_natural, run_json, run_json_tables}
 use Rattle.command_line.specs.Commands.{lineage, stitch, stitch_json, check, show_types}
 use Rattle.command_line.specs.Commands.{show_normal, show_paths, show_natural, show_texts}
@@ -30,9 +34,8 @@ use Rattle.command_line.specs.declared.refusal.Refused.TheVariants.{TooLong}
 use Rattle.nq_execute.specs.Plans.{Writing, RowWriting, Plan}
 use Rattle.nq_execute.specs.declared.plan.TraceWriting.{TraceWriting}
 use Rattle.lineage_compile.specs.Tables.{with_numbers}
-use Rattle.explanations.specs.Explanations.{table_names}
+use Rattle.explanations.specs.Explanations.{no_table_text, table_names}
 use Rattle.explanations.specs.SqlColumns.{columns_line}
-use Rattle.explanations.specs.Explanations.{no_table_text}
 use Rattle.nq_top.specs.Explaining.{Explained, table_refused, text_refused}
 use Rattle.nq_top.specs.Foreign.{Foreign, foreign_to}
 use Rattle.nq_top.specs.Limits.{text_limit, tables_limit}
@@ -42,7 +45,7 @@ use Rattle.nq_top.specs.Plans.{Draft, drafted, Question, draft_to, question_to, 
 use Rattle.nq_top.specs.Reading.{PlainReading, Reading, TypedTerm, SqlColumns}
 use Rattle.nq_top.specs.Reading.{schema_read, term_read}
 use Rattle.nq_top.specs.Reading.{query_read, rows_read, sql_read, answer_read, links_read}
-use Rattle.nq_top.specs.Reading.{columns_read, found_over, typed_over}
+use Rattle.nq_top.specs.Reading.{columns_over, found_over, parts_over, typed_over}
 use Rattle.nq_top.specs.Shown.{Shown, shown_form, form_line, shown_texts}
 use Rattle.nq_top.specs.Traced.{lineage_draft}
 use Rattle.table_reader.specs.Tables.{table_of}
@@ -223,6 +226,7 @@ type_or_cause schema name text found (Err r) = explained (text_refused (record {
   text = text;
   tables = table_names schema;
   found = found;
+  parts = nothing;
   why = r;
 }))
 
@@ -238,24 +242,32 @@ query_explained reading files schema name =
     fetched_then files name text_limit
     (λ text. at_once (typed_or_explained schema name text (term_read reading.queries text)))
 
--- the line of the columns of an SQL text over a schema, or what explains why it is refused
-abbrev pub columns_or_cause : Schema → List ℕ → List ℕ → Result Columns Refused
+-- the line of the columns of an SQL text over a schema, or what explains why it is refused, where
+-- this is found
+abbrev pub columns_or_cause : Schema → List ℕ → List ℕ → Found → Result Columns Refused
     → Verdict
-columns_or_cause schema name text (Ok columns) =
+columns_or_cause schema name text parts (Ok columns) =
     written (columns_line (names_of columns) (types_of columns))
-columns_or_cause schema name text (Err r) = explained (text_refused (record {
+columns_or_cause schema name text parts (Err r) = explained (text_refused (record {
   name = name;
   text = text;
   tables = table_names schema;
   found = [];
+  parts = parts;
   why = r;
 }))
+
+-- the same of the tree that the text spells
+abbrev pub columns_or_explained : Schema → List ℕ → List ℕ → Result PlacedSql SqlFault
+    → Verdict
+columns_or_explained schema name text read =
+    columns_or_cause schema name text (parts_over schema read) (columns_over schema read)
 
 -- the same of the SQL text under a name
 abbrev pub sql_explained : Reading → Files → Schema → List ℕ → Judgement
 sql_explained reading files schema name =
     fetched_then files name text_limit
-    (λ text. at_once (columns_or_cause schema name text (columns_read reading.sqls schema text)))
+    (λ text. at_once (columns_or_explained schema name text (reading.sqls.says text)))
 
 -- the query that gives the rows of a table
 abbrev pub table_query : List ℕ → PlacedTerm
@@ -304,6 +316,7 @@ schema_explained reading files subject name text (Err r) =
       text = text;
       tables = [];
       found = [];
+      parts = nothing;
       why = r;
     })))
 

@@ -1,7 +1,7 @@
 // The columns of an SQL text, or what explains why it is refused.
 ghost use Rattle.std.specs.Prelude.{◌≡◌, false, IfOk, IfSome, Ok};
-ghost use Rattle.nq_top.specs.Judging.{columns_or_cause, sql_explained};
-ghost use Rattle.nq_top.specs.Reading.{Reading, SqlReading, columns_over, columns_read};
+ghost use Rattle.nq_top.specs.Judging.{columns_or_explained, sql_explained};
+ghost use Rattle.nq_top.specs.Reading.{Reading, SqlReading};
 ghost use Rattle.nq_top.specs.Steps.{CanServe, GatherTells, InputCounts, Says, gathered_asks};
 ghost use Rattle.sql_profile.specs.Trees.{placed};
 
@@ -14,7 +14,7 @@ use nq_edge::Inputs;
 use nq_model::{List, Memory, Schema};
 use sql_profile::SqlText;
 use sql_reader::read_sql;
-use sql_scope::{ScopeFault, scope};
+use sql_scope::{ScopeFault, found_parts, scope};
 use std::alloc::Global;
 
 // The line of the columns of a tree, which the text of a file spells, or what explains the rule of
@@ -26,14 +26,15 @@ fn explain_tree(
     text: &[u8],
     tree: &SqlText,
 ) -> Result<List<u8>, Memory>
-    ensures { IfOk result (Says (columns_or_cause schema.now file.now text.now
-        (columns_over schema.now (Ok (placed tree.now))))) }
+    ensures { IfOk result (Says (columns_or_explained schema.now file.now text.now
+        (Ok (placed tree.now)))) }
 {
     match scope(alloc, schema, tree) {
         Ok(types) => columns_line(alloc, tree, types.as_slice()),
         Err(ScopeFault::Memory) => Err(Memory),
         Err(ScopeFault::Broken { rule, place }) => {
-            explain_scope(alloc, file, text, u64::from(rule), place, schema)
+            let found = found_parts(alloc, schema, tree)?;
+            explain_scope(alloc, file, text, u64::from(rule), place, schema, &found)
         }
     }
 }
@@ -47,8 +48,7 @@ fn explain_text(
     text: &[u8],
 ) -> Result<List<u8>, Memory>
     ensures { IfOk result (λ made. (reading : SqlReading) →
-        Says (columns_or_cause schema.now file.now text.now
-        (columns_read reading schema.now text.now)) made) }
+        Says (columns_or_explained schema.now file.now text.now (reading.says text.now)) made) }
 {
     match read_sql(alloc, text, DEPTH) {
         Ok(tree) => {

@@ -3,7 +3,7 @@ use explanations::{columns_line, explain_scope, explain_sql, explain_table_name}
 use nq_model::{List, Memory, Schema};
 use schema_reader::read_schema;
 use sql_reader::read_sql;
-use sql_scope::{ScopeFault, scope};
+use sql_scope::{ScopeFault, found_parts, scope};
 use std::alloc::Global;
 use std::process::Abort;
 use std::test::Fail;
@@ -26,7 +26,8 @@ fn explained(alloc: Global, text: &[u8], depth: u64) -> Result<List<u8>, Memory>
         Ok(tree) => match scope(alloc, &schema, &tree) {
             Ok(types) => columns_line(alloc, &tree, types.as_slice()),
             Err(ScopeFault::Broken { rule, place }) => {
-                explain_scope(alloc, b"q", text, u64::from(rule), place, &schema)
+                let found = found_parts(alloc, &schema, &tree)?;
+                explain_scope(alloc, b"q", text, u64::from(rule), place, &schema, &found)
             }
             Err(ScopeFault::Memory) => Err(Memory),
         },
@@ -35,7 +36,7 @@ fn explained(alloc: Global, text: &[u8], depth: u64) -> Result<List<u8>, Memory>
 }
 
 // An SQL text, and what is said of it.
-const EXPLAINED: [(&str, &str); 23] = [
+const EXPLAINED: [(&str, &str); 34] = [
     // Words and bytes with which nothing begins.
     (
         "SELECT * FROM departments",
@@ -202,14 +203,6 @@ tables: departments and employees
 nearest: departments
 ",
     ),
-    (
-        "SELECT \"d\".\"nam\" AS \"n\" FROM \"departments\" AS \"d\"",
-        "q:1:8: The source has the column: is its name misspelt?
-SELECT \"d\".\"nam\" AS \"n\" FROM \"departments\" AS \"d\"
-       ^
-rule: 4, kept by: SELECT \"d\".\"name\" AS \"n\" FROM \"departments\" AS \"d\"
-",
-    ),
     // An alias that none has, which is the name of a table, and one that is not.
     (
         "SELECT \"departments\".\"name\" AS \"n\" FROM \"departments\" AS \"d\"",
@@ -226,6 +219,122 @@ SELECT \"x\".\"name\" AS \"n\" FROM \"departments\" AS \"d\"
        ^
 rule: 3, kept by: SELECT \"d\".\"name\" AS \"n\" FROM \"departments\" AS \"d\"
 ",
+    ),
+    // A missing column: those of the source, which may be a WITH query, or stand around.
+    (
+        r#"SELECT "d"."nam" AS "n" FROM "departments" AS "d""#,
+        r#"q:1:8: The source has the column: is its name misspelt?
+SELECT "d"."nam" AS "n" FROM "departments" AS "d"
+       ^
+found: "name": text
+rule: 4, kept by: SELECT "d"."name" AS "n" FROM "departments" AS "d"
+"#,
+    ),
+    (
+        r#"WITH "q" AS (SELECT 1 AS "a", TRUE AS "b") SELECT "q"."c" AS "n" FROM "q" AS "q""#,
+        r#"q:1:51: The source has the column: is its name misspelt?
+WITH "q" AS (SELECT 1 AS "a", TRUE AS "b") SELECT "q"."c" AS "n" FROM "q" AS "q"
+                                                  ^
+found: "a": int, "b": bool
+rule: 4, kept by: SELECT "d"."name" AS "n" FROM "departments" AS "d"
+"#,
+    ),
+    (
+        r#"SELECT (SELECT COUNT(*) WHERE "e"."id" = 1) AS "n" FROM "employees" AS "e""#,
+        r#"q:1:31: The source has the column: is its name misspelt?
+SELECT (SELECT COUNT(*) WHERE "e"."id" = 1) AS "n" FROM "employees" AS "e"
+                              ^
+found: "dept": text, "name": text, "salary": int
+rule: 4, kept by: SELECT "d"."name" AS "n" FROM "departments" AS "d"
+"#,
+    ),
+    // Operands: of a comparison, of the second operator in a chain, and of NOT.
+    (
+        r#"SELECT 1 AS "n" FROM "employees" AS "e" WHERE "e"."salary" = '5'"#,
+        "\
+q:1:60: + - * take ints, AND OR NOT truth values, and a comparison two values of one type.
+SELECT 1 AS \"n\" FROM \"employees\" AS \"e\" WHERE \"e\".\"salary\" = '5'
+                                                           ^
+found: int and text
+rule: 5, kept by: SELECT 1 + 2 AS \"n\"
+",
+    ),
+    (
+        r#"SELECT "e"."salary" + 1 + "e"."name" AS "n" FROM "employees" AS "e""#,
+        "\
+q:1:25: + - * take ints, AND OR NOT truth values, and a comparison two values of one type.
+SELECT \"e\".\"salary\" + 1 + \"e\".\"name\" AS \"n\" FROM \"employees\" AS \"e\"
+                        ^
+found: int and text
+rule: 5, kept by: SELECT 1 + 2 AS \"n\"
+",
+    ),
+    (
+        r#"SELECT 1 AS "n" FROM "employees" AS "e" WHERE NOT "e"."dept""#,
+        "\
+q:1:47: + - * take ints, AND OR NOT truth values, and a comparison two values of one type.
+SELECT 1 AS \"n\" FROM \"employees\" AS \"e\" WHERE NOT \"e\".\"dept\"
+                                              ^
+found: text
+rule: 5, kept by: SELECT 1 + 2 AS \"n\"
+",
+    ),
+    // A condition, and the test of a CASE with its arms.
+    (
+        r#"SELECT 1 AS "n" FROM "employees" AS "e" WHERE "e"."salary""#,
+        r#"q:1:47: WHERE and the test of CASE are truth values, and the arms of CASE have one type.
+SELECT 1 AS "n" FROM "employees" AS "e" WHERE "e"."salary"
+                                              ^
+found: int
+rule: 6, kept by: SELECT 1 AS "n" WHERE 1 < 2
+"#,
+    ),
+    (
+        r#"SELECT CASE WHEN 1 < 2 THEN 1 ELSE '2' END AS "n""#,
+        r#"q:1:8: WHERE and the test of CASE are truth values, and the arms of CASE have one type.
+SELECT CASE WHEN 1 < 2 THEN 1 ELSE '2' END AS "n"
+       ^
+found: bool, int and text
+rule: 6, kept by: SELECT 1 AS "n" WHERE 1 < 2
+"#,
+    ),
+    // Two items of one name, of which no type is asked.
+    (
+        r#"SELECT 1 AS "n", 2 AS "n""#,
+        r#"q:1:23: The items of one SELECT have different names.
+SELECT 1 AS "n", 2 AS "n"
+                      ^
+rule: 7, kept by: SELECT 1 AS "m", 2 AS "n"
+"#,
+    ),
+    // SELECTs that differ, the second inside NOT EXISTS.
+    (
+        r#"SELECT 1 AS "n", 'a' AS "m" UNION ALL SELECT 2 AS "n""#,
+        r#"q:1:39: The SELECTs of a UNION ALL have as many items, of the same types in order.
+SELECT 1 AS "n", 'a' AS "m" UNION ALL SELECT 2 AS "n"
+                                      ^
+found: (int, text) and (int)
+rule: 8, kept by: SELECT 1 AS "n" UNION ALL SELECT 2 AS "n"
+"#,
+    ),
+    (
+        r#"SELECT 1 AS "n" WHERE NOT EXISTS (SELECT 2 AS "m" UNION ALL SELECT TRUE AS "m")"#,
+        r#"q:1:61: The SELECTs of a UNION ALL have as many items, of the same types in order.
+SELECT 1 AS "n" WHERE NOT EXISTS (SELECT 2 AS "m" UNION ALL SELECT TRUE AS "m")
+                                                            ^
+found: (int) and (bool)
+rule: 8, kept by: SELECT 1 AS "n" UNION ALL SELECT 2 AS "n"
+"#,
+    ),
+    // The summed expression.
+    (
+        r#"SELECT (SELECT COALESCE(SUM("e"."name"), 0) FROM "employees" AS "e") AS "n""#,
+        r#"q:1:29: What SUM adds up is an int.
+SELECT (SELECT COALESCE(SUM("e"."name"), 0) FROM "employees" AS "e") AS "n"
+                            ^
+found: text
+rule: 10, kept by: SELECT (SELECT COALESCE(SUM("e"."salary"), 0) FROM "employees" AS "e") AS "n"
+"#,
     ),
     // An accepted text: its columns.
     (
