@@ -92,6 +92,19 @@ const SUMMED_AGAIN: &str =
 const ALL_COUNTED: &str =
     r#"SELECT ("x"."a" + (SELECT COUNT(*) FROM "t" AS "y")) AS "a" FROM "t" AS "x""#;
 
+// The rows whose number is below 3, each with a count of all rows of the other table: an item, a condition,
+// and inside another total. A count takes a step for each of those rows, and is asked for by the three alone.
+const COUNTED_BY_FEW: &str =
+    r#"SELECT ("x"."a" + (SELECT COUNT(*) FROM "t" AS "y", "e" AS "z" WHERE ("y"."a" = "x"."a"))) AS "a"
+FROM "t" AS "x" WHERE ("x"."a" < 3)"#;
+
+const TRIED_BY_FEW: &str = r#"SELECT "x"."a" AS "a" FROM "t" AS "x"
+WHERE (("x"."a" < 3) AND ((SELECT COUNT(*) FROM "t" AS "y", "e" AS "z" WHERE ("y"."a" = "x"."a")) = 100000))"#;
+
+const SUMMED_BY_FEW: &str =
+    r#"SELECT ("x"."a" + (SELECT COALESCE(SUM((SELECT COUNT(*) FROM "t" AS "y", "e" AS "z"
+WHERE ("y"."a" = "x"."a"))), 0) FROM "t" AS "w" WHERE ("w"."a" = "x"."a"))) AS "a" FROM "t" AS "x" WHERE ("x"."a" < 3)"#;
+
 // As many pairs, whose first numbers rise from 0 by a step.
 fn pairs(alloc: Global, count: usize, step: i64) -> Result<Vec<(i64, i64)>, Memory> {
     let mut pairs = Vec::with_capacity(alloc, count)?;
@@ -245,6 +258,22 @@ fn totals_of_one_key(rt: HostRuntime) -> Result<(), Fail> {
     assert!(&rt; rise(&summed.rows, HALF, 100_000, 1));
     let all = ask(alloc, &mut server, &schema, ALL_COUNTED)?;
     assert!(&rt; rise(&all.rows, HALF, 100_000, 1));
+    Ok(())
+}
+
+#[test]
+fn totals_that_few_rows_ask_for(rt: HostRuntime) -> Result<(), Fail> {
+    let alloc = rt.alloc();
+    let schema = schema(alloc)?;
+    let (every, even) = (pairs(alloc, HALF, 1)?, pairs(alloc, HALF, 2)?);
+    let mut server: Box<dyn SqlServer> = Box::new(alloc, FastServer::new(alloc))?;
+    load_both(alloc, &mut server, every.as_slice(), even.as_slice())?;
+    let counted = ask(alloc, &mut server, &schema, COUNTED_BY_FEW)?;
+    assert!(&rt; rise(&counted.rows, 3, 100_000, 1));
+    let tried = ask(alloc, &mut server, &schema, TRIED_BY_FEW)?;
+    assert!(&rt; rise(&tried.rows, 3, 0, 1));
+    let summed = ask(alloc, &mut server, &schema, SUMMED_BY_FEW)?;
+    assert!(&rt; rise(&summed.rows, 3, 100_000, 1));
     Ok(())
 }
 
