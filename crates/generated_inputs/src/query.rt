@@ -25,21 +25,26 @@ fn variable(binder: u64) -> Term
 fn column(alloc: Global, row: u64, label: &str) -> Result<Term, Memory>
     ensures { IfOk result (λ term. placed term ≡ column row label.now) }
 {
-    Ok(unplaced(Node::Field {
-        of: boxed(alloc, variable(row))?,
-        label: Label::from_str(alloc, label)?,
-    }))
+    let label = Label::from_str(alloc, label)?;
+    let of = boxed(alloc, variable(row))?;
+    Ok(unplaced(Node::Field { of, label }))
+}
+
+// Two terms in boxes.
+fn both(alloc: Global, first: Term, second: Term) -> Result<(Box<Term>, Box<Term>), Memory>
+    ensures { IfOk result (λ boxes. (boxes.0.value ≡ first) × (boxes.1.value ≡ second)) }
+{
+    let first = boxed(alloc, first)?;
+    Ok((first, boxed(alloc, second)?))
 }
 
 // The bag of what a body gives for each row of a table.
 fn over(alloc: Global, name: &str, body: Term) -> Result<Term, Memory>
     ensures { IfOk result (λ term. placed term ≡ over name.now (placed body)) }
 {
-    let table = unplaced(Node::Table(Label::from_str(alloc, name)?));
-    Ok(unplaced(Node::For {
-        source: boxed(alloc, table)?,
-        body: boxed(alloc, body)?,
-    }))
+    let table = Node::Table(Label::from_str(alloc, name)?);
+    let (source, body) = both(alloc, unplaced(table), body)?;
+    Ok(unplaced(Node::For { source, body }))
 }
 
 // The bag of one element.
@@ -54,16 +59,12 @@ fn where_equal(alloc: Global, left: Term, right: Term, element: Term) -> Result<
     ensures { IfOk result (λ term.
         placed term ≡ where_equal (placed left) (placed right) (placed element)) }
 {
-    let test = unplaced(Node::Binary {
-        op: Binary::Eq,
-        left: boxed(alloc, left)?,
-        right: boxed(alloc, right)?,
-    });
     let body = single(alloc, element)?;
-    Ok(unplaced(Node::Guard {
-        test: boxed(alloc, test)?,
-        body: boxed(alloc, body)?,
-    }))
+    let (left, right) = both(alloc, left, right)?;
+    let op = Binary::Eq;
+    let test = unplaced(Node::Binary { op, left, right });
+    let (test, body) = both(alloc, test, body)?;
+    Ok(unplaced(Node::Guard { test, body }))
 }
 
 // The record of two fields.
@@ -99,37 +100,31 @@ fn tasks_function(alloc: Global) -> Result<Term, Memory>
 fn employee_element(alloc: Global) -> Result<Term, Memory>
     ensures { IfOk result (λ term. placed term ≡ employee_element) }
 {
-    let tasks = unplaced(Node::Apply {
-        func: boxed(alloc, variable(2))?,
-        arg: boxed(alloc, column(alloc, 0, "name")?)?,
-    });
-    record_of(
-        alloc,
-        (Label::from_str(alloc, "name")?, column(alloc, 0, "name")?),
-        (Label::from_str(alloc, "tasks")?, tasks),
-    )
+    let labels = (
+        Label::from_str(alloc, "name")?,
+        Label::from_str(alloc, "tasks")?,
+    );
+    let (func, arg) = both(alloc, variable(2), column(alloc, 0, "name")?)?;
+    let tasks = unplaced(Node::Apply { func, arg });
+    let name = column(alloc, 0, "name")?;
+    record_of(alloc, (labels.0, name), (labels.1, tasks))
 }
 
 // A department's name and employees.
 fn department_element(alloc: Global) -> Result<Term, Memory>
     ensures { IfOk result (λ term. placed term ≡ department_element) }
 {
+    let labels = (
+        Label::from_str(alloc, "department")?,
+        Label::from_str(alloc, "employees")?,
+    );
     let dept = column(alloc, 0, "dept")?;
     let department = column(alloc, 1, "name")?;
     let employee = employee_element(alloc)?;
-    let employees = over(
-        alloc,
-        "employees",
-        where_equal(alloc, dept, department, employee)?,
-    )?;
-    record_of(
-        alloc,
-        (
-            Label::from_str(alloc, "department")?,
-            column(alloc, 0, "name")?,
-        ),
-        (Label::from_str(alloc, "employees")?, employees),
-    )
+    let here = where_equal(alloc, dept, department, employee)?;
+    let employees = over(alloc, "employees", here)?;
+    let name = column(alloc, 0, "name")?;
+    record_of(alloc, (labels.0, name), (labels.1, employees))
 }
 
 /// The query, whatever the size: each department with its employees, and each of those with their
@@ -143,8 +138,6 @@ pub fn generated_query(alloc: Global) -> Result<Term, Memory>
     let element = department_element(alloc)?;
     let departments = over(alloc, "departments", single(alloc, element)?)?;
     let tasks_of = tasks_function(alloc)?;
-    Ok(unplaced(Node::Bind {
-        value: boxed(alloc, tasks_of)?,
-        body: boxed(alloc, departments)?,
-    }))
+    let (value, body) = both(alloc, tasks_of, departments)?;
+    Ok(unplaced(Node::Bind { value, body }))
 }
