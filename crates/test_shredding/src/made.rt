@@ -55,14 +55,30 @@ fn ints(alloc: Global, tags: &[u64]) -> Result<Normal, Memory> {
     })
 }
 
+// A bag as a field of a record: its type, and itself.
+struct NamedBag {
+    ty: (Label, Ty),
+    body: (Label, Body),
+}
+
+// A bag under this name.
+fn named_bag(alloc: Global, name: &str, bag: Normal) -> Result<NamedBag, Memory> {
+    let labels = (Label::from_str(alloc, name)?, Label::from_str(alloc, name)?);
+    let element = boxed(alloc, bag.element.copy(alloc)?)?;
+    Ok(NamedBag {
+        ty: (labels.0, Ty::Bag(element)),
+        body: (labels.1, Body::Bag(bag)),
+    })
+}
+
 // A bag with one comprehension, over a record of the named bags. Where none is named the record is empty.
 fn records(alloc: Global, tag: u64, named: Vec<(&str, Normal)>) -> Result<Normal, Memory> {
     let mut bodies = List::new(alloc);
     let mut types = List::new(alloc);
     for (name, bag) in named {
-        let element = boxed(alloc, bag.element.copy(alloc)?)?;
-        types.push((Label::from_str(alloc, name)?, Ty::Bag(element)))?;
-        bodies.push((Label::from_str(alloc, name)?, Body::Bag(bag)))?;
+        let NamedBag { ty, body } = named_bag(alloc, name, bag)?;
+        types.push(ty)?;
+        bodies.push(body)?;
     }
     let mut parts = List::new(alloc);
     parts.push(comp(alloc, tag, Body::Rec(bodies))?)?;
