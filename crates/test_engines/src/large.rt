@@ -92,18 +92,19 @@ const SUMMED_AGAIN: &str =
 const ALL_COUNTED: &str =
     r#"SELECT ("x"."a" + (SELECT COUNT(*) FROM "t" AS "y")) AS "a" FROM "t" AS "x""#;
 
-// The rows whose number is below 3, each with a count of all rows of the other table: an item, a condition,
-// and inside another total. A count takes a step for each of those rows, and is asked for by the three alone.
-const COUNTED_BY_FEW: &str =
-    r#"SELECT ("x"."a" + (SELECT COUNT(*) FROM "t" AS "y", "e" AS "z" WHERE ("y"."a" = "x"."a"))) AS "a"
+// The rows whose number is below 3, each with a count of all rows of the other table: an item, a
+// condition, and inside another total. A count takes a step for each of those rows, and is asked
+// for by the three alone.
+const COUNTED_BY_FEW: &str = r#"SELECT
+("x"."a" + (SELECT COUNT(*) FROM "t" AS "y", "e" AS "z" WHERE ("y"."a" = "x"."a"))) AS "a"
 FROM "t" AS "x" WHERE ("x"."a" < 3)"#;
 
-const TRIED_BY_FEW: &str = r#"SELECT "x"."a" AS "a" FROM "t" AS "x"
-WHERE (("x"."a" < 3) AND ((SELECT COUNT(*) FROM "t" AS "y", "e" AS "z" WHERE ("y"."a" = "x"."a")) = 100000))"#;
+const TRIED_BY_FEW: &str = r#"SELECT "x"."a" AS "a" FROM "t" AS "x" WHERE (("x"."a" < 3)
+AND ((SELECT COUNT(*) FROM "t" AS "y", "e" AS "z" WHERE ("y"."a" = "x"."a")) = 100000))"#;
 
-const SUMMED_BY_FEW: &str =
-    r#"SELECT ("x"."a" + (SELECT COALESCE(SUM((SELECT COUNT(*) FROM "t" AS "y", "e" AS "z"
-WHERE ("y"."a" = "x"."a"))), 0) FROM "t" AS "w" WHERE ("w"."a" = "x"."a"))) AS "a" FROM "t" AS "x" WHERE ("x"."a" < 3)"#;
+const SUMMED_BY_FEW: &str = r#"SELECT ("x"."a" + (SELECT COALESCE(SUM(
+(SELECT COUNT(*) FROM "t" AS "y", "e" AS "z" WHERE ("y"."a" = "x"."a"))), 0)
+FROM "t" AS "w" WHERE ("w"."a" = "x"."a"))) AS "a" FROM "t" AS "x" WHERE ("x"."a" < 3)"#;
 
 // As many pairs, whose first numbers rise from 0 by a step.
 fn pairs(alloc: Global, count: usize, step: i64) -> Result<Vec<(i64, i64)>, Memory> {
