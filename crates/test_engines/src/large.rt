@@ -70,6 +70,11 @@ const AROUND_ALONE: &str =
 const NONE_MEET: &str = r#"SELECT "x"."a" AS "a" FROM "t" AS "x"
 WHERE (NOT EXISTS (SELECT 1 AS "o" FROM "t" AS "y", "e" AS "z" WHERE ("y"."a" = ("z"."a" + 1))))"#;
 
+// Every row again: one source alone is tied to the row, and stands behind the other.
+const NONE_BEHIND: &str = r#"SELECT "x"."a" AS "a" FROM "t" AS "x"
+WHERE (NOT EXISTS (SELECT 1 AS "o" FROM "t" AS "y", "e" AS "z"
+WHERE (("z"."a" = "x"."a") AND ("y"."a" = ("z"."a" + 1)))))"#;
+
 // Each row with the count of the rows of its number, and with the sum of their numbers.
 const COUNTED: &str =
     r#"SELECT ("x"."a" + (SELECT COUNT(*) FROM "t" AS "y" WHERE ("y"."a" = "x"."a"))) AS "a" FROM "t" AS "x""#;
@@ -80,6 +85,11 @@ const SUMMED: &str =
 // The rows whose number one row of the other table has.
 const COUNTED_ONCE: &str =
     r#"SELECT "x"."a" AS "a" FROM "t" AS "x" WHERE ((SELECT COUNT(*) FROM "e" AS "y" WHERE ("y"."a" = "x"."a")) = 1)"#;
+
+// The same rows by a count over both tables, of which the one that is tied to the row comes last.
+const COUNTED_BEHIND: &str = r#"SELECT "x"."a" AS "a" FROM "t" AS "x"
+WHERE ((SELECT COUNT(*) FROM "e" AS "z", "t" AS "y"
+WHERE (("z"."a" = "y"."a") AND ("y"."a" = "x"."a"))) = 1)"#;
 
 // All rows have one key: each number with the count of all, and with as great a sum.
 const COUNTED_AGAIN: &str =
@@ -227,6 +237,8 @@ fn emptiness_of_a_join(rt: HostRuntime) -> Result<(), Fail> {
     load_both(alloc, &mut server, even.as_slice(), even.as_slice())?;
     let all = ask(alloc, &mut server, &schema, NONE_MEET)?;
     assert!(&rt; rise(&all.rows, HALF, 0, 2));
+    let behind = ask(alloc, &mut server, &schema, NONE_BEHIND)?;
+    assert!(&rt; rise(&behind.rows, HALF, 0, 2));
     Ok(())
 }
 
@@ -243,6 +255,8 @@ fn counts_and_sums(rt: HostRuntime) -> Result<(), Fail> {
     assert!(&rt; rise(&summed.rows, COUNT, 0, 1));
     let once = ask(alloc, &mut server, &schema, COUNTED_ONCE)?;
     assert!(&rt; rise(&once.rows, HALF, 0, 2));
+    let behind = ask(alloc, &mut server, &schema, COUNTED_BEHIND)?;
+    assert!(&rt; rise(&behind.rows, HALF, 0, 2));
     Ok(())
 }
 
