@@ -1,5 +1,6 @@
 -- Keys of one width, with their places behind, and ranks of sorted places.
-use Rattle.std.specs.Prelude.{◌≡◌, ℕ, suc, ◌+◌, ◌<◌, pos, List, [], ◌∷◌, ◌++◌, All, length, slice_index_or}
+use Rattle.std.specs.Prelude.{◌≡◌, ℕ, suc, ◌+◌, ◌<◌, pos, List, [], ◌∷◌, ◌++◌, All, length}
+use Rattle.std.specs.Prelude.{slice_index_or}
 use Rattle.nq_model.specs.declared.table.Cell.{Cell}
 use Rattle.nq_model.specs.declared.table.Cell.TheVariants as cell
 use Rattle.rows.specs.Places.{row_at}
@@ -11,7 +12,8 @@ HaveOneWidth rows = All (λ row. length row ≡ length (row_at rows 0)) rows
 -- each place's rank says where it stands in the list, counted from 1
 pub record AreRanks (places ranks : List ℕ) : Type 0 where
   pub as_many : length ranks ≡ length places
-  pub ranked : (k : ℕ) → k < length places → slice_index_or ranks (slice_index_or places k 0) 0 ≡ k + 1
+  pub ranked : (k : ℕ) → k < length places → slice_index_or ranks (slice_index_or places k 0) 0
+      ≡ k + 1
 
 -- a key with its place as one more cell
 abbrev pub with_place : List Cell → ℕ → List Cell
