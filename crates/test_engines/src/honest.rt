@@ -17,7 +17,7 @@ struct Case {
     answers: [&'static str; 2],
 }
 
-const CASES: [Case; 36] = [
+const CASES: [Case; 38] = [
     // Ties.
     Case {
         text: r#"SELECT "x"."b" AS "b", ROW_NUMBER() OVER (ORDER BY "x"."a") AS "n" FROM "t" AS "x""#,
@@ -152,6 +152,18 @@ const CASES: [Case; 36] = [
     Case {
         text: r#"SELECT "x"."b" AS "b", (SELECT COUNT(*) FROM "t" AS "y", "t" AS "z" WHERE (("y"."a" = "x"."a") AND ("z"."b" = "x"."b"))) AS "n" FROM "t" AS "x""#,
         answers: ["1 2 ;2 1 ;3 2 ;", "3 2 ;2 1 ;1 2 ;"],
+    },
+    // A key from outside for the last source alone, which is the key of the one before it.
+    Case {
+        text: r#"SELECT "x"."b" AS "b", (SELECT COUNT(*) FROM "t" AS "y", "t" AS "z"
+            WHERE (("z"."b" = "x"."b") AND ("y"."a" = "z"."a"))) AS "n" FROM "t" AS "x""#,
+        answers: ["1 2 ;2 1 ;3 2 ;", "3 2 ;2 1 ;1 2 ;"],
+    },
+    Case {
+        text: r#"SELECT "x"."b" AS "b" FROM "t" AS "x" WHERE (NOT EXISTS (SELECT 1 AS "o"
+            FROM "t" AS "y", "t" AS "z"
+            WHERE ((("z"."b" = "x"."b") AND ("y"."a" = "z"."a")) AND ("y"."b" > "z"."b"))))"#,
+        answers: ["2 ;3 ;", "3 ;2 ;"],
     },
     // A key from outside, and a condition on another source there.
     Case {
