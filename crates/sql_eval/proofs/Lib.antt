@@ -1,3 +1,4 @@
+mod Reordering
 pub mod Ranking
 pub mod Moving
 pub mod PlacedKeys
