@@ -103,8 +103,8 @@ const ALL_COUNTED: &str =
     r#"SELECT ("x"."a" + (SELECT COUNT(*) FROM "t" AS "y")) AS "a" FROM "t" AS "x""#;
 
 // The rows whose number is below 3, each with a count of all rows of the other table: an item, a
-// condition, and inside another total. A count takes a step for each of those rows, and is asked
-// for by the three alone.
+// condition, inside another total, behind a test, over joined sources, and inside another query. A
+// count takes a step for each of those rows, and is asked for by the three alone.
 const COUNTED_BY_FEW: &str = r#"SELECT
 ("x"."a" + (SELECT COUNT(*) FROM "t" AS "y", "e" AS "z" WHERE ("y"."a" = "x"."a"))) AS "a"
 FROM "t" AS "x" WHERE ("x"."a" < 3)"#;
@@ -115,6 +115,20 @@ AND ((SELECT COUNT(*) FROM "t" AS "y", "e" AS "z" WHERE ("y"."a" = "x"."a")) = 1
 const SUMMED_BY_FEW: &str = r#"SELECT ("x"."a" + (SELECT COALESCE(SUM(
 (SELECT COUNT(*) FROM "t" AS "y", "e" AS "z" WHERE ("y"."a" = "x"."a"))), 0)
 FROM "t" AS "w" WHERE ("w"."a" = "x"."a"))) AS "a" FROM "t" AS "x" WHERE ("x"."a" < 3)"#;
+
+const CHOSEN_BY_FEW: &str = r#"SELECT "x"."a" AS "a" FROM "t" AS "x"
+WHERE (CASE WHEN ("x"."a" < 3)
+THEN ((SELECT COUNT(*) FROM "t" AS "y", "e" AS "z" WHERE ("y"."a" = "x"."a")) = 100000)
+ELSE FALSE END)"#;
+
+const JOINED_BY_FEW: &str = r#"SELECT "x"."a" AS "a" FROM "t" AS "x", "t" AS "w"
+WHERE ((("w"."a" < 3) AND ("w"."a" = "x"."a")) AND
+(((SELECT COUNT(*) FROM "t" AS "y", "e" AS "z" WHERE ("y"."a" = "x"."a")) + "w"."a") > 3))"#;
+
+const ASKED_INSIDE_BY_FEW: &str = r#"SELECT "x"."a" AS "a" FROM "t" AS "x"
+WHERE (NOT EXISTS (SELECT 1 AS "o" FROM "t" AS "w" WHERE (("w"."a" = "x"."a") AND
+(CASE WHEN ("x"."a" > 2) THEN TRUE
+ELSE ((SELECT COUNT(*) FROM "t" AS "y", "e" AS "z" WHERE ("y"."a" = "w"."a")) < 100000) END))))"#;
 
 // As many pairs, whose first numbers rise from 0 by a step.
 fn pairs(alloc: Global, count: usize, step: i64) -> Result<Vec<(i64, i64)>, Memory> {
@@ -289,6 +303,12 @@ fn totals_that_few_rows_ask_for(rt: HostRuntime) -> Result<(), Fail> {
     assert!(&rt; rise(&tried.rows, 3, 0, 1));
     let summed = ask(alloc, &mut server, &schema, SUMMED_BY_FEW)?;
     assert!(&rt; rise(&summed.rows, 3, 100_000, 1));
+    let chosen = ask(alloc, &mut server, &schema, CHOSEN_BY_FEW)?;
+    assert!(&rt; rise(&chosen.rows, 3, 0, 1));
+    let joined = ask(alloc, &mut server, &schema, JOINED_BY_FEW)?;
+    assert!(&rt; rise(&joined.rows, 3, 0, 1));
+    let inside = ask(alloc, &mut server, &schema, ASKED_INSIDE_BY_FEW)?;
+    assert!(&rt; rise(&inside.rows, 3, 0, 1));
     Ok(())
 }
 
