@@ -1,4 +1,3 @@
-mod Reordering
 pub mod Ranking
 pub mod Moving
 pub mod PlacedKeys

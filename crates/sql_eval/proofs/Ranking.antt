@@ -15,7 +15,7 @@ use Rattle.nq_model.proofs.Numberings.{each_two_reordered, reordered_map, key_ra
 use Rattle.rows.specs.Places.{row_at}
 use Rattle.row_order.specs.Keys.{key_of, keys_at}
 use Rattle.sql_eval.specs.Dealing.{AreRanks}
-use Rattle.sql_eval.proofs.Reordering.{reordered_from_permutation}
+use Rattle.sql_joins.proofs.Reordering.{reordered_from_permutation}
 
 count_length : (a n : ℕ) → length (count_from a n) ≡ n
 count_length a zero = refl
