@@ -103,8 +103,9 @@ const ALL_COUNTED: &str =
     r#"SELECT ("x"."a" + (SELECT COUNT(*) FROM "t" AS "y")) AS "a" FROM "t" AS "x""#;
 
 // The rows whose number is below 3, each with a count of all rows of the other table: an item, a
-// condition, inside another total, behind a test, over joined sources, and inside another query. A
-// count takes a step for each of those rows, and is asked for by the three alone.
+// condition, inside another total, behind a test, over joined sources, inside another query, and
+// behind parts that settle AND and OR. A count takes a step for each of those rows, and is asked for
+// by the three alone.
 const COUNTED_BY_FEW: &str = r#"SELECT
 ("x"."a" + (SELECT COUNT(*) FROM "t" AS "y", "e" AS "z" WHERE ("y"."a" = "x"."a"))) AS "a"
 FROM "t" AS "x" WHERE ("x"."a" < 3)"#;
@@ -129,6 +130,12 @@ const ASKED_INSIDE_BY_FEW: &str = r#"SELECT "x"."a" AS "a" FROM "t" AS "x"
 WHERE (NOT EXISTS (SELECT 1 AS "o" FROM "t" AS "w" WHERE (("w"."a" = "x"."a") AND
 (CASE WHEN ("x"."a" > 2) THEN TRUE
 ELSE ((SELECT COUNT(*) FROM "t" AS "y", "e" AS "z" WHERE ("y"."a" = "w"."a")) < 100000) END))))"#;
+
+const SETTLED_FOR_MOST: &str = r#"SELECT "x"."a" AS "a" FROM "t" AS "x" WHERE (CASE WHEN
+(("x"."a" < 3) AND
+((SELECT COUNT(*) FROM "t" AS "y", "e" AS "z" WHERE ("y"."a" = "x"."a")) = 100000))
+THEN TRUE ELSE (NOT (("x"."a" > 2) OR
+((SELECT COUNT(*) FROM "t" AS "y", "e" AS "z" WHERE ("y"."a" = "x"."a")) < 100000))) END)"#;
 
 // As many pairs, whose first numbers rise from 0 by a step.
 fn pairs(alloc: Global, count: usize, step: i64) -> Result<Vec<(i64, i64)>, Memory> {
@@ -309,6 +316,8 @@ fn totals_that_few_rows_ask_for(rt: HostRuntime) -> Result<(), Fail> {
     assert!(&rt; rise(&joined.rows, 3, 0, 1));
     let inside = ask(alloc, &mut server, &schema, ASKED_INSIDE_BY_FEW)?;
     assert!(&rt; rise(&inside.rows, 3, 0, 1));
+    let settled = ask(alloc, &mut server, &schema, SETTLED_FOR_MOST)?;
+    assert!(&rt; rise(&settled.rows, 3, 0, 1));
     Ok(())
 }
 
