@@ -104,8 +104,8 @@ const ALL_COUNTED: &str =
 
 // The rows whose number is below 3, each with a count of all rows of the other table: an item, a
 // condition, inside another total, behind a test, over joined sources, inside another query, and
-// behind parts that settle AND and OR. A count takes a step for each of those rows, and is asked for
-// by the three alone.
+// behind parts that settle AND and OR. A count takes a step for each of those rows, and is asked
+// for by the three alone.
 const COUNTED_BY_FEW: &str = r#"SELECT
 ("x"."a" + (SELECT COUNT(*) FROM "t" AS "y", "e" AS "z" WHERE ("y"."a" = "x"."a"))) AS "a"
 FROM "t" AS "x" WHERE ("x"."a" < 3)"#;
