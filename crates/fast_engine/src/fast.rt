@@ -63,6 +63,18 @@ impl SqlServer for FastServer {
     ghost bounded = { λ _. lit≤ tt };
 
     fn load(&mut self, alloc: Global, table: Loaded) -> Result<(), ServerFault> {
+        let Loaded {
+            name,
+            columns,
+            rows,
+        } = table;
+        // Answers share the cells of its columns.
+        let rows = rows.shared()?;
+        let table = Loaded {
+            name,
+            columns,
+            rows,
+        };
         self.tables.push(table)?;
         Ok(())
     }

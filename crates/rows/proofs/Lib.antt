@@ -2,3 +2,4 @@ pub mod Blocks
 pub mod PackedTexts
 pub mod ColumnCells
 pub mod ColumnRows
+pub mod PlacedCells

@@ -3,3 +3,4 @@ pub mod Blocks
 pub mod Columns
 pub mod Tables
 pub mod Places
+pub mod Held

@@ -11,6 +11,7 @@ use std::marker::Model;
 // bits four.
 #[derive(Drop)]
 pub(crate) struct Integers {
+    len: usize,
     first: i64,
     times: usize,
     tiny: Vec<i8>,
@@ -19,12 +20,38 @@ pub(crate) struct Integers {
 }
 
 impl Model for Integers {
-    ghost use Rattle.std.specs.Prelude.{List, ℤ, ◌++◌, replicate};
+    ghost use Rattle.std.specs.Prelude.{List, ℤ, ◌≡◌, ◌+◌, ◌++◌, length, replicate};
 
     ghost Value = { List ℤ };
 
     ghost view = { λ integers. replicate integers.times integers.first
         ++ (integers.tiny.items ++ (integers.small.items ++ integers.wide.items)) };
+
+    ghost invariant = { λ integers. integers.len ≡ integers.times
+        + length (integers.tiny.items ++ (integers.small.items ++ integers.wide.items)) };
+}
+
+// Puts an integer at the end of the list of the fewest bytes that may take it. If memory runs out,
+// all lists stay.
+fn put(
+    tiny: &mut Vec<i8>,
+    small: &mut Vec<i32>,
+    wide: &mut Vec<i64>,
+    integer: i64,
+) -> Result<(), Memory>
+    ensures ok { OnOk result (tiny.new.items ++ (small.new.items ++ wide.new.items)
+        ≡ (tiny.old.items ++ (small.old.items ++ wide.old.items)) ++ integer ∷ []) }
+    ensures err { OnErr result (tiny.new.items ++ (small.new.items ++ wide.new.items)
+        ≡ tiny.old.items ++ (small.old.items ++ wide.old.items)) }
+{
+    match i8::try_from(integer) {
+        Ok(byte) if small.is_empty() && wide.is_empty() => return Ok(tiny.push(byte)?),
+        _ => {}
+    }
+    match i32::try_from(integer) {
+        Ok(half) if wide.is_empty() => Ok(small.push(half)?),
+        _ => Ok(wide.push(integer)?),
+    }
 }
 
 impl Integers {
@@ -33,6 +60,7 @@ impl Integers {
         ensures { result ≡ [] }
     {
         Integers {
+            len: 0,
             first: 0,
             times: 0,
             tiny: Vec::new(alloc),
@@ -45,16 +73,16 @@ impl Integers {
     pub(crate) fn behind(&self, at: usize) -> usize
         ensures { result ≡ at - length self.now }
     {
-        at.saturating_sub(self.times)
-            .saturating_sub(self.tiny.len())
-            .saturating_sub(self.small.len())
-            .saturating_sub(self.wide.len())
+        at.saturating_sub(self.len)
     }
 
     // The integer at a place, if there is one.
     pub(crate) fn get(&self, at: usize) -> Option<i64>
         ensures { result ≡ slice_get self.now at }
     {
+        if at >= self.len {
+            return None;
+        }
         if at < self.times {
             return Some(self.first);
         }
@@ -85,6 +113,7 @@ impl Integers {
         }
         self.first = integer;
         self.times = times;
+        self.len = times;
         true
     }
 
@@ -96,15 +125,11 @@ impl Integers {
         if self.repeat(integer) {
             return Ok(());
         }
-        match i8::try_from(integer) {
-            Ok(tiny) if self.small.is_empty() && self.wide.is_empty() => {
-                return Ok(self.tiny.push(tiny)?);
-            }
-            _ => {}
-        }
-        match i32::try_from(integer) {
-            Ok(small) if self.wide.is_empty() => Ok(self.small.push(small)?),
-            _ => Ok(self.wide.push(integer)?),
-        }
+        let Some(len) = self.len.checked_add(1) else {
+            return Err(Memory);
+        };
+        put(&mut self.tiny, &mut self.small, &mut self.wide, integer)?;
+        self.len = len;
+        Ok(())
     }
 }

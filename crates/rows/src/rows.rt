@@ -1,10 +1,12 @@
 // Rows of cells that take little memory: they stand column by column.
-ghost use Rattle.std.specs.Prelude.{◌≡◌, ◌↔◌, ◌+◌, ◌<◌, ◌++◌, ℕ, [], ◌∷◌, IsTrue, IsFalse, IfOk, OnOk, OnErr, length, map, pos, slice_index_or};
+ghost use Rattle.std.specs.Prelude.{◌≡◌, ◌↔◌, ◌+◌, ◌<◌, ◌++◌, ℕ, [], ◌∷◌, IsTrue, IsFalse, IfOk};
+ghost use Rattle.std.specs.Prelude.{IfSome, OnOk, OnErr, false, length, map, pos, slice_index_or};
 ghost use Rattle.nq_model.specs.CellRefs.{cell_seen};
-ghost use Rattle.rows.specs.Columns.{rows_over, HaveRows, widened};
+ghost use Rattle.rows.specs.Columns.{rows_over, EndBehind, HaveRows, widened};
+ghost use Rattle.rows.specs.Places.{row_at};
 ghost use Rattle.nq_model.specs.declared.table.Cell.TheVariants as cell;
 
-use crate::column::Column;
+use crate::column::{Column, are_below};
 use nq_model::{Cell, CellRef, List, Memory};
 use std::alloc::Global;
 use std::marker::Model;
@@ -70,6 +72,17 @@ fn push_each(columns: &mut Vec<Column>, row: &[CellRef<'_>]) -> Result<(), Memor
     Ok(())
 }
 
+// The same columns, of which the cells can be shared.
+fn shared(alloc: Global, columns: Vec<Column>) -> Result<Vec<Column>, Memory>
+    ensures { IfOk result (λ shared. shared.items ≡ columns.items) }
+{
+    let mut shared = Vec::with_capacity(alloc, columns.len())?;
+    for column in columns {
+        shared.push(column.shared()?)?;
+    }
+    Ok(shared)
+}
+
 // A copy of a row.
 fn copy_of(alloc: Global, row: &[CellRef<'_>]) -> Result<List<Cell>, Memory>
     ensures { IfOk result (λ copy. copy ≡ map cell_seen row.now) }
@@ -94,6 +107,57 @@ impl Rows {
             behind: List::new(alloc),
             len: 0,
         }
+    }
+
+    /// The rows over columns of so many cells each.
+    pub fn over(alloc: Global, columns: Vec<Column>, len: usize) -> Rows
+        requires { EndBehind columns.items len }
+        ensures { result ≡ rows_over columns.items len }
+    {
+        Rows {
+            alloc,
+            columns,
+            in_columns: len,
+            is_open: true,
+            behind: List::new(alloc),
+            len,
+        }
+    }
+
+    /// The same rows, of whose columns the cells can be shared.
+    pub fn shared(self) -> Result<Rows, Memory>
+        ensures { IfOk result (λ rows. rows ≡ self) }
+    {
+        let Rows {
+            alloc,
+            columns,
+            in_columns,
+            is_open,
+            behind,
+            len,
+        } = self;
+        let columns = shared(alloc, columns)?;
+        Ok(Rows {
+            alloc,
+            columns,
+            in_columns,
+            is_open,
+            behind,
+            len,
+        })
+    }
+
+    /// The cells of a column at rows, both counted from 0, if they can be shared; none where they
+    /// would be copied, or where one is not there.
+    pub fn cells_at(&self, column: usize, rows: Vec<u32>) -> Result<Option<Column>, Memory>
+        ensures { IfOk result (λ found. IfSome found (λ cells. cells ≡ map
+            (λ row. slice_index_or (row_at self.now row) column (cell.Bool false))
+            rows.items)) }
+    {
+        if column >= self.columns.len() || !are_below(rows.as_slice(), self.in_columns) {
+            return Ok(None);
+        }
+        self.columns[column].at(rows)
     }
 
     /// How many rows there are.

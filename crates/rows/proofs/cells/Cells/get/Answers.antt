@@ -3,7 +3,7 @@ use Rattle.std.proofs.lemmas.List.{get_or_read}
 use Rattle.nq_model.specs.declared.table.Cell.{Cell}
 use Rattle.nq_model.specs.declared.table.Cell.TheVariants as cell
 use Rattle.rows.proofs.ColumnCells.{past_integers, text_there, rest_there, rest_within}
-use Rattle.rows.proofs.column.Column.get.Goals as goal
+use Rattle.rows.proofs.cells.Cells.get.Goals as goal
 
 pub returns-then-at-len-2 : goal.returns-then-at-len-2
 returns-then-at-len-2 c =

@@ -1,0 +1,95 @@
+-- Cells at places, and places at places.
+use Rattle.std.proofs.Common.{◌≡◌, ◌∙◌, ℕ, zero, suc, pos, ◌+◌, ◌<◌, ◌≤◌, false, All, List, [], ◌∷◌}
+use Rattle.std.proofs.Common.{◌++◌, map, take, drop, set, length, get_or, refl, sym, ap, ap₂, arith}
+use Rattle.std.proofs.lemmas.List.{get_or-map, length-map}
+use Rattle.std.proofs.lemmas.List.Elements.{All-nil, All-cons, All-head, All-tail}
+use Rattle.nq_model.specs.declared.table.Cell.{Cell}
+use Rattle.nq_model.specs.declared.table.Cell.TheVariants as cell
+use Rattle.rows.specs.Columns.{rows_over}
+use Rattle.rows.specs.Held.{ArePlacesIn, cells_at}
+use Rattle.rows.specs.Places.{row_at}
+use Rattle.rows.proofs.ColumnRows.{row_in_columns}
+
+abbrev Within : ℕ → List ℕ → Type 0
+Within end places = All (λ (place : ℕ). place < end) places
+
+pub as_many : (cells : List Cell) (places : List ℕ) → length (cells_at cells places) ≡ length places
+as_many cells places = length-map places (λ place. get_or cells place (cell.Bool false))
+
+-- a step of putting what a function gives in the place of each
+set_here : (f : ℕ → ℕ) (xs : List ℕ) (i : ℕ) → i < length xs
+    → set (map f (take i xs) ++ drop i xs) i (f (get_or xs i 0))
+    ≡ map f (take (suc i) xs) ++ drop (suc i) xs
+set_here f [] i h = absurd (omega (arith, h))
+set_here f (x ∷ xs) zero h = refl
+set_here f (x ∷ xs) (suc i) h = ap (λ (ys : List ℕ). f x ∷ ys) (set_here f xs i (omega (arith, h)))
+
+read_here : (f : ℕ → ℕ) (xs : List ℕ) (i d : ℕ) → i < length xs
+    → get_or (map f (take i xs) ++ drop i xs) i d ≡ get_or xs i 0
+read_here f [] i d h = absurd (omega (arith, h))
+read_here f (x ∷ xs) zero d h = refl
+read_here f (x ∷ xs) (suc i) d h = read_here f xs i d (omega (arith, h))
+
+pub composed_next : (f : ℕ → ℕ) (xs now : List ℕ) (i read : ℕ) → i < length xs
+    → now ≡ map f (take i xs) ++ drop i xs
+    → read ≡ get_or now i read → set now i (f read) ≡ map f (take (i + 1) xs) ++ drop (i + 1) xs
+composed_next f xs now i read h is found =
+    let next : suc i ≡ i + 1 = omega arith in
+    let here : read ≡ get_or xs i 0 = found ∙ ap (λ (ys : List ℕ). get_or ys i read) is
+    ∙ read_here f xs i read h in
+    ap₂ (λ (ys : List ℕ) (y : ℕ). set ys i (f y)) is here ∙ set_here f xs i h
+    ∙ ap (λ (n : ℕ). map f (take n xs) ++ drop n xs) next
+
+-- places at places are places of the cells
+pub composed_within : (cells : List Cell) (own places : List ℕ) → ArePlacesIn cells own
+    → Within (length own) places
+    → ArePlacesIn cells (map (λ (place : ℕ). get_or own place 0) places)
+composed_within cells own [] h k = All-nil (λ (place : ℕ). place < length cells)
+composed_within cells own (p ∷ ps) h k =
+    let Below : ℕ → Type 0 = λ place. place < length cells in
+    let Inside : ℕ → Type 0 = λ place. place < length own in
+    All-cons Below (get_or own p 0) (map (λ (place : ℕ). get_or own place 0) ps)
+    (h p 0 (All-head Inside p ps k))
+    (composed_within cells own ps h (All-tail Inside p ps k))
+
+-- they have the cells at places of the cells there
+pub composed_cells : (cells : List Cell) (own places : List ℕ) → Within (length own) places
+    → cells_at cells (map (λ (place : ℕ). get_or own place 0) places)
+    ≡ cells_at (cells_at cells own) places
+composed_cells cells own [] h = refl
+composed_cells cells own (p ∷ ps) h =
+    let Inside : ℕ → Type 0 = λ place. place < length own in
+    let no_cell : Cell = cell.Bool false in
+    ap₂ (λ (x : Cell) (xs : List Cell). x ∷ xs)
+    (sym (get_or-map (λ (place : ℕ). get_or cells place no_cell) own p 0 no_cell
+    (All-head Inside p ps h)))
+    (composed_cells cells own ps (All-tail Inside p ps h))
+
+-- a cell that is there is not the one that stands for none
+there : (cells : List Cell) (i : ℕ) (d e : Cell) → i < length cells
+    → get_or cells i d ≡ get_or cells i e
+there [] i d e h = absurd (omega (arith, h))
+there (c ∷ cells) zero d e h = refl
+there (c ∷ cells) (suc i) d e h = there cells i d e (omega (arith, h))
+
+-- the cells of a column at rows
+module _ (columns : List (List Cell)) (count : ℕ) (behind seen : List (List Cell))
+    (view : rows_over columns count ++ behind ≡ seen)
+    (at : ℕ) (short : at < length columns) (long : count ≤ length (get_or columns at [])) where
+  cell_here : (row : ℕ) → row < count → get_or (get_or columns at []) row (cell.Bool false)
+      ≡ get_or (row_at seen row) at (cell.Bool false)
+  cell_here row h =
+      there (get_or columns at []) row (cell.Bool false) (cell.Int (pos 0)) (omega (arith, h, long))
+      ∙ sym (get_or-map (λ (cells : List Cell). get_or cells row (cell.Int (pos 0))) columns at []
+      (cell.Bool false) short)
+      ∙ sym (ap (λ (cells : List Cell). get_or cells at (cell.Bool false))
+      (row_in_columns columns count behind seen view row h))
+
+  pub cells_of_rows : (rows : List ℕ) → Within count rows
+      → cells_at (get_or columns at []) rows
+      ≡ map (λ (row : ℕ). get_or (row_at seen row) at (cell.Bool false)) rows
+  cells_of_rows [] h = refl
+  cells_of_rows (r ∷ rs) h =
+      let Below : ℕ → Type 0 = λ row. row < count in
+      ap₂ (λ (x : Cell) (xs : List Cell). x ∷ xs) (cell_here r (All-head Below r rs h))
+      (cells_of_rows rs (All-tail Below r rs h))

@@ -1,0 +1,25 @@
+-- The cells that a column holds, by itself or with others.
+use Rattle.std.specs.Prelude.{◌<◌, ⊤, ℕ, List, All, length, map, slice_index_or, false}
+use Rattle.nq_model.specs.declared.table.Cell.{Cell}
+use Rattle.nq_model.specs.declared.table.Cell.TheVariants as cell
+use Rattle.rows.specs.declared.column.Held.{Held}
+use Rattle.rows.specs.declared.column.Held.TheVariants.{Own, Shared, Placed}
+
+-- the cells at these places, in their order
+abbrev pub cells_at : List Cell → List ℕ → List Cell
+cells_at cells places = map (λ place. slice_index_or cells place (cell.Bool false)) places
+
+-- each place is that of a cell
+abbrev pub ArePlacesIn : List Cell → List ℕ → Type 0
+ArePlacesIn cells places = All (λ place. place < length cells) places
+
+abbrev pub held_cells : Held → List Cell
+held_cells (Own cells) = cells
+held_cells (Shared cells) = cells.value
+held_cells (Placed cells places) = cells_at cells.value places.items
+
+-- places are those of cells
+abbrev pub IsHeld : Held → Type 0
+IsHeld (Own cells) = ⊤
+IsHeld (Shared cells) = ⊤
+IsHeld (Placed cells places) = ArePlacesIn cells.value places.items
