@@ -8,6 +8,10 @@ use Rattle.sql_profile.specs.Scope.{Shapes}
 abbrev pub pair_columns : Columns
 pair_columns = (codes "a", Int) ∷ (codes "b", Int) ∷ []
 
--- a table with rows, and one without
+-- a table of them
+abbrev pub first_shapes : Shapes
+first_shapes = (codes "t", pair_columns) ∷ []
+
+-- and another one behind it
 abbrev pub both_shapes : Shapes
 both_shapes = (codes "t", pair_columns) ∷ (codes "e", pair_columns) ∷ []

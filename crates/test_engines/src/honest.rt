@@ -17,7 +17,7 @@ struct Case {
     answers: [&'static str; 2],
 }
 
-const CASES: [Case; 38] = [
+const CASES: [Case; 39] = [
     // Ties.
     Case {
         text: r#"SELECT "x"."b" AS "b", ROW_NUMBER() OVER (ORDER BY "x"."a") AS "n" FROM "t" AS "x""#,
@@ -85,6 +85,15 @@ const CASES: [Case; 38] = [
     Case {
         text: r#"SELECT "x"."b" AS "b", "y"."a" AS "c" FROM "t" AS "x", "t" AS "y" WHERE (2 = "y"."b")"#,
         answers: ["1 6 ;2 6 ;3 6 ;", "3 6 ;2 6 ;1 6 ;"],
+    },
+    // A WITH query over another one, whose columns are columns of a table at places.
+    Case {
+        text: r#"WITH "w" AS (SELECT "x"."a" AS "a", "x"."b" AS "b" FROM "t" AS "x"
+            WHERE ("x"."b" > 1)),
+            "v" AS (SELECT "u"."b" AS "b", "u"."a" AS "a" FROM "w" AS "u", "w" AS "z"
+            WHERE ("u"."b" > "z"."b"))
+            SELECT "p"."b" AS "b", "p"."a" AS "a", "q"."b" AS "c" FROM "v" AS "p", "w" AS "q""#,
+        answers: ["3 5 2 ;3 5 3 ;", "3 5 2 ;3 5 3 ;"],
     },
     // Truth values as keys.
     Case {

@@ -11,6 +11,8 @@ mod honest;
 #[cfg(test)]
 mod large;
 #[cfg(test)]
+mod loading;
+#[cfg(test)]
 mod long;
 #[cfg(test)]
 mod scripted;

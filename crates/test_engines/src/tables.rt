@@ -1,6 +1,6 @@
 // The tables of the tests, which servers are loaded with: two of pairs of integers.
 ghost use Rattle.std.specs.Prelude.{◌≡◌, ◌++◌, ◌∷◌, [], All, Contains, IfOk, OnErr, OnOk, codes};
-ghost use Rattle.test_engines.specs.Shapes.{both_shapes, pair_columns};
+ghost use Rattle.test_engines.specs.Shapes.{both_shapes, first_shapes, pair_columns};
 ghost use Rattle.nq_model.specs.Cells.{RowFits};
 ghost use Rattle.nq_model.specs.Tables.{types_of};
 ghost use Rattle.sql_profile.specs.Scope.{shapes_of, shapes_of_schema};
@@ -32,6 +32,15 @@ fn shape(alloc: Global, name: &str) -> Result<TableShape, Memory>
         columns: columns(alloc)?,
         key: List::new(alloc),
     })
+}
+
+/// The schema of the first table alone.
+pub fn first_schema(alloc: Global) -> Result<Schema, Memory>
+    ensures { IfOk result (λ made. shapes_of_schema made.tables ≡ first_shapes) }
+{
+    let mut tables = List::new(alloc);
+    tables.push(shape(alloc, "t")?)?;
+    Ok(Schema { tables })
 }
 
 /// The schema of both tables.
@@ -88,6 +97,31 @@ fn load_at_last(
     }
 }
 
+/// Loads the first table, again where the first call fails; and how many calls it took.
+pub fn load_first(
+    alloc: Global,
+    server: &mut Box<dyn SqlServer>,
+    pairs: &[(i64, i64)],
+) -> Result<u64, ServerFault>
+    requires { loaded server.old ≡ [] }
+    ensures { OnOk result (shapes_of (loaded server.new) ≡ first_shapes) }
+{
+    load_at_last(alloc, server, "t", pairs)
+}
+
+/// Loads the second table behind the first, again where the first call fails; and how many calls it
+/// took.
+pub fn load_second(
+    alloc: Global,
+    server: &mut Box<dyn SqlServer>,
+    pairs: &[(i64, i64)],
+) -> Result<u64, ServerFault>
+    requires { shapes_of (loaded server.old) ≡ first_shapes }
+    ensures { OnOk result (shapes_of (loaded server.new) ≡ both_shapes) }
+{
+    load_at_last(alloc, server, "e", pairs)
+}
+
 /// Loads both tables, each again where the first call fails; and how many calls each took.
 pub fn load_both(
     alloc: Global,
@@ -98,7 +132,7 @@ pub fn load_both(
     requires { loaded server.old ≡ [] }
     ensures { OnOk result (shapes_of (loaded server.new) ≡ both_shapes) }
 {
-    let first = load_at_last(alloc, server, "t", first)?;
-    let second = load_at_last(alloc, server, "e", second)?;
+    let first = load_first(alloc, server, first)?;
+    let second = load_second(alloc, server, second)?;
     Ok([first, second])
 }
