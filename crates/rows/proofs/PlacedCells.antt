@@ -1,7 +1,8 @@
 -- Cells at places, and places at places.
-use Rattle.std.proofs.Common.{◌≡◌, ◌∙◌, ℕ, zero, suc, pos, ◌+◌, ◌<◌, ◌≤◌, false, All, List, [], ◌∷◌}
-use Rattle.std.proofs.Common.{◌++◌, map, take, drop, set, length, get_or, refl, sym, ap, ap₂, arith}
-use Rattle.std.proofs.lemmas.List.{get_or-map, length-map}
+use Rattle.std.proofs.Common.{◌≡◌, ◌∙◌, ℕ, pos, ◌<◌, ◌≤◌, false, All, List}
+use Rattle.std.proofs.Common.{[], ◌∷◌, ◌++◌, map, length, get_or, refl, sym, ap, ap₂}
+use Rattle.std.proofs.Common.{arith}
+use Rattle.std.proofs.lemmas.List.{get_or-map, get_or_default, length-map}
 use Rattle.std.proofs.lemmas.List.Elements.{All-nil, All-cons, All-head, All-tail}
 use Rattle.nq_model.specs.declared.table.Cell.{Cell}
 use Rattle.nq_model.specs.declared.table.Cell.TheVariants as cell
@@ -13,32 +14,9 @@ use Rattle.rows.proofs.ColumnRows.{row_in_columns}
 abbrev Within : ℕ → List ℕ → Type 0
 Within end places = All (λ (place : ℕ). place < end) places
 
-pub as_many : (cells : List Cell) (places : List ℕ) → length (cells_at cells places) ≡ length places
+pub as_many : (cells : List Cell) (places : List ℕ)
+    → length (cells_at cells places) ≡ length places
 as_many cells places = length-map places (λ place. get_or cells place (cell.Bool false))
-
--- a step of putting what a function gives in the place of each
-set_here : (f : ℕ → ℕ) (xs : List ℕ) (i : ℕ) → i < length xs
-    → set (map f (take i xs) ++ drop i xs) i (f (get_or xs i 0))
-    ≡ map f (take (suc i) xs) ++ drop (suc i) xs
-set_here f [] i h = absurd (omega (arith, h))
-set_here f (x ∷ xs) zero h = refl
-set_here f (x ∷ xs) (suc i) h = ap (λ (ys : List ℕ). f x ∷ ys) (set_here f xs i (omega (arith, h)))
-
-read_here : (f : ℕ → ℕ) (xs : List ℕ) (i d : ℕ) → i < length xs
-    → get_or (map f (take i xs) ++ drop i xs) i d ≡ get_or xs i 0
-read_here f [] i d h = absurd (omega (arith, h))
-read_here f (x ∷ xs) zero d h = refl
-read_here f (x ∷ xs) (suc i) d h = read_here f xs i d (omega (arith, h))
-
-pub composed_next : (f : ℕ → ℕ) (xs now : List ℕ) (i read : ℕ) → i < length xs
-    → now ≡ map f (take i xs) ++ drop i xs
-    → read ≡ get_or now i read → set now i (f read) ≡ map f (take (i + 1) xs) ++ drop (i + 1) xs
-composed_next f xs now i read h is found =
-    let next : suc i ≡ i + 1 = omega arith in
-    let here : read ≡ get_or xs i 0 = found ∙ ap (λ (ys : List ℕ). get_or ys i read) is
-    ∙ read_here f xs i read h in
-    ap₂ (λ (ys : List ℕ) (y : ℕ). set ys i (f y)) is here ∙ set_here f xs i h
-    ∙ ap (λ (n : ℕ). map f (take n xs) ++ drop n xs) next
 
 -- places at places are places of the cells
 pub composed_within : (cells : List Cell) (own places : List ℕ) → ArePlacesIn cells own
@@ -65,13 +43,6 @@ composed_cells cells own (p ∷ ps) h =
     (All-head Inside p ps h)))
     (composed_cells cells own ps (All-tail Inside p ps h))
 
--- a cell that is there is not the one that stands for none
-there : (cells : List Cell) (i : ℕ) (d e : Cell) → i < length cells
-    → get_or cells i d ≡ get_or cells i e
-there [] i d e h = absurd (omega (arith, h))
-there (c ∷ cells) zero d e h = refl
-there (c ∷ cells) (suc i) d e h = there cells i d e (omega (arith, h))
-
 -- the cells of a column at rows
 module _ (columns : List (List Cell)) (count : ℕ) (behind seen : List (List Cell))
     (view : rows_over columns count ++ behind ≡ seen)
@@ -79,9 +50,10 @@ module _ (columns : List (List Cell)) (count : ℕ) (behind seen : List (List Ce
   cell_here : (row : ℕ) → row < count → get_or (get_or columns at []) row (cell.Bool false)
       ≡ get_or (row_at seen row) at (cell.Bool false)
   cell_here row h =
-      there (get_or columns at []) row (cell.Bool false) (cell.Int (pos 0)) (omega (arith, h, long))
-      ∙ sym (get_or-map (λ (cells : List Cell). get_or cells row (cell.Int (pos 0))) columns at []
-      (cell.Bool false) short)
+      get_or_default (get_or columns at []) row (cell.Bool false) (cell.Int (pos 0))
+      (omega (arith, h, long))
+      ∙ sym (get_or-map (λ (cells : List Cell). get_or cells row (cell.Int (pos 0)))
+      columns at [] (cell.Bool false) short)
       ∙ sym (ap (λ (cells : List Cell). get_or cells at (cell.Bool false))
       (row_in_columns columns count behind seen view row h))
 

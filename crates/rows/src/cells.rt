@@ -1,6 +1,6 @@
-// Columns of cells that take little memory: cells of one kind stand in a list of that kind.
-ghost use Rattle.std.specs.Prelude.{◌≡◌, ◌<◌, ◌++◌, [], ◌∷◌, OnOk, OnErr, length, pos};
-ghost use Rattle.std.specs.Prelude.{slice_index_or};
+// Cells that take little memory: cells of one kind stand in a list of that kind.
+ghost use Rattle.std.specs.Prelude.{◌≡◌, ◌<◌, ◌++◌, [], ◌∷◌, OnOk, OnErr};
+ghost use Rattle.std.specs.Prelude.{length, pos, slice_index_or};
 ghost use Rattle.nq_model.specs.CellRefs.{cell_seen};
 ghost use Rattle.nq_model.specs.declared.table.Cell.TheVariants as cell;
 
@@ -10,8 +10,8 @@ use nq_model::{Cell, CellRef, List, Memory};
 use std::alloc::Global;
 use std::marker::Model;
 
-// A column, seen as the list of its cells. A list of one kind takes cells until the first of
-// another kind is behind it; the cells of a column of one type all stand in one list.
+// Cells, seen as the list of them. A list of one kind takes cells until the first of another kind
+// is behind it; cells of one type all stand in one list.
 #[derive(Drop)]
 pub(crate) struct Cells {
     alloc: Global,

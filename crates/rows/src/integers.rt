@@ -1,6 +1,7 @@
 // Integers that take little memory: none while they are one, and then one, four or eight bytes
 // each.
-ghost use Rattle.std.specs.Prelude.{◌≡◌, ◌-◌, ◌++◌, [], ◌∷◌, IsTrue, IsFalse, OnOk, OnErr, length, slice_get};
+ghost use Rattle.std.specs.Prelude.{◌≡◌, ◌-◌, ◌++◌, [], ◌∷◌, IsTrue, IsFalse};
+ghost use Rattle.std.specs.Prelude.{OnErr, OnOk, length, slice_get};
 
 use nq_model::Memory;
 use std::alloc::Global;

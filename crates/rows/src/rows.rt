@@ -1,6 +1,7 @@
 // Rows of cells that take little memory: they stand column by column.
-ghost use Rattle.std.specs.Prelude.{◌≡◌, ◌↔◌, ◌+◌, ◌<◌, ◌++◌, ℕ, [], ◌∷◌, IsTrue, IsFalse, IfOk};
-ghost use Rattle.std.specs.Prelude.{IfSome, OnOk, OnErr, false, length, map, pos, slice_index_or};
+ghost use Rattle.std.specs.Prelude.{◌≡◌, ◌↔◌, ◌+◌, ◌<◌, ◌++◌, ℕ, []};
+ghost use Rattle.std.specs.Prelude.{◌∷◌, IsTrue, IsFalse, IfOk, IfSome, OnErr, OnOk, false};
+ghost use Rattle.std.specs.Prelude.{length, map, pos, slice_index_or};
 ghost use Rattle.nq_model.specs.CellRefs.{cell_seen};
 ghost use Rattle.rows.specs.Columns.{rows_over, EndBehind, HaveRows, widened};
 ghost use Rattle.rows.specs.Places.{row_at};

@@ -4,3 +4,4 @@ pub mod PlacedKeys
 pub mod KeyMeanings
 pub mod ColumnRows
 pub mod Evaluating
+pub mod Yielding

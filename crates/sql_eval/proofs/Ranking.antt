@@ -1,5 +1,8 @@
 -- The ranks of sorted places are numbers that a numbering may deal.
-use Rattle.std.proofs.Common.{◌≡◌, ◌≢◌, ℕ, zero, suc, ◌+◌, ◌<◌, ◌≤◌, Bool, true, false, List, [], ◌∷◌, ◌++◌, map, zip, length, get_or, refl, sym, ap, ap₂, ◌∙◌, subst, subst₂, arith, All, IsPermutation, eqb, set, inl, inr}
+use Rattle.std.proofs.Common.{◌≡◌, ◌≢◌, ℕ, zero, suc, ◌+◌, ◌<◌, ◌≤◌}
+use Rattle.std.proofs.Common.{Bool, true, false, List, [], ◌∷◌, ◌++◌, map, zip, length}
+use Rattle.std.proofs.Common.{get_or, refl, sym, ap, ap₂, ◌∙◌, subst, subst₂, arith, All}
+use Rattle.std.proofs.Common.{IsPermutation, eqb, set, inl, inr}
 use Rattle.std.proofs.lemmas.Bool.{eqb-false, cases_lt}
 use Rattle.std.proofs.lemmas.List.{length-set, get_or-set_other, get_or-set_same, map-append}
 use Rattle.std.proofs.lemmas.List.Elements.{All-nil, All-cons, All-head, All-tail}
@@ -14,6 +17,7 @@ use Rattle.nq_model.proofs.Bags.{reordered_sym, matched_length}
 use Rattle.nq_model.proofs.Numberings.{each_two_reordered, reordered_map, key_ranks}
 use Rattle.rows.specs.Places.{row_at}
 use Rattle.row_order.specs.Keys.{key_of, keys_at}
+use Rattle.row_order.proofs.Counting.{count_next}
 use Rattle.sql_eval.specs.Dealing.{AreRanks}
 use Rattle.sql_joins.proofs.Reordering.{reordered_from_permutation}
 
@@ -21,21 +25,13 @@ pub count_length : (a n : ℕ) → length (count_from a n) ≡ n
 count_length a zero = refl
 count_length a (suc n) = ap suc (count_length (suc a) n)
 
-count_last : (first n : ℕ) → count_from first (suc n) ≡ count_from first n ++ (first + n) ∷ []
-count_last first zero =
-    let same : first ≡ first + zero = omega arith in ap (λ (p : ℕ). p ∷ []) same
-count_last first (suc n) =
-    let same : suc first + n ≡ first + suc n = omega arith in
-    ap (λ (l : List ℕ). first ∷ l)
-    (count_last (suc first) n ∙ ap (λ (p : ℕ). count_from (suc first) n ++ p ∷ []) same)
-
 -- what is made of one more number
 pub counted_more : {A : Type 0} (f : ℕ → A) (i : ℕ)
     → map f (count_from 0 (i + 1)) ≡ map f (count_from 0 i) ++ f i ∷ []
 counted_more f i =
     let next : i + 1 ≡ suc i = omega arith in
     let same : 0 + i ≡ i = omega arith in
-    ap (λ (n : ℕ). map f (count_from 0 n)) next ∙ ap (map f) (count_last 0 i)
+    ap (λ (n : ℕ). map f (count_from 0 n)) next ∙ ap (map f) (count_next 0 i)
     ∙ map-append f (count_from 0 i) ((0 + i) ∷ [])
     ∙ ap (λ (p : ℕ). map f (count_from 0 i) ++ f p ∷ []) same
 

@@ -9,36 +9,36 @@ use row_order::order;
 use rows::Rows;
 use std::alloc::Global;
 
-// The places of so many columns, counted from 0.
-fn first_columns(alloc: Global, width: usize) -> Result<Vec<usize>, Memory>
-    ensures { IfOk result (λ columns. columns.items ≡ count_from 0 width) }
+/// 0, 1 and so on, so many. Fails only if memory runs out.
+pub(crate) fn count_up(alloc: Global, count: usize) -> Result<Vec<usize>, Memory>
+    ensures { IfOk result (λ places. places.items ≡ count_from 0 count) }
 {
-    let mut columns = Vec::with_capacity(alloc, width)?;
-    for column in 0..width {
-        columns.push(column)?;
+    let mut places = Vec::with_capacity(alloc, count)?;
+    for place in 0..count {
+        places.push(place)?;
     }
-    Ok(columns)
+    Ok(places)
 }
 
 // The rank of each place in a list of the places, counted from 1.
-fn ranks_of(alloc: Global, places: &[u32]) -> Result<Vec<u64>, Memory>
+fn ranks_of(alloc: Global, places: &[u32]) -> Result<Vec<usize>, Memory>
     requires { IsPermutation (count_from 0 (length places.now)) places.now }
     ensures { IfOk result (λ ranks. AreRanks places.now ranks.items) }
 {
     let mut ranks = vec![in alloc; 0; places.len()]?;
     for at in 0..places.len() {
-        ranks[places[at] as usize] = at as u64 + 1;
+        ranks[places[at] as usize] = at + 1;
     }
     Ok(ranks)
 }
 
 /// Numbers for rows of one width, from 1 on: a smaller row has a smaller number, and rows that are
 /// alike are numbered in any order. Fails only if memory runs out.
-pub(crate) fn deal(alloc: Global, keys: &Rows) -> Result<Vec<u64>, Memory>
+pub(crate) fn deal(alloc: Global, keys: &Rows) -> Result<Vec<usize>, Memory>
     requires { HaveOneWidth keys.now }
     ensures { IfOk result (λ numbers. Numbers key_lt keys.now numbers.items) }
 {
-    let columns = first_columns(alloc, keys.width(0))?;
+    let columns = count_up(alloc, keys.width(0))?;
     let places = order(alloc, keys, columns.as_slice())?;
     let numbers = ranks_of(alloc, places.as_slice())?;
     Ok(numbers)

@@ -1,5 +1,5 @@
-use Rattle.std.proofs.Common.{◌≡◌, ◌<◌, ◌≤◌, ◌∙◌, ℕ, All, IfSome, List, [], false, ap, subst}
-use Rattle.std.proofs.Common.{length, map, get_or, arith}
+use Rattle.std.proofs.Common.{◌≡◌, ◌<◌, ◌≤◌, ◌∙◌, ℕ, All, IfSome, List, []}
+use Rattle.std.proofs.Common.{false, ap, subst, length, map, get_or, arith}
 use Rattle.std.proofs.lemmas.List.{get_or_read}
 use Rattle.std.proofs.lemmas.Option.{IfSome_then}
 use Rattle.std.proofs.lemmas.Result.{IfOk-weaker}
@@ -22,7 +22,8 @@ long : (c : goal.After-index) → c.self.inside.in_columns ≤ length
     (get_or c.self.inside.columns.items c.args.column [])
 long c = c.self.invariant.0 c.args.column [] (short c)
 
-below : (c : goal.After-index) → All (λ (row : ℕ). row < c.self.inside.in_columns) c.args.rows.items
+below : (c : goal.After-index)
+    → All (λ (row : ℕ). row < c.self.inside.in_columns) c.args.rows.items
 below c =
     subst (λ (rows : List ℕ). All (λ (row : ℕ). row < c.self.inside.in_columns) rows)
     c.as_slice.ensures.value
