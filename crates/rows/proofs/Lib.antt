@@ -1,4 +1,3 @@
-pub mod Blocks
 pub mod PackedTexts
 pub mod ColumnCells
 pub mod ColumnRows

@@ -1,13 +1,14 @@
 -- Cells at places, and places at places.
 use Rattle.std.proofs.Common.{◌≡◌, ◌∙◌, ℕ, pos, ◌<◌, ◌≤◌, false, All, List}
-use Rattle.std.proofs.Common.{[], ◌∷◌, ◌++◌, map, length, get_or, refl, sym, ap, ap₂}
-use Rattle.std.proofs.Common.{arith}
-use Rattle.std.proofs.lemmas.List.{get_or-map, get_or_default, length-map}
+use Rattle.std.proofs.Common.{[], ◌∷◌, ◌++◌, map, length, get_or, replicate, refl, sym}
+use Rattle.std.proofs.Common.{ap, ap₂, arith}
+use Rattle.std.proofs.lemmas.List.{get_or-map, get_or-replicate, get_or_default, length-map}
+use Rattle.std.proofs.lemmas.List.{length-replicate}
 use Rattle.std.proofs.lemmas.List.Elements.{All-nil, All-cons, All-head, All-tail}
 use Rattle.nq_model.specs.declared.table.Cell.{Cell}
 use Rattle.nq_model.specs.declared.table.Cell.TheVariants as cell
 use Rattle.rows.specs.Columns.{rows_over}
-use Rattle.rows.specs.Held.{ArePlacesIn, cells_at}
+use Rattle.rows.specs.Held.{ArePlacesIn, cells_at, number_cells}
 use Rattle.rows.specs.Places.{row_at}
 use Rattle.rows.proofs.ColumnRows.{row_in_columns}
 
@@ -42,6 +43,33 @@ composed_cells cells own (p ∷ ps) h =
     (sym (get_or-map (λ (place : ℕ). get_or cells place no_cell) own p 0 no_cell
     (All-head Inside p ps h)))
     (composed_cells cells own ps (All-tail Inside p ps h))
+
+-- a repeated cell at places is repeated as often
+pub repeated_cells : (c : Cell) (count : ℕ) (places : List ℕ)
+    → ArePlacesIn (replicate count c) places
+    → cells_at (replicate count c) places ≡ replicate (length places) c
+repeated_cells c count [] h = refl
+repeated_cells c count (p ∷ ps) h =
+    let Below : ℕ → Type 0 = λ place. place < length (replicate count c) in
+    let here = All-head Below p ps h in
+    ap₂ (λ (x : Cell) (xs : List Cell). x ∷ xs)
+    (get_or-replicate count p c (cell.Bool false) (omega (arith, here, length-replicate count c)))
+    (repeated_cells c count ps (All-tail Below p ps h))
+
+pub numbers_many : (own : List ℕ) → length (number_cells own) ≡ length own
+numbers_many own = length-map own (λ (n : ℕ). cell.Int (pos n))
+
+-- numbers at places are cells at these places
+pub number_cells_at : (own places : List ℕ) → Within (length own) places
+    → cells_at (number_cells own) places
+    ≡ number_cells (map (λ (place : ℕ). get_or own place 0) places)
+number_cells_at own [] h = refl
+number_cells_at own (p ∷ ps) h =
+    let Inside : ℕ → Type 0 = λ place. place < length own in
+    ap₂ (λ (x : Cell) (xs : List Cell). x ∷ xs)
+    (get_or-map (λ (n : ℕ). cell.Int (pos n)) own p 0 (cell.Bool false)
+    (All-head Inside p ps h))
+    (number_cells_at own ps (All-tail Inside p ps h))
 
 -- the cells of a column at rows
 module _ (columns : List (List Cell)) (count : ℕ) (behind seen : List (List Cell))

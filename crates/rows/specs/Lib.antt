@@ -1,5 +1,4 @@
 pub mod Packed
-pub mod Blocks
 pub mod Columns
 pub mod Tables
 pub mod Places

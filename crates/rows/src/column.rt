@@ -1,13 +1,13 @@
 // Columns of rows, which may share their cells.
 ghost use Rattle.std.specs.Prelude.{◌≡◌, ◌<◌, ◌↔◌, ◌+◌, ◌++◌, []};
 ghost use Rattle.std.specs.Prelude.{◌∷◌, All, IfOk, IfSome, IsTrue, OnErr, OnOk, length, map};
-ghost use Rattle.std.specs.Prelude.{pos, slice_index_or};
+ghost use Rattle.std.specs.Prelude.{pos, replicate, slice_index_or};
 ghost use Rattle.nq_model.specs.CellRefs.{cell_seen};
 ghost use Rattle.nq_model.specs.declared.table.Cell.TheVariants as cell;
-ghost use Rattle.rows.specs.Held.{ArePlacesIn, cells_at, held_cells};
+ghost use Rattle.rows.specs.Held.{ArePlacesIn, cells_at, held_cells, number_cells};
 
 use crate::cells::Cells;
-use nq_model::{CellRef, Memory};
+use nq_model::{Cell, CellRef, Memory};
 use std::alloc::Global;
 use std::marker::Model;
 use std::rc::Rc;
@@ -21,10 +21,15 @@ pub(crate) enum Held {
     Shared(Rc<Cells>),
     // There too, at these places.
     Placed { cells: Rc<Cells>, places: Vec<u32> },
+    // Once, for so many.
+    Repeated { cell: Cell, count: usize },
+    // As numbers.
+    Numbers(Vec<u32>),
 }
 
 /// A column of rows, which contracts see as the list of its cells. Columns may share the cells of
-/// one, all of them or those at places, so that no cell is copied.
+/// one, all of them or those at places, so that no cell is copied; a cell that is repeated is held
+/// once, and numbers take four bytes each.
 #[derive(Drop)]
 pub struct Column {
     alloc: Global,
@@ -97,6 +102,32 @@ impl Column {
         }
     }
 
+    /// One cell, so many times.
+    pub fn repeated(alloc: Global, cell: &CellRef<'_>, count: usize) -> Result<Column, Memory>
+        ensures { IfOk result (λ column. column ≡ replicate count (cell_seen cell.now)) }
+    {
+        Ok(Column {
+            alloc,
+            held: Held::Repeated {
+                cell: cell.copy(alloc)?,
+                count,
+            },
+            len: count,
+        })
+    }
+
+    /// A cell for each number.
+    pub fn numbers(alloc: Global, numbers: Vec<u32>) -> Column
+        ensures { result ≡ number_cells numbers.items }
+    {
+        let len = numbers.len();
+        Column {
+            alloc,
+            held: Held::Numbers(numbers),
+            len,
+        }
+    }
+
     /// How many cells there are.
     pub fn len(&self) -> usize
         ensures { result ≡ length self.now }
@@ -121,6 +152,8 @@ impl Column {
             Held::Own(cells) => cells.get(at),
             Held::Shared(cells) => cells.as_ref().get(at),
             Held::Placed { cells, places } => cells.as_ref().get(places[at] as usize),
+            Held::Repeated { cell, .. } => cell.as_ref(),
+            Held::Numbers(numbers) => CellRef::Int(i64::from(numbers[at])),
         }
     }
 
@@ -194,6 +227,14 @@ impl Column {
             Held::Placed { cells, places: own } => {
                 let column = placed(self.alloc, cells, composed(own.as_slice(), places))?;
                 Ok(Some(column))
+            }
+            Held::Repeated { cell, .. } => {
+                let column = Column::repeated(self.alloc, &cell.as_ref(), places.len())?;
+                Ok(Some(column))
+            }
+            Held::Numbers(own) => {
+                let numbers = composed(own.as_slice(), places);
+                Ok(Some(Column::numbers(self.alloc, numbers)))
             }
         }
     }

@@ -3,7 +3,6 @@
 
 mod cells;
 mod column;
-mod ends;
 mod integers;
 mod rows;
 mod table;

@@ -14,8 +14,7 @@ use std::marker::Model;
 
 /// Rows of cells, which contracts see as the list of them. Where the rows have one width and each
 /// column one type, an integer takes one, four or eight bytes, and none while its column has only
-/// one; a truth value takes one; and a text one or two beside its own, or four where texts are
-/// long.
+/// one; a truth value takes one; and a text four beside its own.
 #[derive(Drop)]
 pub struct Rows {
     alloc: Global,

@@ -1,23 +1,23 @@
 // Texts that take little memory: their bytes stand in one list.
-ghost use Rattle.std.specs.Prelude.{◌≡◌, ◌≤◌, ◌<◌, ◌++◌, [], ◌∷◌, IfOk, OnOk, OnErr, length, slice_index_or, slice_range};
+ghost use Rattle.std.specs.Prelude.{◌≡◌, ◌≤◌, ◌<◌, ◌++◌, [], ◌∷◌, IfOk};
+ghost use Rattle.std.specs.Prelude.{OnOk, OnErr, length, slice_index_or, slice_range};
 ghost use Rattle.std.specs.Str.{IsUtf8};
 ghost use Rattle.rows.specs.Packed.{start_of};
 
-use crate::ends::Ends;
 use nq_model::Memory;
 use std::alloc::Global;
 use std::marker::Model;
 use std::str;
 
 // Where the piece of this number begins.
-fn start_of(ends: &Ends, at: usize) -> usize
+fn start_of(ends: &[u32], at: usize) -> usize
     requires { at ≤ length ends.now }
     ensures { result ≡ start_of ends.now at }
 {
     if at == 0 {
         return 0;
     }
-    ends.get(at - 1)
+    ends[at - 1] as usize
 }
 
 // A place as it is held. Fails where it is past the greatest that can be held.
@@ -51,7 +51,7 @@ fn text_of(bytes: &[u8]) -> &str
 #[derive(Drop)]
 pub(crate) struct Texts {
     bytes: Vec<u8>,
-    ends: Ends,
+    ends: Vec<u32>,
 }
 
 impl Model for Texts {
@@ -62,10 +62,10 @@ impl Model for Texts {
 
     ghost use Rattle.rows.specs.Packed.{pieces, AreEnds};
 
-    ghost view = { λ texts. pieces 0 texts.ends texts.bytes.items };
+    ghost view = { λ texts. pieces 0 texts.ends.items texts.bytes.items };
 
-    ghost invariant = { λ texts. AreEnds 0 texts.ends (length texts.bytes.items)
-        × All IsUtf8 (pieces 0 texts.ends texts.bytes.items) };
+    ghost invariant = { λ texts. AreEnds 0 texts.ends.items (length texts.bytes.items)
+        × All IsUtf8 (pieces 0 texts.ends.items texts.bytes.items) };
 }
 
 impl Texts {
@@ -74,7 +74,7 @@ impl Texts {
     {
         Texts {
             bytes: Vec::new(alloc),
-            ends: Ends::new(alloc),
+            ends: Vec::new(alloc),
         }
     }
 
@@ -89,8 +89,8 @@ impl Texts {
         requires { at < length self.now }
         ensures { result.now ≡ slice_index_or self.now at [] }
     {
-        let start = start_of(&self.ends, at);
-        let end = self.ends.get(at);
+        let start = start_of(self.ends.as_slice(), at);
+        let end = self.ends[at] as usize;
         text_of(part(self.bytes.as_slice(), start, end))
     }
 

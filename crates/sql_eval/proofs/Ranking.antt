@@ -1,20 +1,24 @@
 -- The ranks of sorted places are numbers that a numbering may deal.
 use Rattle.std.proofs.Common.{◌≡◌, ◌≢◌, ℕ, zero, suc, ◌+◌, ◌<◌, ◌≤◌}
 use Rattle.std.proofs.Common.{Bool, true, false, List, [], ◌∷◌, ◌++◌, map, zip, length}
-use Rattle.std.proofs.Common.{get_or, refl, sym, ap, ap₂, ◌∙◌, subst, subst₂, arith, All}
+use Rattle.std.proofs.Common.{get_or, pos, refl, sym, ap, ap₂, ◌∙◌, subst, subst₂, All}
+use Rattle.std.proofs.Common.{arith}
 use Rattle.std.proofs.Common.{IsPermutation, eqb, set, inl, inr}
 use Rattle.std.proofs.lemmas.Bool.{eqb-false, cases_lt}
-use Rattle.std.proofs.lemmas.List.{length-set, get_or-set_other, get_or-set_same, map-append}
+use Rattle.std.proofs.lemmas.List.{length-set, get_or-set_other, get_or-set_same}
 use Rattle.std.proofs.lemmas.List.Elements.{All-nil, All-cons, All-head, All-tail}
 use Rattle.std.proofs.lemmas.List.Sorted.{All-permutation, length_permutation}
+use Rattle.std.proofs.lemmas.Simd.{map-map}
 use Rattle.std.proofs.lemmas.Map.Keys.{IsDistinct-IsPermutation, apart_from_distinct}
 use Rattle.std.specs.List.{AllByRecursion as Each, IsDistinct}
 use Rattle.nq_model.specs.Bags.{Reordered}
 use Rattle.nq_model.specs.NamedRows.{no_cell}
 use Rattle.nq_model.specs.Numberings.{Rises, Numbers, IsBefore, EachTwo, count_from, numbered, key_lt}
 use Rattle.nq_model.specs.declared.table.Cell.{Cell}
+use Rattle.nq_model.specs.declared.table.Cell.TheVariants as cell
 use Rattle.nq_model.proofs.Bags.{reordered_sym, matched_length}
 use Rattle.nq_model.proofs.Numberings.{each_two_reordered, reordered_map, key_ranks}
+use Rattle.rows.specs.Held.{number_cells}
 use Rattle.rows.specs.Places.{row_at}
 use Rattle.row_order.specs.Keys.{key_of, keys_at}
 use Rattle.row_order.proofs.Counting.{count_next}
@@ -25,15 +29,15 @@ pub count_length : (a n : ℕ) → length (count_from a n) ≡ n
 count_length a zero = refl
 count_length a (suc n) = ap suc (count_length (suc a) n)
 
--- what is made of one more number
-pub counted_more : {A : Type 0} (f : ℕ → A) (i : ℕ)
-    → map f (count_from 0 (i + 1)) ≡ map f (count_from 0 i) ++ f i ∷ []
-counted_more f i =
-    let next : i + 1 ≡ suc i = omega arith in
-    let same : 0 + i ≡ i = omega arith in
-    ap (λ (n : ℕ). map f (count_from 0 n)) next ∙ ap (map f) (count_next 0 i)
-    ∙ map-append f (count_from 0 i) ((0 + i) ∷ [])
-    ∙ ap (λ (p : ℕ). map f (count_from 0 i) ++ f p ∷ []) same
+-- one number more
+pub counted_on : (places more : List ℕ) (place : ℕ) → places ≡ count_from 0 place
+    → more ≡ places ++ place ∷ [] → more ≡ count_from 0 (place + 1)
+counted_on places more place so_far is =
+    let next : suc place ≡ place + 1 = omega arith in
+    let same : place ≡ 0 + place = omega arith in
+    is ∙ ap (λ (l : List ℕ). l ++ place ∷ []) so_far
+    ∙ ap (λ (m : ℕ). count_from 0 place ++ m ∷ []) same
+    ∙ sym (count_next 0 place) ∙ ap (count_from 0) next
 
 count_below : (a n end : ℕ) → a + n ≤ end → All (λ p. p < end) (count_from a n)
 count_below a zero end h = All-nil (λ p. p < end)
@@ -88,6 +92,14 @@ shifted f a (suc n) = ap (λ (l : List _). f (suc a) ∷ l) (shifted f (suc a) n
 pub read_all : {A : Type 0} (xs : List A) (d : A) → map (λ p. get_or xs p d) (count_from 0 (length xs)) ≡ xs
 read_all [] d = refl
 read_all (x ∷ xs) d = ap (λ (l : List _). x ∷ l) (shifted (λ p. get_or (x ∷ xs) p d) 0 (length xs) ∙ read_all xs d)
+
+-- the numbers at all places as cells
+pub all_cells : (numbers : List ℕ)
+    → number_cells numbers
+    ≡ map (λ p. cell.Int (pos (get_or numbers p 0))) (count_from 0 (length numbers))
+all_cells numbers =
+    ap number_cells (sym (read_all numbers 0))
+    ∙ map-map (λ n. cell.Int (pos n)) (λ p. get_or numbers p 0) (count_from 0 (length numbers))
 
 -- elements at places whose ranks count on
 counted : {K : Type 0} (rank : ℕ → ℕ) (key : ℕ → K) (places : List ℕ) (a : ℕ) → ((k : ℕ) → k < length places → rank (get_or places k 0) ≡ k + a) → map (λ p. (rank p, key p)) places ≡ numbered a (map key places)

@@ -8,4 +8,6 @@ index_mut-requires c =
     omega (arith, below, c.loop-at.invariant.as_many, c.loop-at.ranks.ok)
 
 pub loop-at-preserved : goal.loop-at-preserved
-loop-at-preserved c = rank_next c.args.places.now c.requires c.loop-at.at c.loop-at.ranks.items (omega arith) c.loop-at.invariant
+loop-at-preserved c =
+    rank_next c.args.places.now c.requires c.loop-at.at c.loop-at.ranks.items (omega arith)
+    c.loop-at.invariant
