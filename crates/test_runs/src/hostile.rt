@@ -1,5 +1,5 @@
 // Whole runs whose output or notes have little room, and inputs that are too long together.
-use crate::nested_tests::{WHOLE, inputs_of};
+use crate::nested::{WHOLE, inputs_of};
 use crate::runs::{Engine, Room, Wanted, check_run, held, padded, put, run_over, server_of};
 use nq_model::{List, Text};
 use std::test::Fail;
@@ -57,12 +57,7 @@ fn tables_share_a_limit(rt: HostRuntime) -> Result<(), Fail> {
     }
     let employees = padded(alloc, 27_108_865, "")?;
     let mut files: List<(Text, List<u8>)> = List::new(alloc);
-    put(
-        alloc,
-        &mut files,
-        "org",
-        crate::nested_tests::ORG.as_bytes(),
-    )?;
+    put(alloc, &mut files, "org", crate::nested::ORG.as_bytes())?;
     put(alloc, &mut files, "q", b"table departments")?;
     put(
         alloc,

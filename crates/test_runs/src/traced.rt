@@ -1,5 +1,5 @@
 // Whole runs that tell which rows made each element, worked out by hand.
-use crate::nested_tests::{Nested, TWICE, WHOLE, inputs_failing, inputs_of};
+use crate::nested::{Nested, TWICE, WHOLE, inputs_failing, inputs_of};
 use crate::runs::{Engine, Wanted, check_run, check_run_lent, check_run_over, server_of};
 use nq_model::List;
 use plain_engine::FailingServer;

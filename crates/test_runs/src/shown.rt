@@ -1,5 +1,5 @@
 // Whole runs that show SQL texts for other programs, and scripts for databases, worked out by hand.
-use crate::query_tests::{CHECK, Row, TYPES, USAGE, run_row};
+use crate::queries::{CHECK, Row, TYPES, USAGE, run_row};
 use crate::runs::{Engine, Wanted, check_run, held, padded, put};
 use nq_model::List;
 use std::alloc::Global;

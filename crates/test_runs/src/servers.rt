@@ -1,7 +1,7 @@
 // Whole runs over servers that fail, and over servers that answer what a script says; handed over, and lent.
 ghost use Rattle.std.specs.Prelude.{◌≡◌, [], IfOk};
 
-use crate::nested_tests::{Nested, TWICE, WHOLE, inputs_failing, inputs_of};
+use crate::nested::{Nested, TWICE, WHOLE, inputs_failing, inputs_of};
 use crate::runs::{Engine, Wanted, check_run, check_run_lent, check_run_over};
 use nq_model::{Cell, List, Text};
 use plain_engine::{FailingServer, ScriptedServer};

@@ -1,7 +1,7 @@
 // The server that is handed over is dropped once, however a run ends.
 ghost use Rattle.std.specs.Prelude.{◌≡◌, []};
 
-use crate::nested_tests::{WHOLE, inputs_failing};
+use crate::nested::{WHOLE, inputs_failing};
 use crate::runs::{Room, run_over};
 use nq_model::{Cell, List};
 use plain_engine::{FailingServer, PlainServer, ScriptedServer};

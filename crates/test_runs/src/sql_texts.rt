@@ -1,5 +1,5 @@
 // Whole runs that show the SQL texts of queries, which are worked out by hand.
-use crate::query_tests::{CHECK, NESTED, Row, inputs_of, run_row};
+use crate::queries::{CHECK, NESTED, Row, inputs_of, run_row};
 use crate::runs::{padded, written};
 use std::process::Abort;
 use std::test::Fail;

@@ -1,5 +1,5 @@
 // Whole runs that explain a query or its schema, worked out by hand.
-use crate::query_tests::{CHECK, NESTED, Row, TYPES, USAGE, run_row};
+use crate::queries::{CHECK, NESTED, Row, TYPES, USAGE, run_row};
 use crate::runs::{Engine, Wanted, check_run, held, padded, put};
 use nq_model::List;
 use std::alloc::Global;

@@ -1,5 +1,5 @@
 // Whole runs that write the rows of SQL texts.
-use crate::nested_tests::{CONTACTS, ORG, WHOLE};
+use crate::nested::{CONTACTS, ORG, WHOLE};
 use crate::runs::{Engine, Wanted, check_run, held, padded, put};
 use nq_edge::HeldInputs;
 use nq_model::List;

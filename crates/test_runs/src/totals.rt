@@ -1,8 +1,8 @@
 // Whole runs of queries with counts and sums, over each server.
-use crate::nested_tests::{Nested, WHOLE, check_nested};
-use crate::query_tests::{CHECK, NORMAL, RUN, Row, SYNTAX, TYPES, brackets, run_row, run_row_over};
+use crate::nested::{Nested, WHOLE, check_nested};
+use crate::queries::{CHECK, NORMAL, RUN, Row, SYNTAX, TYPES, brackets, run_row, run_row_over};
 use crate::runs::{Engine, padded};
-use crate::sql_tests::SQL;
+use crate::sql_texts::SQL;
 use std::alloc::Global;
 use std::process::Abort;
 use std::test::Fail;
